@@ -173,6 +173,15 @@ wsn_answer wsn_normal(const wsn_options *options,
                       void *output, size_t output_size,
                       void *message, size_t message_size);
 
+/*
+ * Writes a stream without what was said: its redaction, as long as the stream.
+ * Status 0 whatever the verdict.
+ */
+wsn_answer wsn_redact(const wsn_options *options,
+                      const void *stream, size_t stream_size,
+                      void *output, size_t output_size,
+                      void *message, size_t message_size);
+
 /* Prints how a stream is framed: its plan. */
 wsn_answer wsn_plan(const wsn_options *options,
                     const void *stream, size_t stream_size,

@@ -1,6 +1,6 @@
 """Makes the wheel of the module wsn for pip, with the built library in it:
 
-    ./library built
+    tools/library built
     pip install --no-index --no-build-isolation ./python
 
 The library is built/libwsn.so in the repository, or what WSN_LIBRARY names.
@@ -16,8 +16,8 @@ import zipfile
 
 HERE = pathlib.Path(__file__).resolve().parent
 ABSENT = """\
-wsn: there is no library {}. In the repository of wsn, `./library built` makes it with its proof, where pip then finds \
-it; WSN_LIBRARY=FOLDER/libwsn.so names another one."""
+wsn: there is no library {}. In the repository of wsn, `tools/library built` makes it with its proof, where pip then \
+finds it; WSN_LIBRARY=FOLDER/libwsn.so names another one."""
 METADATA = """\
 Metadata-Version: 2.1
 Name: wsn

@@ -7,7 +7,7 @@
 Each call does what the command of `wsn` with its name does, over bytes (or any buffer: a `memoryview`, an `mmap`; nothing
 is copied) instead of files, by the proved library `libwsn.so`. It is looked for where the environment variable
 `WSN_LIBRARY` says, else beside this module, where ./install and pip put it, and where the system looks for libraries. If it
-isn't found, each call is an `OSError` that says how it is built: `./library FOLDER`.
+isn't found, each call is an `OSError` that says how it is built: `tools/library FOLDER`.
 
 Wrong arguments are a `ValueError`, and so are `FaultyCapture` and `Fault`; `NotAccepted`, `Unfinished` and `Stopped`
 aren't. Calls in several threads don't disturb each other. Nothing is printed.
@@ -23,7 +23,7 @@ from typing import Any, Callable, Collection, Dict, List, Optional, Tuple, TypeV
 __all__ = [
     "BadCharacter", "Close", "Comparison", "DifferAt", "EndedBy", "Entry", "Fault", "FaultyCapture", "Frame", "Frames",
     "NotAccepted", "PayloadView", "Report", "Session", "Side", "Stopped", "Unfinished", "Verdict", "closing", "frames",
-    "judge", "normal", "payload", "plan", "recut", "same", "sent", "show",
+    "judge", "normal", "payload", "plan", "recut", "redact", "same", "sent", "show",
 ]
 
 __version__ = "0.1.0"  # That of wsn.h and of wsn --version.
@@ -350,7 +350,7 @@ def _opened(place: str) -> ctypes.CDLL:
     try:
         return ctypes.CDLL(place)
     except OSError as error:
-        build = "in a clone of wsn `./library FOLDER` builds it, and WSN_LIBRARY=FOLDER/libwsn.so names it"
+        build = "in a clone of wsn `tools/library FOLDER` builds it, and WSN_LIBRARY=FOLDER/libwsn.so names it"
         raise OSError(f"{error}; {build}") from None
 
 
@@ -580,6 +580,14 @@ def normal(data: Any, role: str, **limits: Any) -> bytes:
     options = _options(role, json_lines=False, **limits)
     with _Lent(data) as stream:
         return _written("wsn_normal", options, stream)
+
+
+def redact(data: Any, role: str, **limits: Any) -> bytes:
+    """Returns a stream without what was said: each byte in its place, all framing as it was, and the same verdict. Also of
+    a stream that is cut or refused."""
+    options = _options(role, json_lines=False, **limits)
+    with _Lent(data) as stream:
+        return _written("wsn_redact", options, stream)
 
 
 def plan(data: Any, role: str, **limits: Any) -> str:

@@ -14,6 +14,7 @@ from captures import comment, seconds, time_of_day
 from http2 import NO_LIBRARY
 from names import called, named
 from program import NoProgram, program
+from redaction import IN_ZEROS, check_program, redact, without_names, without_values
 from recorded import OF_EXTENSIONS, Recorded, Sink
 from sessions import Session
 from streams import Connection
@@ -30,11 +31,13 @@ def say(text: str) -> None:
 
 @dataclasses.dataclass(frozen=True)
 class Asked:
-    """What a command line asks for: a list, one connection, or all into a folder. `given` is its word for the file."""
+    """What a command line asks for: a list, one connection, or all into a folder. `given` is its word for the file.
+    `redacts`: what is written and said is redacted."""
 
     given: str
     number: Optional[str]
     folder: Optional[pathlib.Path]
+    redacts: bool
 
     @property
     def name(self) -> str:
@@ -70,7 +73,9 @@ class Reading:
 
     def sink_of(self, name: str) -> Optional[Sink]:
         """Where the lines of a connection or a stream are kept, if they are asked for."""
-        return Sink(self.scratch / name) if self.asked.number in (None, name) else None
+        if self.asked.number not in (None, name):
+            return None
+        return Sink(None if self.asked.redacts else self.scratch / name)
 
     def parts(self) -> Iterator[Recorded]:
         """The connections, and in place of those in HTTP/2 their streams."""
@@ -88,6 +93,14 @@ class Reading:
     def failed(self, session: Recorded) -> str:
         """How a session's handshake failed; empty if it didn't, or if the file lacks a part of it."""
         return "" if session.is_begun and self.lacks(session) else session.failed
+
+    def notes(self, session: Recorded) -> List[str]:
+        """What is said of a session."""
+        if not self.asked.redacts:
+            return session.notes
+        agreed = [note for note in session.notes if note.startswith(OF_EXTENSIONS[0])]
+        others = [without_names(note) for note in session.notes if not note.startswith(OF_EXTENSIONS)]
+        return others + [f"{without_values(note)}; {IN_ZEROS}" for note in agreed]
 
     def report_lacks(self) -> bool:
         """Reports what the list lacks; whether it lacks anything."""
@@ -129,7 +142,7 @@ def put_one(reading: Reading) -> int:
         raise Failed(f"connection {number.partition('.')[0]} of {asked.name} {NO_LIBRARY}")
     session = next((each for each in reading.parts() if each.name == number), None)
     if session is not None and reading.failed(session):
-        raise Failed(f"{asked.name} has no frames of connection {number}: {session.refusal}")
+        raise Failed(f"{asked.name} has no frames of connection {number}: {session.refusal(asked.redacts)}")
     if session is not None and session.is_begun:
         for words in reading.lacks(session):
             say(words)
@@ -141,20 +154,37 @@ def put_one(reading: Reading) -> int:
     if session.lines is None:
         raise Failed(f"{asked.name} has no data of connection {number} that can be read")
     lacks = session.finish(reading.is_cut)
-    for note in session.notes:
+    for note in reading.notes(session):
         say(note)
     try:
-        put(session, sys.stdout.buffer)
+        lacks = put(reading, session, sys.stdout.buffer) or lacks
         sys.stdout.flush()
     except OSError as error:
         raise Failed(f"can't write the capture: {error.strerror}") from error
     return 1 if lacks else 0
 
 
-def put(session: Recorded, file: BinaryIO) -> None:
-    """Writes a session's capture."""
-    assert session.sink is not None
-    session.sink.write(file, session.front + "".join(map(comment, session.notes)))
+def put(reading: Reading, session: Recorded, file: BinaryIO) -> bool:
+    """Writes a session's capture; whether its redaction lacks lines."""
+    sink = session.sink
+    assert sink is not None
+    front = session.front + "".join(map(comment, session.notes))
+    if not reading.asked.redacts:
+        sink.write(file, front)
+        return False
+    ended = redact(lambda lines: sink.write(lines, front), file)
+    if ended:
+        say(f"connection {session.name}: the redaction ends before the capture does: {ended}")
+    return ended != ""
+
+
+def check_redaction(asked: Asked) -> None:
+    """Failed, if redactions are asked for and the program makes none."""
+    try:
+        if asked.redacts:
+            check_program()
+    except NoProgram as missing:
+        raise Failed(str(missing)) from missing
 
 
 def put_list(reading: Reading) -> int:
@@ -168,10 +198,10 @@ def put_list(reading: Reading) -> int:
             continue
         if session.finish(reading.is_cut):
             status = 1
-        say_notes(session, reading.asked.folder and path)
+        say_notes(reading, session, reading.asked.folder and path)
         try:
             with open(path, "xb") as file:
-                put(session, file)
+                status = 1 if put(reading, session, file) else status
         except OSError as error:
             for each in paths[: paths.index(path) + 1]:
                 each.unlink(missing_ok=True)
@@ -180,9 +210,9 @@ def put_list(reading: Reading) -> int:
     return status
 
 
-def say_notes(session: Recorded, path: Optional[pathlib.Path]) -> None:
+def say_notes(reading: Reading, session: Recorded, path: Optional[pathlib.Path]) -> None:
     """Reports the notes of a connection, but in a list alone those of extensions, which the list has."""
-    for note in session.notes:
+    for note in reading.notes(session):
         if path:
             say(f"{path}: {note}")
         elif not note.startswith(OF_EXTENSIONS):
@@ -204,19 +234,22 @@ def put_rows(reading: Reading, found: List[Recorded], paths: List[pathlib.Path])
             say(f"the outcomes are left out: {missing}")
     if reading.asked.folder is None and any(session.extensions != "-" for session in found):
         inflate = named("recipes/inflate")
-        say(f"warning: frames that use an extension are refused; {inflate} takes permessage-deflate away")
+        what = IN_ZEROS if reading.asked.redacts else f"{inflate} takes permessage-deflate away"
+        say(f"warning: frames that use an extension are refused; {what}")
     with concurrent.futures.ThreadPoolExecutor(os.cpu_count()) as pool:
         for session, outcome in zip(found, pool.map(outcome_of, paths, itertools.repeat(path))):
-            print(*row(session), reading.failed(session) or outcome, session.extensions, sep="\t")
+            redacts = reading.asked.redacts
+            extensions = without_values(session.extensions) if redacts else session.extensions
+            print(*row(session, redacts), reading.failed(session) or outcome, extensions, sep="\t")
 
 
-def row(session: Recorded) -> List[str]:
-    """What a line of the list has before the outcome."""
+def row(session: Recorded, is_redacted: bool) -> List[str]:
+    """What a line of the list has before the outcome; redacted, without the path."""
     began = session.asked or session.began if session.lines is None else session.lines.opened
     count = {"C": 0, "S": 0} if session.lines is None else session.lines.bytes
     lasted = seconds(max(0, session.last - began))
     numbers = session.name, time_of_day(began), lasted
-    return [*numbers, *session.nodes, session.path, str(count["C"]), str(count["S"])]
+    return [*numbers, *session.nodes, "-" if is_redacted else session.path, str(count["C"]), str(count["S"])]
 
 
 def outcome_of(path: pathlib.Path, wsn: str) -> str:

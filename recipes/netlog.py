@@ -275,10 +275,12 @@ def data_of(event: Event) -> bytes:
 
 
 class Request:
-    """A request for a WebSocket: its URL without the parts that can hold a password, and how it ended."""
+    """A request for a WebSocket: its URL without the parts that can hold a password, and how it ended. `named` is what
+    is said of it: redacted, the URL without the path."""
 
-    def __init__(self, url: str):
+    def __init__(self, url: str, is_redacted: bool):
         self.url = re.sub(r"//[^/]*@", "//", url.partition("?")[0].partition("#")[0], count=1)
+        self.named = "/".join(self.url.split("/")[:3]) if is_redacted else self.url
         self.is_sent = False
         self.error = ""
 
@@ -291,7 +293,8 @@ class Request:
 class Requests:
     """The requests for WebSockets in a log, also of those that no socket of the log can have."""
 
-    def __init__(self) -> None:
+    def __init__(self, is_redacted: bool) -> None:
+        self.is_redacted = is_redacted
         self.known: Dict[int, Request] = {}
         self.earlier: Set[int] = set()  # WebSockets that were open before the log began.
 
@@ -300,7 +303,7 @@ class Requests:
         if event.name == "REQUEST_ALIVE" and event.phase == "BEGIN":
             url = str(event.parameters.get("url", ""))
             if url.startswith(("ws://", "wss://")):
-                self.known[event.source] = Request(url)
+                self.known[event.source] = Request(url, self.is_redacted)
         elif event.source in self.known:
             self.take_known(self.known[event.source], event, errors)
         elif event.name in FRAMES:
@@ -316,7 +319,7 @@ class Requests:
 
     def unsent(self) -> List[str]:
         """Why requests weren't sent, in words."""
-        return [f"no request for {each.url} was sent: {each.error}"
+        return [f"no request for {each.named} was sent: {each.error}"
                 for each in self.known.values() if each.error and not each.is_sent]  # fmt: skip
 
     def unlisted(self, paths: List[str]) -> List[str]:
@@ -327,7 +330,7 @@ class Requests:
             if request.is_sent and request.path in left:
                 left.remove(request.path)
             elif request.is_sent:
-                said.append(f"{request.url} isn't listed: {UNKNOWN}")
+                said.append(f"{request.named} isn't listed: {UNKNOWN}")
         if self.earlier:
             said.append(f"WebSockets that were open before the log began, and aren't listed: {len(self.earlier)}")
         return said

@@ -13,9 +13,10 @@ OF_EXTENSIONS = "warning: the server agreed on", "warning: frames that use it"  
 
 
 class Sink:
-    """Lines of a capture that come before it is known what is written in front of them."""
+    """Lines of a capture that come before it is known what is written in front of them. Without a file all of them stay
+    in memory."""
 
-    def __init__(self, part: pathlib.Path):
+    def __init__(self, part: Optional[pathlib.Path]):
         self.part = part
         self.texts: List[str] = []
         self.size = 0
@@ -25,7 +26,7 @@ class Sink:
         if text:
             self.texts.append(text)
             self.size += len(text)
-            if self.size > MEMORY:
+            if self.part is not None and self.size > MEMORY:
                 with open(self.part, "ab") as file:
                     file.write(self.taken())
 
@@ -38,7 +39,7 @@ class Sink:
     def write(self, file: BinaryIO, before: str) -> None:
         """Writes all, after other lines."""
         file.write(before.encode())
-        if self.part.exists():
+        if self.part is not None and self.part.exists():
             with open(self.part, "rb") as part:
                 shutil.copyfileobj(part, file, 1 << 20)
             self.part.unlink()
@@ -107,12 +108,12 @@ class Recorded:
             return ""
         return f"HTTP {self.refused.status}" if self.refused else "no answer"
 
-    @property
-    def refusal(self) -> str:
-        """How its handshake failed, in words."""
+    def refusal(self, is_redacted: bool) -> str:
+        """How its handshake failed, in words; redacted, without the path and the answer's text."""
+        request = "the request" if is_redacted else f"the request for {self.path}"
         if self.refused:
-            return f"the request for {self.path} has the answer {escaped(self.refused.line)}"
-        return "; ".join([f"the request for {self.path} has no answer", *self.broken_off()])
+            return f"{request} has the answer {self.refused.status if is_redacted else escaped(self.refused.line)}"
+        return "; ".join([f"{request} has no answer", *self.broken_off()])
 
     # Its capture
 

@@ -1,7 +1,8 @@
 """Chromium for tests: what a page's elements are once its script has run, and a page that is used meanwhile.
 
-dumped(path) gives the page as --dump-dom prints it, as a tree of nodes. Browser keeps a page open, over the pipes of
---remote-debugging-pipe: evaluates expressions, presses keys, and notes errors and requests.
+dumped(path) gives the page as --dump-dom prints it, as a tree of nodes, and laid_out(path) as Node lays it out without
+a browser. Browser keeps a page open, over the pipes of --remote-debugging-pipe: evaluates expressions, presses keys, and
+notes errors and requests. Layout stands in for it where only what a page shows is looked at.
 """
 
 import base64
@@ -9,6 +10,7 @@ import fcntl
 import html.parser
 import json
 import os
+import pathlib
 import shutil
 import subprocess
 import tempfile
@@ -22,6 +24,11 @@ WORDS = ["--headless=new", "--no-sandbox", "--disable-gpu", "--no-first-run", "-
 def chromium():
     """The browser's program, or none."""
     return shutil.which("chromium") or shutil.which("chromium-browser")
+
+
+def node():
+    """Node, which runs a page's script without a browser, or none."""
+    return shutil.which("node") or shutil.which("nodejs")
 
 
 class Node:
@@ -95,6 +102,47 @@ def dumped(path):
         ]
         done = subprocess.run(words, capture_output=True, check=False, timeout=WAIT)
     return tree(done.stdout.decode())
+
+
+def run_by_node(path, *words, data=""):
+    """What is printed of a page whose scripts Node has run."""
+    words = [node(), pathlib.Path(__file__).resolve().with_name("page_document.js"), path, *words]
+    done = subprocess.run(words, input=data.encode(), capture_output=True, check=False, timeout=WAIT)
+    if done.returncode:
+        raise ValueError(f"the scripts of {path} fail: {done.stderr.decode()}")
+    return done.stdout.decode()
+
+
+def laid_out(path):
+    """The document of a page, as Node lays it out."""
+    return tree(run_by_node(path))
+
+
+def value_in(path, expression):
+    """What an expression gives in a page whose scripts Node has run."""
+    return json.loads(run_by_node(path, "-", data=expression))
+
+
+class Layout:
+    """A page that Node lays out. Use it in a `with`, as a Browser."""
+
+    def __enter__(self):
+        return self
+
+    def __exit__(self, *_):
+        pass
+
+    def open(self, path):
+        """Opens a page."""
+        self.path = path
+
+    def document(self):
+        """The page's elements, as a tree."""
+        return laid_out(self.path)
+
+    def faults(self):
+        """What went wrong in the page: a page whose script fails has no document."""
+        return []
 
 
 class Browser:

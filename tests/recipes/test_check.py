@@ -84,6 +84,20 @@ def check_of_what_is_refused_alike(folder):
 
 
 @test
+def check_of_compressed_captures(folder):
+    """With another key, what was said is refused, and not alike: a hint says that it is compressed, also with --diff."""
+    needs("diff")
+    new = folder / "new.capture"
+    new.write_text((SAMPLES / "deflate.capture").read_text().replace("C c187912ec62e", "C c187912ec62f"))
+    wanted = "new.capture: client both refused 0 reserved-bits 1002; server refused alike 0 reserved-bits 1002"
+    for words in [], ["--diff"]:
+        lines, said = check(*words, SAMPLES / "deflate.capture", new, status=1)
+        same(lines[0], wanted, f"the line with {words}")
+        want(said.startswith("hint: new.capture: compressed: recipes/inflate CAPTURE"), f"what is said: {said}")
+        same(len(said.splitlines()), 1, "lines of hints")
+
+
+@test
 def check_of_a_keepalive(folder):
     """A pong that came a message later, or a ping more, is no difference; with --pings it is, and a Close always is."""
     kept, new = folder / "kept.capture", folder / "new.capture"

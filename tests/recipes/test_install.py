@@ -224,5 +224,5 @@ def completion_in_zsh(folder):
 def scripts_are_clean(folder):
     """shellcheck has nothing to say."""
     needs("shellcheck")
-    run("shellcheck", TOP / "check", TOP / "install", TOP / "wsn")
+    run("shellcheck", TOP / "tools/check", TOP / "install", TOP / "wsn")
     run("shellcheck", "-s", "bash", TOP / "share/bash-completion/completions/wsn")

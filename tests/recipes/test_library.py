@@ -1,4 +1,4 @@
-"""./library, over a toolchain that only compiles a little C: where its files go, and what they hold."""
+"""tools/library, over a toolchain that only compiles a little C: where its files go, and what they hold."""
 
 import os
 import shutil
@@ -14,12 +14,12 @@ cc -fPIC -c -o out/judged.o out/judged.c && ar rc out/libwsn_c.a out/judged.o
 
 
 def repository(folder):
-    """A repository and a toolchain, both with blanks in their paths; the environment in which ./library runs."""
+    """A repository and a toolchain, both with blanks in their paths; the environment in which tools/library runs."""
     top, tools = folder / "a repository", folder / "tool chain"
-    for made in top / "crates/wsn_c", top / "include", tools / "bin", tools / "c":
+    for made in top / "crates/wsn_c", top / "include", top / "tools", tools / "bin", tools / "c":
         made.mkdir(parents=True)
-    for name in "library", "build":
-        shutil.copy(TOP / name, top)
+    for name in "tools/library", "tools/build":
+        shutil.copy(TOP / name, top / name)
     (top / "crates.txt").write_text("wsn_c staticlib:\n")
     (top / "include/wsn.h").write_text("int judged(void);\n")
     (tools / "bin/rt").write_text(RT)
@@ -37,7 +37,7 @@ def library_goes_into_a_folder_with_a_blank(folder):
     top, environment = repository(folder)
     (folder / "main.c").write_text("#include <wsn.h>\nint main(void) { return judged(); }\n")
     for _ in range(2):
-        run(top / "library", "its files", cwd=folder, env=environment)
+        run(top / "tools/library", "its files", cwd=folder, env=environment)
         made = folder / "its files"
         same(sorted(path.name for path in made.iterdir()), ["libwsn.a", "libwsn.so", "libwsn.so.0", "wsn.h"], "the files")
         same(os.readlink(made / "libwsn.so"), "libwsn.so.0", "the link")
@@ -54,10 +54,10 @@ def library_that_fails_leaves_nothing(folder):
     """A build that fails, a compiler that does, no folder: a line on standard error, no file."""
     needs("bash", "cc", "ar")
     top, environment = repository(folder)
-    said = run(top / "library", status=2, env=environment)[1]
+    said = run(top / "tools/library", status=2, env=environment)[1]
     want(b"it takes one FOLDER" in said, f"no folder: {said}")
-    run(top / "library", folder / "made", status=1, env={**environment, "CC": "false"})
+    run(top / "tools/library", folder / "made", status=1, env={**environment, "CC": "false"})
     (top / "wrong").write_text("")
-    said = run(top / "library", folder / "made", status=2, env=environment)[1]
+    said = run(top / "tools/library", folder / "made", status=2, env=environment)[1]
     same(said.splitlines()[1:], [b"no proof", b"wsn: the build failed: wsn_c"], "what is said")
     same(list((folder / "made").iterdir()), [], "the files")

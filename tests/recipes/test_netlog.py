@@ -287,12 +287,13 @@ def netlog_knows_its_options(folder):
     """Another option, or one after the file: a line with the right words, status 2, nothing written."""
     log = NETLOG / "ws.json"
     for words, wanted in (
-        (["-x"], "there is no option -x: netlog2wsn LOG [N], or netlog2wsn --all LOG FOLDER; netlog2wsn -h for help"),
+        (["-x"], "there is no option -x: netlog2wsn [--redact] LOG [N], or netlog2wsn [--redact] --all LOG FOLDER; "
+                 "netlog2wsn -h for help"),
         ([log, "-1"], "there is no option -1: "),
         ([log, "--all"], "--all comes before LOG"),
         (["--all", log], "--all requires a net log and a folder: "),
         ([log, "x"], "x is no connection's number: "),
-        ([log, "1", "2"], "netlog2wsn LOG [N], or "),
+        ([log, "1", "2"], "netlog2wsn [--redact] LOG [N], or "),
     ):
         out, said = netlog2wsn(*words, status=2)
         same((out, said.count("\n")), (b"", 1), f"{words}: what is written, and lines")

@@ -368,8 +368,8 @@ def pcap_knows_its_options(folder):
     """Another option, or one after the files: a line with the right words, status 2, nothing written."""
     pcap = SAMPLES / "basic.pcap"
     for words, wanted in (
-        (["-x"], "there is no option -x: pcap2wsn [-m] PCAP [N] [KEYLOG], or "),
-        (["--keylog", pcap], "there is no option --keylog: pcap2wsn [-m] PCAP [N] [KEYLOG], or "),
+        (["-x"], "there is no option -x: pcap2wsn [-m] [--redact] PCAP [N] [KEYLOG], or "),
+        (["--keylog", pcap], "there is no option --keylog: pcap2wsn [-m] [--redact] PCAP [N] [KEYLOG], or "),
         (["-m", "-x", pcap], "there is no option -x: "),
         ([pcap, "-1"], "there is no option -1: "),
         ([pcap, "0", "-k"], "there is no option -k: "),
@@ -378,7 +378,7 @@ def pcap_knows_its_options(folder):
         (["--all", pcap], "--all requires a pcap and a folder: pcap2wsn [-m] "),
         ([pcap, "x"], "can't read x, the key log, and it is no number"),
         ([pcap, "x", pcap], "x is no connection's number: pcap2wsn "),
-        ([pcap, "0", pcap, pcap], "pcap2wsn [-m] PCAP [N] [KEYLOG]"),
+        ([pcap, "0", pcap, pcap], "pcap2wsn [-m] [--redact] PCAP [N] [KEYLOG]"),
     ):
         out, said = pcap2wsn(*words, status=2)
         same((out, said.count("\n")), (b"", 1), f"{words}: what is written, and lines")

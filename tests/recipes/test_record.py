@@ -24,7 +24,7 @@ RESET = struct.pack("ii", 1, 0)
 class Sessions:
     """A proxy, and a server that gives out its connections."""
 
-    def __init__(self, stack, folder, *words, path="", end=signal.SIGINT, tls=None, shown=None):
+    def __init__(self, stack, folder, *words, path="", end=signal.SIGINT, tls=None, shown=None, program=WSN):
         self.listener = stack.enter_context(socket.create_server(("127.0.0.1", 0)))
         self.listener.settimeout(SECONDS)
         self.stack = stack
@@ -37,7 +37,7 @@ class Sessions:
         url = f"ws{'s' if tls else ''}://127.0.0.1:{self.server_port}{path}"
         words = [TOP / "recipes/record", *words, str(self.port), url, self.folder]
         words = ["sh", "-c", 'exec setsid "$@" >"$0"', shown, *words] if shown else words
-        environment = {"WSN": WSN, **({"SSL_CERT_FILE": str(tls[0])} if tls else {})}
+        environment = {"WSN": str(program), **({"SSL_CERT_FILE": str(tls[0])} if tls else {})}
         how = {"line": "listening", "stream": "stderr", "end": end, "env": environment}
         self.proxy = stack.enter_context(started(*words, **how))
 

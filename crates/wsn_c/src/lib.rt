@@ -24,6 +24,8 @@ pub use comparing::{wsn_same, wsn_same_view};
 pub use defaults::wsn_defaults;
 pub use options::{Asked, Options};
 pub use over_captures::{wsn_closing, wsn_show};
-pub use over_streams::{wsn_frames, wsn_judge, wsn_normal, wsn_payload, wsn_plan, wsn_show_stream};
+pub use over_streams::{
+    wsn_frames, wsn_judge, wsn_normal, wsn_payload, wsn_plan, wsn_redact, wsn_show_stream,
+};
 pub use recutting::{wsn_recut, wsn_recut_by_size};
 pub use sides::wsn_sent;

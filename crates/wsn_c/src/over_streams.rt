@@ -1,4 +1,4 @@
-ghost use Rattle.wsn_command.specs.declared.job.Job.TheVariants.{Judge, Frames, Payload, Normal, Plan, ShowStream};
+ghost use Rattle.wsn_command.specs.declared.job.Job.TheVariants.{Judge, Frames, Payload, Normal, Redact, Plan, ShowStream};
 ghost use Rattle.wsn_c.specs.Calls.{IsCalled, call};
 
 use crate::answer::Answer;
@@ -91,6 +91,27 @@ pub extern "C" fn wsn_normal(
     match options.asked() {
         Some(asked) => {
             let job = Job::Normal(asked.role, asked.limits);
+            run_over(alloc, &job, stream, output, message)
+        }
+        None => give_usage(output, message),
+    }
+}
+
+/// Writes the stream without what was said, as `wsn redact` does.
+#[unsafe(no_mangle)]
+pub extern "C" fn wsn_redact(
+    alloc: Global,
+    options: &Options,
+    stream: &[u8],
+    output: &mut [u8],
+    message: &mut [u8],
+) -> Answer
+    ensures { IsCalled options.now (λ asked. Redact asked.role asked.limits) stream.now
+        (call output.old output.new message.old message.new result) }
+{
+    match options.asked() {
+        Some(asked) => {
+            let job = Job::Redact(asked.role, asked.limits);
             run_over(alloc, &job, stream, output, message)
         }
         None => give_usage(output, message),

@@ -6,7 +6,7 @@ use Rattle.wsn_rules.specs.Limits.{Limits}
 use Rattle.wsn_capture.specs.declared.capture_stop.CaptureStop.{CaptureStop}
 use Rattle.wsn_rules.specs.TextLines.{IsLine}
 use Rattle.wsn_rules.specs.Entries.{Entry}
-use Rattle.wsn_print.proofs.HeldViews.{rest_is}
+use Rattle.wsn_print.proofs.HeldParts.{rest_is}
 use Rattle.wsn_capture.specs.LineFaults.{AreAcceptedLines}
 use Rattle.wsn_capture.specs.CaptureAnswers.{IsUnfaulted}
 use Rattle.wsn_capture.specs.SplitLines.{GoesOn, EndsLine}

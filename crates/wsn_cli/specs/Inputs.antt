@@ -1,5 +1,5 @@
 -- The inputs that a command line names.
-use Rattle.std.specs.Prelude.{◌≡◌, ◌⊎◌, ℕ, ◌+◌, if◌then◌else◌, Option, None, Some, IsSome, List, [], ◌∷◌, String, codes, string_bytes}
+use Rattle.std.specs.Prelude.{◌≡◌, ◌⊎◌, ◌<◌, ℕ, ◌+◌, length, if◌then◌else◌, Option, None, Some, IsSome, List, [], ◌∷◌, String, codes, string_bytes}
 use Rattle.std.specs.Str.{bytes_eq}
 
 -- The input that a word names: standard input without a word and for `-`, and for any other word the file of that name.
@@ -21,3 +21,8 @@ dashes (word ∷ words) = (if bytes_eq word (codes "-") then 1 else 0) + dashes 
 abbrev pub AreInputsNamed : Option (List (List ℕ)) → List (List ℕ) → Type 0
 AreInputsNamed None names = names ≡ codes "-" ∷ []
 AreInputsNamed (Some words) names = names ≡ words
+
+-- There is more than one word.
+abbrev pub AreSeveral : Option (List (List ℕ)) → Type 0
+AreSeveral None = ⊥
+AreSeveral (Some words) = 1 < length words

@@ -1,5 +1,5 @@
 -- What a request has of the values that were found for a command's arguments.
-use Rattle.std.specs.Prelude.{◌≡◌, ◌↔◌, ℕ, Bool, true, false, Option, None, Some, IsSome, IfSome, Ok, List, map, codes, string_bytes}
+use Rattle.std.specs.Prelude.{◌≡◌, ◌≢◌, ◌↔◌, ℕ, Bool, true, false, Option, None, Some, IsSome, IfSome, Ok, List, map, codes, string_bytes}
 use Rattle.hex.specs.Hex.{decode_sized}
 use Rattle.clap.specs.Words.{first_value, matched_of, one_text}
 use Rattle.clap.specs.declared.parser.matches.Found.{Found}
@@ -16,7 +16,7 @@ use Rattle.wsn_command.specs.declared.comparison.Comparison.{Comparison}
 use Rattle.wsn_command.specs.declared.job.How.{How}
 use Rattle.wsn_command.specs.declared.job.How.TheVariants.{ByPlan, BySize}
 use Rattle.wsn_command.specs.declared.job.Job.{Job}
-use Rattle.wsn_command.specs.declared.job.Job.TheVariants.{ShowStream, Show}
+use Rattle.wsn_command.specs.declared.job.Job.TheVariants.{ShowStream, Show, Redact, RedactCapture}
 use Rattle.wsn_cli.specs.Inputs.{AreInputsNamed, IsInputNamed}
 use Rattle.wsn_cli.specs.Options.{AreLeftOut, IsAsked, IsAskedMaximum, words_of}
 use Rattle.wsn_cli.specs.Requests.{job_at, job_format, job_how, job_limits, job_name, job_style}
@@ -74,10 +74,13 @@ IsReadHow found role (BySize size weave key) =
     × IsReadFlag (one_text found (codes "weave")) weave
     × ((asked : Option (List ℕ)) × IsReadKey (first_value found (codes "key")) asked × (key ≡ key_by_size role asked))
 
--- `show` reads the stream of --role's endpoint, and without --role a capture.
+-- `show` and `redact` read the stream of --role's endpoint, and without --role a capture, which has no --capture.
 abbrev pub IsReadSource : {A : Type 0} → Found → Job A → Type 0
 IsReadSource found (ShowStream role limits style) = IsSome (first_value found (codes "role"))
 IsReadSource found (Show limits style) = first_value found (codes "role") ≡ None
+IsReadSource found (Redact role limits) = IsSome (first_value found (codes "role"))
+IsReadSource found (RedactCapture limits) =
+    (first_value found (codes "role") ≡ None) × (one_text found (codes "capture") ≢ Some (codes "true"))
 IsReadSource found job = Unit {0}
 
 -- The job is that of the command with this name, and has the values of its options.
@@ -88,7 +91,7 @@ pub record IsReadJob {A : Type 0} (name : List ℕ) (found : Found) (job : Job A
   pub at : IfSome (job_at job) (IsAsked (one_text found (codes "at")) 0)
   pub format : IfSome (job_format job) (IsReadFormat found)
   pub style : IfSome (job_style job) (IsReadStyle found)
-  pub shows : IsReadSource found job
+  pub source : IsReadSource found job
   pub how : IfSome (job_how job) (λ how. IfSome (job_role job) (λ role. IsReadHow found role how))
 
 -- The comparison has the values of the options of `same`.

@@ -7,7 +7,7 @@ use Rattle.wsn_print.specs.declared.style.Style.{Style}
 use Rattle.wsn_command.specs.Jobs.{MayRun, job_role}
 use Rattle.wsn_command.specs.declared.job.How.{How}
 use Rattle.wsn_command.specs.declared.job.Job.{Job}
-use Rattle.wsn_command.specs.declared.job.Job.TheVariants.{Judge, Frames, Normal, Plan, Recut, Payload, ShowStream, Closing, Show}
+use Rattle.wsn_command.specs.declared.job.Job.TheVariants.{Judge, Frames, Normal, Redact, Plan, Recut, Payload, ShowStream, Closing, Show, RedactCapture}
 use Rattle.wsn_cli.specs.Inputs.{AreApart, dashes}
 use Rattle.wsn_cli.specs.declared.request.Request.{Request}
 use Rattle.wsn_cli.specs.declared.request.Request.TheVariants.{Run, RecutBy, Same, Closings, Help}
@@ -22,19 +22,21 @@ abbrev pub job_limits : {A : Type 0} → Job A → Limits
 job_limits (Judge role limits format) = limits
 job_limits (Frames role limits format) = limits
 job_limits (Normal role limits) = limits
+job_limits (Redact role limits) = limits
 job_limits (Plan role limits) = limits
 job_limits (Recut role limits how) = limits
 job_limits (Payload role limits at) = limits
 job_limits (ShowStream role limits style) = limits
 job_limits (Closing limits format) = limits
 job_limits (Show limits style) = limits
+job_limits (RedactCapture limits) = limits
 
 -- the offset at which the event begins whose payload is asked for
 abbrev pub job_at : {A : Type 0} → Job A → Option ℕ
 job_at (Payload role limits at) = Some at
 job_at job = None
 
--- the format of a job's answer; a stream, a payload or a plan that is written has none
+-- the format of a job's answer; a stream, a payload, a plan or a capture that is written has none
 abbrev pub job_format : {A : Type 0} → Job A → Option Format
 job_format (Judge role limits format) = Some format
 job_format (Frames role limits format) = Some format
@@ -59,12 +61,14 @@ abbrev pub job_name : {A : Type 0} → Job A → List ℕ
 job_name (Judge role limits format) = codes "judge"
 job_name (Frames role limits format) = codes "frames"
 job_name (Normal role limits) = codes "normal"
+job_name (Redact role limits) = codes "redact"
 job_name (Plan role limits) = codes "plan"
 job_name (Recut role limits how) = codes "recut"
 job_name (Payload role limits at) = codes "payload"
 job_name (ShowStream role limits style) = codes "show"
 job_name (Closing limits format) = codes "closing"
 job_name (Show limits style) = codes "show"
+job_name (RedactCapture limits) = codes "redact"
 
 -- The side of a capture that is read, if one is, is the stream that the job reads.
 abbrev pub IsOwnSide : {A : Type 0} → Job A → Option Role → Type 0

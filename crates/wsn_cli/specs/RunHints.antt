@@ -1,5 +1,5 @@
 -- Which hint a run over a capture has, by its answer.
-use Rattle.std.specs.Prelude.{◌≡◌, ◌⊎◌, ℕ, Option, None, Some, IfSome, List, ◌∷◌, [], take}
+use Rattle.std.specs.Prelude.{◌≡◌, ◌≢◌, ◌⊎◌, ℕ, Option, None, Some, IfSome, List, ◌∷◌, [], take}
 use Rattle.wsn_wire.specs.declared.endpoint.Role.{Role}
 use Rattle.wsn_wire.specs.declared.endpoint.Role.TheVariants.{Client, Server}
 use Rattle.wsn_rules.specs.declared.verdict.Refusal.{Refusal}
@@ -13,7 +13,9 @@ use Rattle.wsn_command.specs.declared.answered.Answer.TheVariants.{Verdict, Repo
 use Rattle.wsn_hint.specs.declared.hint.Hint.{Hint}
 use Rattle.wsn_hint.specs.declared.hint.Hint.TheVariants.{WrongHandshake}
 use Rattle.wsn_hint.specs.declared.refused_sides.RefusedSides.{RefusedSides}
+use Rattle.wsn_rules.specs.Limits.{Limits}
 use Rattle.wsn_hint.specs.Hints.{Fits, IsFirstFit, capture_hints}
+use Rattle.wsn_hint.specs.Accusations.{IsAccusingHint}
 use Rattle.wsn_hint.specs.SideHints.{FitsHandshake, FitsTail, IsSidesHint}
 use Rattle.wsn_cli.specs.Requests.{job_limits}
 
@@ -45,23 +47,37 @@ abbrev pub IsOrElse : Option Hint → (Option Hint → Type 0) → Option Hint �
 IsOrElse (Some hint) later result = result ≡ Some hint
 IsOrElse None later result = later result
 
--- The hint on a report without one on its sides: on the handshake; for `closing`, which doesn't list them, also at bytes
--- after a Close, if there is one.
-abbrev pub IsReportHint : {A : Type 0} → Job A → List ℕ → RefusedSides → Option Hint → Type 0
-IsReportHint (Show limits style) text refused result = IsHandshakeHint text refused result
-IsReportHint (Closing limits format) text refused result = (handshake : Option Hint)
+-- The hint on what a report says: on a Close that accuses the other endpoint.
+abbrev pub IsAnswerHint : Answer → Option Hint → Type 0
+IsAnswerHint (Report report) result = IsAccusingHint report result
+IsAnswerHint answer result = result ≡ None
+
+-- The hint on a report but for its handshake: of bytes after a Close, if the command gives that hint; where there is none
+-- of them, on what the report says.
+abbrev pub IsCloseHint : Limits → List ℕ → Answer → (Option Hint → Option Hint) → Option Hint → Type 0
+IsCloseHint limits text answer given result = (tail : Option Hint) × IfSome tail (FitsTail limits text)
+    × (((tail ≡ None) × IsAnswerHint answer result) ⊎ ((tail ≢ None) × (result ≡ given tail)))
+
+-- The hint on a report without one on its sides: on the handshake, or on a Close. `show` lists the bytes after a Close, and
+-- has no hint at them.
+abbrev pub IsReportHint : {A : Type 0} → Job A → List ℕ → RefusedSides → Answer → Option Hint → Type 0
+IsReportHint (Show limits style) text refused answer result = (handshake : Option Hint)
     × IsHandshakeHint text refused handshake
-    × IsOrElse handshake (λ tail. IfSome tail (FitsTail limits text)) result
-IsReportHint job text refused result = result ≡ None
+    × IsOrElse handshake (IsCloseHint limits text answer (λ tail. None)) result
+IsReportHint (Closing limits format) text refused answer result = (handshake : Option Hint)
+    × IsHandshakeHint text refused handshake
+    × IsOrElse handshake (IsCloseHint limits text answer (λ tail. tail)) result
+IsReportHint job text refused answer result = result ≡ None
 
 -- The hint on a capture whose lines are accepted: on its sides, or on the report.
-abbrev pub IsLinesHint : {A : Type 0} → Job A → List ℕ → RefusedSides → Option Hint → Type 0
-IsLinesHint job text refused result = (of_sides : Option Hint) × IsSidesHint text refused of_sides
-    × IsOrElse of_sides (IsReportHint job text refused) result
+abbrev pub IsLinesHint : {A : Type 0} → Job A → Option Role → List ℕ → Answer → Option Hint → Type 0
+IsLinesHint job side text answer result =
+    (of_sides : Option Hint) × IsSidesHint (job_limits job) text (refused_sides side answer) of_sides
+    × IsOrElse of_sides (IsReportHint job text (refused_sides side answer) answer) result
 
 -- The hint on a capture, by the answer: what a file with a malformed line looks like by its first 16 bytes; none after
 -- any other stop.
 abbrev pub IsCaptureHint : {A : Type 0} → Job A → Option Role → List ℕ → Answer → Option Hint → Type 0
 IsCaptureHint job side text FaultyLine result = IsFirstFit (Fits (job_limits job) (take 16 text)) capture_hints result
 IsCaptureHint job side text Stopped result = result ≡ None
-IsCaptureHint job side text answer result = IsLinesHint job text (refused_sides side answer) result
+IsCaptureHint job side text answer result = IsLinesHint job side text answer result

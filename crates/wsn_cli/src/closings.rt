@@ -1,6 +1,6 @@
-ghost use Rattle.std.specs.Prelude.{◌≡◌, ◌≤◌, false, IfOk, List, ℕ, codes, map, string_bytes};
+ghost use Rattle.std.specs.Prelude.{◌≡◌, ◌↔◌, ◌≤◌, false, IsTrue, IfOk, List, ℕ, codes, map, string_bytes};
 ghost use Rattle.clap.specs.Words.{found_of, matched_of};
-ghost use Rattle.wsn_cli.specs.Inputs.{AreInputsNamed, dashes};
+ghost use Rattle.wsn_cli.specs.Inputs.{AreInputsNamed, AreSeveral, dashes};
 ghost use Rattle.wsn_cli.specs.Options.{words_of};
 ghost use Rattle.wsn_cli.specs.ReadRequests.{IsRead};
 ghost use Rattle.wsn_cli.specs.Requests.{CanBeDone};
@@ -31,7 +31,9 @@ pub fn closings_of(alloc: Global, matches: &ArgMatches<'_>) -> Result<Request, U
 }
 
 /// Whether more than one file is named.
-pub fn has_several(matches: &ArgMatches<'_>) -> bool {
+pub fn has_several(matches: &ArgMatches<'_>) -> bool
+    ensures { IsTrue result ↔ AreSeveral (words_of (matched_of (found_of matches.now) (codes "file"))) }
+{
     match matches.get_strs("file") {
         Some(names) => names.len() > 1,
         None => false,

@@ -8,194 +8,24 @@ ghost use Rattle.wsn_cli.specs.ReadRequests.{AreReadLimits, IsRead, IsReadJob, I
 use crate::closings::{closings_of, has_several};
 use crate::error_words::shown_in_errors;
 use crate::escaped::Escaped;
-use crate::explain::{explanation, list_of_words, similar_words};
-use crate::help;
 use crate::mistake::Mistake;
 use crate::options::{
-    at_of, check_digits, comparison_of, file, file_of, format_of, limits_of, role, role_of,
-    side_of, style_of, with_at, with_capture, with_events_view, with_file, with_files, with_json,
-    with_limits, with_role, with_view, with_wire, with_without,
+    at_of, check_digits, comparison_of, file_of, format_of, limits_of, role_of, side_of, style_of,
 };
-use crate::recut_options::{recut_of, with_recuts};
+use crate::recut_options::recut_of;
 use crate::request::{Request, Usage};
 use clap::error::ErrorKind;
-use clap::{Arg, ArgAction, ArgMatches, Command, Error};
+use clap::{ArgMatches, Error};
 use std::alloc::{AllocError, Global};
 use wsn_command::Job;
+use wsn_explain::{explanation, list_of_words, similar_words};
+use wsn_options::{SHARED, program};
 use wsn_print::Style;
 use wsn_rules::Limits;
 use wsn_wire::Role;
 
-/// A command: its name, its help texts, what it reads, and whether it prints an answer that can be JSON.
-struct Described {
-    name: &'static str,
-    about: &'static str,
-    details: &'static str,
-    reads: Reads,
-    has_json: bool,
-}
-
-/// What a command reads; its options depend on that.
-enum Reads {
-    /// A stream.
-    Stream,
-    /// A stream, and the offset in it at which an event begins.
-    StreamAt,
-    /// A stream, to be recut.
-    StreamToCut,
-    /// Two streams, sent by endpoints of one role.
-    Streams,
-    /// Captures of both sides.
-    Captures,
-    /// A capture of both sides, to be shown.
-    CaptureToShow,
-    /// Nothing: its arguments are words to be explained.
-    Words,
-}
-
 /// How clap's text begins if a command has no option `--capture`.
 const NO_CAPTURE: &str = "error: unexpected argument '--capture'";
-
-/// The commands, in the order in which help lists them.
-static COMMANDS: [Described; 10] = [
-    Described {
-        name: "show",
-        about: help::SHOW,
-        details: help::SHOW_DETAILS,
-        reads: Reads::CaptureToShow,
-        has_json: true,
-    },
-    Described {
-        name: "judge",
-        about: help::JUDGE,
-        details: help::JUDGE_DETAILS,
-        reads: Reads::Stream,
-        has_json: true,
-    },
-    Described {
-        name: "frames",
-        about: help::FRAMES,
-        details: help::FRAMES_DETAILS,
-        reads: Reads::Stream,
-        has_json: true,
-    },
-    Described {
-        name: "payload",
-        about: help::PAYLOAD,
-        details: help::PAYLOAD_DETAILS,
-        reads: Reads::StreamAt,
-        has_json: false,
-    },
-    Described {
-        name: "normal",
-        about: help::NORMAL,
-        details: help::NORMAL_DETAILS,
-        reads: Reads::Stream,
-        has_json: false,
-    },
-    Described {
-        name: "same",
-        about: help::SAME,
-        details: help::SAME_DETAILS,
-        reads: Reads::Streams,
-        has_json: true,
-    },
-    Described {
-        name: "plan",
-        about: help::PLAN,
-        details: help::PLAN_DETAILS,
-        reads: Reads::Stream,
-        has_json: false,
-    },
-    Described {
-        name: "recut",
-        about: help::RECUT,
-        details: help::RECUT_DETAILS,
-        reads: Reads::StreamToCut,
-        has_json: false,
-    },
-    Described {
-        name: "closing",
-        about: help::CLOSING,
-        details: help::CLOSING_DETAILS,
-        reads: Reads::Captures,
-        has_json: true,
-    },
-    Described {
-        name: "explain",
-        about: help::EXPLAIN,
-        details: help::EXPLAIN_DETAILS,
-        reads: Reads::Words,
-        has_json: false,
-    },
-];
-
-/// Builds a command from its description.
-fn command<'a>(alloc: Global, described: &'a Described) -> Result<Command<'a>, AllocError> {
-    let command = Command::new(alloc, described.name)
-        .about(described.about)
-        .after_help(described.details);
-    let command = match described.reads {
-        Reads::Stream => with_stream(alloc, command),
-        Reads::StreamAt => with_at(alloc, with_stream(alloc, command)?),
-        Reads::StreamToCut => with_recuts(alloc, command),
-        Reads::Streams => with_streams(alloc, command),
-        Reads::Captures => with_files(alloc, command),
-        Reads::CaptureToShow => with_shown(alloc, command),
-        Reads::Words => return with_words(alloc, command),
-    };
-    let command = if described.has_json {
-        with_json(alloc, command?)?
-    } else {
-        command?
-    };
-    with_limits(alloc, command)
-}
-
-/// Adds `--role`, `--capture` and the name of a file.
-fn with_stream<'a>(alloc: Global, command: Command<'a>) -> Result<Command<'a>, AllocError> {
-    let command = with_capture(alloc, with_role(alloc, command)?)?;
-    with_file(alloc, command)
-}
-
-/// Adds `--role`, `--capture`, `--without`, `--view` and the names of two files.
-fn with_streams<'a>(alloc: Global, command: Command<'a>) -> Result<Command<'a>, AllocError> {
-    let command = with_capture(alloc, with_role(alloc, command)?)?;
-    let command = with_events_view(alloc, with_without(alloc, command)?)?;
-    let help = "The file with the first stream, or - for standard input";
-    let command = command.arg(file(alloc, "first", "FIRST", help).required(true))?;
-    let help = "The file with the second stream, or - for standard input";
-    command.arg(file(alloc, "second", "SECOND", help).required(true))
-}
-
-/// Adds `--role`, which isn't required, `--view`, `--wire` and the name of a file.
-fn with_shown<'a>(alloc: Global, command: Command<'a>) -> Result<Command<'a>, AllocError> {
-    let help = "The input is no capture, but the stream that\nthis endpoint sent";
-    let command = command.arg(role(alloc, help))?;
-    with_file(alloc, with_wire(alloc, with_view(alloc, command)?)?)
-}
-
-/// Adds the words to be explained.
-fn with_words<'a>(alloc: Global, command: Command<'a>) -> Result<Command<'a>, AllocError> {
-    let words = Arg::new(alloc, "words")
-        .action(ArgAction::Append)
-        .num_args(0..)
-        .value_name("WORD")
-        .help("A word that wsn prints, such as text-bad");
-    command.arg(words)
-}
-
-fn program<'a>(alloc: Global) -> Result<Command<'a>, AllocError> {
-    let mut program = Command::new(alloc, "wsn")
-        .about(help::PROGRAM)
-        .after_help(help::PROGRAM_DETAILS)
-        .version(help::VERSION)
-        .subcommand_required(true);
-    for described in &COMMANDS {
-        program = program.subcommand(command(alloc, described)?)?;
-    }
-    Ok(program)
-}
 
 /// What clap returns instead of matches: a text that was asked for, or an error.
 fn answered(alloc: Global, words: &[String], error: &Error) -> Result<Request, Usage>
@@ -206,7 +36,7 @@ fn answered(alloc: Global, words: &[String], error: &Error) -> Result<Request, U
         ErrorKind::DisplayVersion => Ok(Request::Help(error.to_string(alloc)?)),
         ErrorKind::DisplayHelp => {
             let mut text = error.to_string(alloc)?;
-            text.push_str(help::SHARED)?;
+            text.push_str(SHARED)?;
             Ok(Request::Help(text))
         }
         _ => {
@@ -265,6 +95,7 @@ fn job_of(name: &str, matches: &ArgMatches<'_>) -> Result<Job, Mistake>
             Ok(Job::Payload(role, limits, at))
         }
         "normal" => Ok(Job::Normal(role, limits)),
+        "redact" => redact_of(matches, limits),
         "plan" => Ok(Job::Plan(role, limits)),
         "closing" => Ok(Job::Closing(limits, format_of(matches))),
         "show" => {
@@ -285,6 +116,21 @@ fn show_of(matches: &ArgMatches<'_>, limits: Limits, style: Style) -> Job
     match matches.get_str("role") {
         Some(_) => Job::ShowStream(role_of(matches), limits, style),
         None => Job::Show(limits, style),
+    }
+}
+
+/// The job of `redact`: over a capture, or over the stream of the endpoint that `--role` names. The error is
+/// `CaptureAsItIs` for `--capture` without `--role`.
+fn redact_of(matches: &ArgMatches<'_>, limits: Limits) -> Result<Job, Mistake>
+    ensures may_run { IfOk result MayRun }
+    ensures limits { IfOk result (λ job. job_limits job ≡ limits) }
+    ensures read { AreReadLimits (found_of matches.now) limits
+        → IfOk result (IsReadJob (codes "redact") (found_of matches.now)) }
+{
+    match matches.get_str("role") {
+        Some(_) => Ok(Job::Redact(role_of(matches), limits)),
+        None if matches.get_flag("capture") => Err(Mistake::CaptureAsItIs),
+        None => Ok(Job::RedactCapture(limits)),
     }
 }
 

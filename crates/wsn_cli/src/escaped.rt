@@ -1,7 +1,8 @@
 use std::fmt::{self, Display, Formatter};
+use wsn_print::is_hidden;
 
-/// A word from outside, to be printed: a control character is printed as `\x` and its number in hexadecimal, and an
-/// invisible character that changes how a text is shown, such as U+202E, as `\u` and its number.
+/// A word from outside, to be printed: a control character is printed as `\x` and its number in hexadecimal, and another
+/// character that is hidden, such as U+202E, as `\u` and its number, beyond U+FFFF as two surrogates.
 #[derive(Clone, Copy)]
 pub struct Escaped<'a> {
     word: &'a str,
@@ -23,33 +24,30 @@ impl<'a> Escaped<'a> {
     }
 }
 
-/// Whether a character has no shape of its own and changes how the text around it is shown: the marks, embeddings,
-/// overrides and isolates for the direction of a text, the separators of lines and paragraphs, the byte order mark.
-fn is_invisible(c: char) -> bool {
-    matches!(
-        c,
-        '\u{61c}'
-            | '\u{200e}'..='\u{200f}'
-            | '\u{2028}'..='\u{202e}'
-            | '\u{2066}'..='\u{2069}'
-            | '\u{feff}'
-    )
-}
-
 impl Display for Escaped<'_> {
     fn fmt<W: fmt::Write>(&self, f: &mut Formatter<W>) -> fmt::Result {
         for (place, c) in self.word.chars().enumerate() {
             if place == self.most {
                 return f.write_str("..");
             }
-            if c.is_control() {
-                write!(f, "\\x{:02x}", c as u32)?;
-            } else if is_invisible(c) {
-                write!(f, "\\u{:04x}", c as u32)?;
-            } else {
-                f.write_char(c)?;
-            }
+            write_character(f, c)?;
         }
         Ok(())
+    }
+}
+
+/// Writes a character, escaped if it is hidden.
+fn write_character<W: fmt::Write>(f: &mut Formatter<W>, c: char) -> fmt::Result {
+    let number = c as u32;
+    if c.is_control() {
+        write!(f, "\\x{number:02x}")
+    } else if !is_hidden(number) {
+        f.write_char(c)
+    } else if number < 0x1_0000 {
+        write!(f, "\\u{number:04x}")
+    } else {
+        let high = 0xd7c0 + number / 0x400;
+        let low = 0xdc00 + number % 0x400;
+        write!(f, "\\u{high:04x}\\u{low:04x}")
     }
 }

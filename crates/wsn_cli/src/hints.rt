@@ -5,14 +5,14 @@ ghost use Rattle.wsn_command.specs.declared.answered.Answer.TheVariants.{FaultyL
 ghost use Rattle.wsn_hint.specs.Hints.{Fits};
 ghost use Rattle.wsn_command.specs.Jobs.{job_role};
 ghost use Rattle.wsn_cli.specs.Requests.{job_format, job_limits};
-ghost use Rattle.wsn_cli.specs.RunHints.{IsCaptureHint, IsHandshakeHint, IsLinesHint, IsReportHint, refused_side, refused_sides};
+ghost use Rattle.wsn_cli.specs.RunHints.{IsAnswerHint, IsCaptureHint, IsHandshakeHint, IsLinesHint, IsReportHint, refused_side, refused_sides};
 
 use crate::compared_hint::ComparedHint;
 use std::alloc::Allocator;
 use wsn_command::{Answer, Comparison, Job};
 use wsn_hint::{
-    Hint, RefusedSides, after_close_hint_of, capture_hint_of, handshake_hint_of, hint_of,
-    sides_hint_of,
+    Hint, RefusedSides, accusing_hint_of, after_close_hint_of, capture_hint_of, handshake_hint_of,
+    hint_of, sides_hint_of,
 };
 use wsn_print::Format;
 use wsn_rules::{Limits, Refusal, Side, Verdict};
@@ -25,8 +25,8 @@ const MARK: usize = 16;
 /// fewer. `answer` is the run's answer, and `side` the side of a capture that it read, if it read one.
 ///
 /// A stream may have one if there is an answer; a capture if a line of it isn't accepted, if a side that is read is
-/// refused, if it is empty, or if `closing` or `show` reads it and its handshake's answer is wrong, or `closing` does and
-/// bytes follow a Close. A job that prints JSON has none.
+/// refused, if it is empty, or if `closing` or `show` reads it and its handshake's answer is wrong or a Close accuses the
+/// other endpoint, or `closing` does and bytes follow a Close. A job that prints JSON has none.
 pub fn hint_on_run<A: Allocator>(
     job: &Job<A>,
     side: Option<Role>,
@@ -78,31 +78,57 @@ fn hint_on_capture<A: Allocator>(
     match answer {
         Answer::FaultyLine => capture_hint_of(mark_of(first)),
         Answer::Stopped => None,
-        _ => hint_on_lines(job, first, refused_sides(side, answer)),
+        _ => hint_on_lines(job, side, first, answer),
     }
 }
 
-/// The hint on a job's run over a capture whose lines are accepted, of which these sides are refused.
-fn hint_on_lines<A: Allocator>(job: &Job<A>, first: &[u8], refused: RefusedSides) -> Option<Hint>
-    ensures { IsLinesHint job.now first.now refused result }
+/// The hint on a job's run over a capture whose lines are accepted.
+fn hint_on_lines<A: Allocator>(
+    job: &Job<A>,
+    side: Option<Role>,
+    first: &[u8],
+    answer: Answer,
+) -> Option<Hint>
+    ensures { IsLinesHint job.now side first.now answer result }
 {
-    match sides_hint_of(first, refused) {
+    let refused = refused_sides(side, answer);
+    match sides_hint_of(first, refused, limits_of(job)) {
         Some(hint) => Some(hint),
-        None => report_hint(job, first, refused),
+        None => report_hint(job, first, refused, answer),
     }
 }
 
 /// The hint on a report without one on its sides: for `show` and `closing` that the handshake's answer is wrong, if no
-/// side is refused; for `closing`, which doesn't list them, at bytes after a Close.
-fn report_hint<A: Allocator>(job: &Job<A>, first: &[u8], refused: RefusedSides) -> Option<Hint>
-    ensures { IsReportHint job.now first.now refused result }
+/// side is refused, or on a Close that accuses the other endpoint; for `closing`, which doesn't list them, before that at
+/// bytes after a Close.
+fn report_hint<A: Allocator>(
+    job: &Job<A>,
+    first: &[u8],
+    refused: RefusedSides,
+    answer: Answer,
+) -> Option<Hint>
+    ensures { IsReportHint job.now first.now refused answer result }
 {
-    match job {
-        Job::Show(_, _) => handshake_hint(first, refused),
-        Job::Closing(limits, _) => match handshake_hint(first, refused) {
-            Some(hint) => Some(hint),
-            None => after_close_hint_of(first, *limits),
-        },
+    let limits = match job {
+        Job::Show(limits, _) | Job::Closing(limits, _) => *limits,
+        _ => return None,
+    };
+    if let Some(hint) = handshake_hint(first, refused) {
+        return Some(hint);
+    }
+    match (after_close_hint_of(first, limits), job) {
+        (None, _) => answer_hint(answer),
+        (Some(hint), Job::Closing(_, _)) => Some(hint),
+        (Some(_), _) => None,
+    }
+}
+
+/// The hint on a report by what it says: on a Close that accuses the other endpoint.
+fn answer_hint(answer: Answer) -> Option<Hint>
+    ensures { IsAnswerHint answer result }
+{
+    match answer {
+        Answer::Report(report) => accusing_hint_of(&report),
         _ => None,
     }
 }
@@ -213,21 +239,23 @@ fn limits_of<A: Allocator>(job: &Job<A>) -> Limits
         Job::Judge(_, limits, _)
         | Job::Frames(_, limits, _)
         | Job::Normal(_, limits)
+        | Job::Redact(_, limits)
         | Job::Plan(_, limits)
         | Job::Recut(_, limits, _)
         | Job::Payload(_, limits, _)
         | Job::ShowStream(_, limits, _)
         | Job::Closing(limits, _)
-        | Job::Show(limits, _) => *limits,
+        | Job::Show(limits, _)
+        | Job::RedactCapture(limits) => *limits,
     }
 }
 
-/// The hint in the words of the job's command: `show` reads a capture without `--role`.
+/// The hint in the words of the job's command: `show` and `redact` read a capture without `--role`.
 fn suited_to<A: Allocator>(job: &Job<A>, hint: Hint) -> Hint
     ensures { (limits : Limits) (bytes : List ℕ) → Fits limits bytes hint → Fits limits bytes result }
 {
     match (job, hint) {
-        (Job::ShowStream(_, _, _), Hint::Capture) => Hint::CaptureToShow,
+        (Job::ShowStream(_, _, _) | Job::Redact(_, _), Hint::Capture) => Hint::CaptureToShow,
         _ => hint,
     }
 }
@@ -239,9 +267,12 @@ fn is_json<A: Allocator>(job: &Job<A>) -> bool
     let format = match job {
         Job::Judge(_, _, format) | Job::Frames(_, _, format) | Job::Closing(_, format) => *format,
         Job::ShowStream(_, _, style) | Job::Show(_, style) => style.format,
-        Job::Normal(_, _) | Job::Plan(_, _) | Job::Recut(_, _, _) | Job::Payload(_, _, _) => {
-            Format::Text
-        }
+        Job::Normal(_, _)
+        | Job::Redact(_, _)
+        | Job::Plan(_, _)
+        | Job::Recut(_, _, _)
+        | Job::Payload(_, _, _)
+        | Job::RedactCapture(_) => Format::Text,
     };
     format == Format::Json
 }

@@ -13,8 +13,6 @@ mod command_line;
 mod compared_hint;
 mod error_words;
 mod escaped;
-mod explain;
-mod help;
 mod hints;
 mod mistake;
 mod options;
@@ -31,8 +29,8 @@ pub use request::{Request, Usage};
 pub use unread::{Unread, UnreadFile};
 pub use wsn_command::{Answer, Comparison, How, Job};
 pub use wsn_hint::{
-    CaptureStart, Hint, RefusedSides, after_close_hint_of, capture_hint_of, handshake_hint_of,
-    hint_of, plan_hint_of, sides_hint_of,
+    CaptureStart, Charge, Hint, RefusedSides, accusing_hint_of, after_close_hint_of,
+    capture_hint_of, handshake_hint_of, hint_of, plan_hint_of, sides_hint_of,
 };
 pub use wsn_print::Format;
 pub use wsn_rules::Without;

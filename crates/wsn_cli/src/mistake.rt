@@ -47,7 +47,7 @@ impl Mistake {
             Mistake::TwoStandardInputs =>
                 "usage: two inputs are standard input (-, or no FILE): name a file for one",
             Mistake::CaptureAsItIs =>
-                "usage: show and closing read a capture as it is: leave out --capture",
+                "usage: show, closing and redact read a capture as it is: leave out --capture",
             Mistake::NotUtf8 =>
                 "usage: an argument isn't UTF-8: give such a file as standard input, with <",
             Mistake::Other => "usage: 'wsn help COMMAND' lists what a command accepts",

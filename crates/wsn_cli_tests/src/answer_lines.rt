@@ -149,6 +149,7 @@ fn job_line(alloc: Global, job: &Job) -> Result<String, AllocError> {
             format!(in alloc; "{stream}, at {at}")
         }
         Job::Normal(role, limits) => stream_line(alloc, "normal", *role, limits),
+        Job::Redact(role, limits) => stream_line(alloc, "redact", *role, limits),
         Job::Plan(role, limits) => stream_line(alloc, "plan", *role, limits),
         Job::Recut(role, limits, how) => recut_line(alloc, *role, limits, how),
         Job::Closing(limits, format) => {
@@ -165,6 +166,10 @@ fn job_line(alloc: Global, job: &Job) -> Result<String, AllocError> {
             let limits = limits_line(alloc, limits)?;
             let style = style_line(alloc, style)?;
             format!(in alloc; "show {limits}, {style}")
+        }
+        Job::RedactCapture(limits) => {
+            let limits = limits_line(alloc, limits)?;
+            format!(in alloc; "redact {limits}")
         }
     }
 }

@@ -251,9 +251,10 @@ fn an_empty_stream_has_a_hint_and_so_has_an_empty_capture(rt: HostRuntime) {
         client: None,
         server: None,
     };
-    assert_eq!(rt; sides_hint_of(&[], none), Some(Hint::Empty));
+    let greatest = limits(&rt, MESSAGE_MAX);
+    assert_eq!(rt; sides_hint_of(&[], none, greatest), Some(Hint::Empty));
     assert_eq!(rt;
-        sides_hint_of("# no bytes\nC.\nS.\n".as_bytes(), none),
+        sides_hint_of("# no bytes\nC.\nS.\n".as_bytes(), none, greatest),
         None
     );
 }
@@ -299,7 +300,8 @@ const REFUSED: Answer = Answer::Verdict(Verdict::Refused(Refusal {
     reason: Reason::ReservedBits,
 }));
 
-/// A capture has a command line that works: `show` has no option `--capture`, and takes it without `--role`.
+/// A capture has a command line that works: `show` has no option `--capture`, and takes it without `--role`, as `redact`
+/// does.
 #[test]
 fn a_hint_at_a_capture_suits_the_command(rt: HostRuntime) {
     let greatest = limits(&rt, MESSAGE_MAX);
@@ -309,9 +311,11 @@ fn a_hint_at_a_capture_suits_the_command(rt: HostRuntime) {
         format: Format::Text,
     };
     let show: Job = Job::ShowStream(Role::Client, greatest, style);
+    let redact: Job = Job::Redact(Role::Client, greatest);
     let judge: Job = Job::Judge(Role::Client, greatest, Format::Text);
     let capture = "C 8180\n".as_bytes();
     let shown = hint_on_run(&show, None, capture, REFUSED).expect(&rt, "a hint");
+    assert_eq!(rt; hint_on_run(&redact, None, capture, REFUSED), Some(shown));
     assert_eq!(rt;
         shown.line(),
         "hint: this looks like a capture of both sides: leave out --role"

@@ -3,7 +3,7 @@
 use crate::answer_lines::expect_answer;
 
 /// A missing or unknown word, and a role or number out of its range.
-static WRONG: [&str; 45] = [
+static WRONG: [&str; 46] = [
     "wsn",
     "wsn other",
     "wsn judge",
@@ -28,6 +28,7 @@ static WRONG: [&str; 45] = [
     "wsn same --role client a b --without ping,text",
     "wsn judge --role client --without ping",
     "wsn normal --role server --json",
+    "wsn redact --role server --json",
     "wsn plan --role server --json",
     "wsn recut --role server --size 3 --json",
     "wsn show file other",
@@ -60,7 +61,7 @@ fn clap_refuses_wrong_words(rt: HostRuntime) {
 
 /// Options of `recut` that don't go together, a key that isn't eight digits, a number that isn't digits alone, two inputs that are both
 /// standard input, and a capture that is read as it is: with each the mistake.
-static REFUSED: [(&str, &str); 30] = [
+static REFUSED: [(&str, &str); 31] = [
     ("wsn recut --role server", "NoPlanOrSize"),
     ("wsn recut --role server --plan p --size 2", "PlanAndSize"),
     (
@@ -102,6 +103,7 @@ static REFUSED: [(&str, &str); 30] = [
     ("wsn recut --role server --plan - -", "TwoStandardInputs"),
     ("wsn show --capture", "CaptureAsItIs"),
     ("wsn closing --capture capture", "CaptureAsItIs"),
+    ("wsn redact --capture capture", "CaptureAsItIs"),
     ("wsn closing - file -", "TwoStandardInputs"),
 ];
 

@@ -3,7 +3,7 @@
 use crate::answer_lines::expect_answer;
 
 /// Without options each command has the greatest limits on bytes, no limit on frames, and the shortest lengths.
-static COMMANDS: [(&str, &str); 18] = [
+static COMMANDS: [(&str, &str); 20] = [
     (
         "wsn judge --role server",
         "judge server 16777216 1099511627776 - shortest",
@@ -37,6 +37,10 @@ static COMMANDS: [(&str, &str); 18] = [
         "normal server 16777216 1099511627776 - shortest",
     ),
     (
+        "wsn redact --role server",
+        "redact server 16777216 1099511627776 - shortest",
+    ),
+    (
         "wsn plan --role server",
         "plan server 16777216 1099511627776 - shortest",
     ),
@@ -44,6 +48,7 @@ static COMMANDS: [(&str, &str); 18] = [
         "wsn plan --role client",
         "plan client 16777216 1099511627776 - shortest",
     ),
+    ("wsn redact", "redact 16777216 1099511627776 - shortest"),
     ("wsn closing", "closing 16777216 1099511627776 - shortest"),
     (
         "wsn show",
@@ -343,7 +348,7 @@ fn an_input_is_a_file_or_standard_input(rt: HostRuntime) {
 }
 
 /// With `--capture` the side that is read is that of `--role`'s endpoint.
-static SIDES: [(&str, &str); 7] = [
+static SIDES: [(&str, &str); 8] = [
     (
         "wsn judge --role server --capture file",
         "judge server 16777216 1099511627776 - shortest, from file, side server",
@@ -355,6 +360,10 @@ static SIDES: [(&str, &str); 7] = [
     (
         "wsn normal --role server --capture -",
         "normal server 16777216 1099511627776 - shortest, side server",
+    ),
+    (
+        "wsn redact --capture --role client file --limit 3",
+        "redact client 3 1099511627776 - shortest, from file, side client",
     ),
     (
         "wsn plan --capture --role client file",

@@ -28,7 +28,7 @@ const BITS: Option<(u64, Reason)> = Some((0, Reason::ReservedBits));
 
 /// Captures with refused sides. `c107f248cdc9c90700` is "Hello", compressed (RFC 7692 section 7.2.3.1); `c9`, `a1` and
 /// `e1` have other bits or another opcode.
-static REFUSED: [Row; 26] = [
+static REFUSED: [Row; 35] = [
     (
         "# extensions: permessage-deflate; client_max_window_bits=12\nC c187912ec62e63660be75829c6\nS c107f248cdc9c90700\n",
         BITS,
@@ -157,6 +157,65 @@ static REFUSED: [Row; 26] = [
         Some((1, Reason::CloseOneByte)),
         Some(Hint::NotUtf8),
     ),
+    // "Hello" as it is, behind a key (9c 01 02 03): its second byte is bad
+    (
+        "C 81859c01020348656c6c6f\n",
+        Some((7, Reason::TextBad)),
+        None,
+        Some(Hint::NeverMasked),
+    ),
+    (
+        "S c107f248cdc9c90700\nC 818000000000\nC 01859c01\nC 020348656c",
+        Some((13, Reason::TextBad)),
+        BITS,
+        Some(Hint::NeverMasked),
+    ),
+    // with a length in two bytes, and with one byte more than is bad
+    (
+        "C 81fe007e9c0102034865\n",
+        Some((9, Reason::TextBad)),
+        None,
+        Some(Hint::NeverMasked),
+    ),
+    (
+        "C 81829c0102034865\nC 818000000000\n",
+        Some((7, Reason::TextBad)),
+        None,
+        Some(Hint::NeverMasked),
+    ),
+    // the offending byte isn't among these bytes; or another frame's payload has it
+    (
+        "C 81859c01020348",
+        Some((7, Reason::TextBad)),
+        None,
+        Some(Hint::NotUtf8),
+    ),
+    (
+        "C 81859c01020348656c6c6f\nC 818000000000\n",
+        Some((11, Reason::TextBad)),
+        None,
+        Some(Hint::NotUtf8),
+    ),
+    // a byte as it was sent isn't of a text in ASCII
+    (
+        "C 81859c01020348656c6c7f\n",
+        Some((7, Reason::TextBad)),
+        None,
+        Some(Hint::NotUtf8),
+    ),
+    // c3 and then A, under keys of zeros; and from the server, without keys
+    (
+        "C 018100000000c3\nC 80810000000041\n",
+        Some((13, Reason::TextBad)),
+        None,
+        Some(Hint::NotUtf8),
+    ),
+    (
+        "S 0101c3800141\n",
+        None,
+        Some((5, Reason::TextBad)),
+        Some(Hint::NotUtf8),
+    ),
     // a line that is cut hides no byte before it
     (
         "S 8900\nS c107f248cdc9c90700\nC 8",
@@ -179,14 +238,14 @@ fn refusal_of(at: Option<(u64, Reason)>) -> Option<Refusal> {
 }
 
 #[test]
-fn a_refused_side_is_compressed_exchanged_or_no_utf8(rt: HostRuntime) {
+fn a_refused_side_is_compressed_exchanged_unmasked_or_no_utf8(rt: HostRuntime) {
     for row in REFUSED.iter() {
         let refused = RefusedSides {
             client: refusal_of(row.1),
             server: refusal_of(row.2),
         };
         assert_eq!(rt;
-            sides_hint_of(row.0.as_bytes(), refused),
+            sides_hint_of(row.0.as_bytes(), refused, limits(&rt)),
             row.3,
             "{}",
             row.0
@@ -209,15 +268,19 @@ fn a_side_that_is_refused_late_has_a_hint_too(rt: HostRuntime) {
     let agreed = "# extensions: permessage-deflate\nS 8900\n".as_bytes();
     let known = "# answer: HTTP/1.1 101 Switching Protocols\nS 8900\n".as_bytes();
     assert_eq!(rt;
-        sides_hint_of(plain, late(Reason::TextBad)),
+        sides_hint_of(plain, late(Reason::TextBad), limits(&rt)),
         Some(Hint::NotUtf8)
     );
     assert_eq!(rt;
-        sides_hint_of(agreed, late(Reason::ReservedBits)),
+        sides_hint_of(agreed, late(Reason::ReservedBits), limits(&rt)),
         Some(Hint::Compressed)
     );
-    assert_eq!(rt; sides_hint_of(plain, late(Reason::ReservedBits)), None);
-    assert_eq!(rt; sides_hint_of(known, late(Reason::ReservedBits)), None);
+    for text in [plain, known] {
+        assert_eq!(rt;
+            sides_hint_of(text, late(Reason::ReservedBits), limits(&rt)),
+            None
+        );
+    }
 }
 
 /// Comments that say what is wrong with the answer to a handshake, and others.

@@ -5,7 +5,7 @@ use Rattle.wsn_wire.specs.declared.endpoint.Role.TheVariants.{Client, Server}
 use Rattle.wsn_command.specs.declared.job.How.{How}
 use Rattle.wsn_command.specs.declared.job.How.TheVariants.{ByPlan, BySize}
 use Rattle.wsn_command.specs.declared.job.Job.{Job}
-use Rattle.wsn_command.specs.declared.job.Job.TheVariants.{Judge, Frames, Normal, Plan, Recut, Payload, ShowStream, Closing, Show}
+use Rattle.wsn_command.specs.declared.job.Job.TheVariants.{Judge, Frames, Normal, Redact, Plan, Recut, Payload, ShowStream, Closing, Show, RedactCapture}
 
 -- The recut is by plan; or by size, with frames of at least one byte, and with a key exactly for a client.
 abbrev pub MayRecut : {A : Type 0} → Role → How A → Type 0
@@ -23,14 +23,16 @@ abbrev pub MayRun : {A : Type 0} → Job A → Type 0
 MayRun (Recut role limits how) = MayRecut role how
 MayRun job = Unit {0}
 
--- the endpoint whose stream the job reads; `closing` and `show` read both streams
+-- the endpoint whose stream the job reads; a job over a capture reads both streams
 abbrev pub job_role : {A : Type 0} → Job A → Option Role
 job_role (Judge role limits format) = Some role
 job_role (Frames role limits format) = Some role
 job_role (Normal role limits) = Some role
+job_role (Redact role limits) = Some role
 job_role (Plan role limits) = Some role
 job_role (Recut role limits how) = Some role
 job_role (Payload role limits at) = Some role
 job_role (ShowStream role limits style) = Some role
 job_role (Closing limits format) = None
 job_role (Show limits style) = None
+job_role (RedactCapture limits) = None

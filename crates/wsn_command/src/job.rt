@@ -18,6 +18,8 @@ pub enum Job<A: Allocator = Global> {
     Frames(Role, Limits, Format),
     /// Write the normal form of the stream's meaning.
     Normal(Role, Limits),
+    /// Write the stream without what was said: its redaction.
+    Redact(Role, Limits),
     /// Print the plan of the stream's own frames.
     Plan(Role, Limits),
     /// Write the stream's meaning in other frames.
@@ -30,12 +32,15 @@ pub enum Job<A: Allocator = Global> {
     ShowStream(Role, Limits, Style),
     /// Print what both sides of a capture said, in order and in this style, and how the connection closed.
     Show(Limits, Style),
+    /// Write a capture without what was said: its redaction.
+    RedactCapture(Limits),
 }
 
 impl<A: Allocator> Job<A> {
     ghost use Rattle.wsn_command.specs.Jobs.{job_role};
 
-    /// The endpoint whose stream the job reads. `None` for `Closing` and `Show`, which read the streams of both.
+    /// The endpoint whose stream the job reads. `None` for `Closing`, `Show` and `RedactCapture`, which read the
+    /// streams of both.
     #[tactic(none)]
     pub fn role(&self) -> Option<Role>
         ensures { result ≡ job_role self.now }
@@ -44,11 +49,12 @@ impl<A: Allocator> Job<A> {
             Job::Judge(role, _, _)
             | Job::Frames(role, _, _)
             | Job::Normal(role, _)
+            | Job::Redact(role, _)
             | Job::Plan(role, _)
             | Job::Recut(role, _, _)
             | Job::Payload(role, _, _)
             | Job::ShowStream(role, _, _) => Some(*role),
-            Job::Closing(_, _) | Job::Show(_, _) => None,
+            Job::Closing(_, _) | Job::Show(_, _) | Job::RedactCapture(_) => None,
         }
     }
 }

@@ -2,12 +2,10 @@
 //! ends a test: a function that may fail returns a `Result` or an `Option`.
 //!
 //! `readers`, `writers` and `heaps` fail, or move little at a time. `vectors` has the streams with their expected
-//! answers, a file for each group of rules. `engines` and `command_runs` call an engine and a command, and
-//! `answer_lines` prints answers independently.
+//! answers, a file for each group of rules. `engines` calls an engine, and `answer_lines` prints answers independently.
 #![tactic(auto)]
 
 pub mod answer_lines;
-pub mod command_runs;
 pub mod engines;
 pub mod heaps;
 pub mod readers;

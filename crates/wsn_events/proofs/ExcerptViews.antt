@@ -11,7 +11,7 @@ use Rattle.wsn_rules.specs.Meaning.{MeantEvent}
 use Rattle.wsn_rules.proofs.MessageText.{reason_is_text}
 use Rattle.wsn_print.specs.declared.shown.PlacedEvent.{PlacedEvent}
 use Rattle.wsn_print.specs.ShownParts.{event_of, HoldsPayload, HasText, IsPlaced}
-use Rattle.wsn_print.proofs.HeldViews.{first_held}
+use Rattle.wsn_print.proofs.HeldParts.{first_held}
 use Rattle.wsn_events.specs.declared.excerpt.Excerpt.{Excerpt}
 use Rattle.wsn_events.specs.Excerpts.{IsExcerptOf}
 

@@ -12,8 +12,7 @@ use Rattle.wsn_rules.specs.Meaning.{MeantEvent, Message, Control}
 use Rattle.wsn_print.specs.declared.shown.DifferingPayloads.{DifferingPayloads}
 use Rattle.wsn_print.specs.declared.shown.PayloadPart.{PayloadPart}
 use Rattle.wsn_print.specs.DifferingPayloads.{is_text, view_start, payload_on, IsPartOf, StandsForPlace}
-use Rattle.wsn_print.specs.QuotedTexts.{payload_in}
-use Rattle.wsn_print.specs.ShownParts.{HoldsFirst}
+use Rattle.wsn_print.specs.ShownParts.{payload_in, HoldsFirst}
 use Rattle.wsn_events.specs.declared.payload_difference.PayloadDifference.{PayloadDifference}
 use Rattle.wsn_events.specs.declared.payload_difference.PayloadExcerpt.{PayloadExcerpt}
 use Rattle.wsn_events.specs.PayloadExcerpts.{IsPartKept, ArePartsKept, IsLawfulIfAny, event_given}

@@ -8,6 +8,7 @@ ghost use Rattle.wsn_rules.specs.LeftOut.{events_without};
 ghost use Rattle.wsn_events.specs.Excerpts.{IsContrasted, KeepsFirst, KeepsOf, index_in};
 ghost use Rattle.wsn_events.specs.Comparing.{IsComparisonOutcome, IsAnAccepted, IsRoundOf, AreLentAlike, IsComparedBy, IsCompared, IsComparisonOfBy, IsComparisonOf};
 ghost use Rattle.wsn_events.specs.Turns.{OfEvent, IsLawfulTurn, meant_next, meant_turn};
+ghost use Rattle.wsn_events.specs.LentMessages.{MayLend};
 
 use crate::equal_bytes::are_equal;
 use crate::event::{is_message, is_same};
@@ -101,7 +102,7 @@ pub fn contrast<A: Allocator + Copy, R: Read, S: Read>(
     let mut difference = None;
     loop {
         let lent = events.take_message();
-        let other_lent = others.take_message();
+        let other_lent = take_other(lent, &mut others);
         if are_alike(&events, lent, &others, other_lent) {
             index += 1;
             continue;
@@ -116,6 +117,18 @@ pub fn contrast<A: Allocator + Copy, R: Read, S: Read>(
         give_back(&mut events, turn);
         give_back(&mut others, other);
         index += 1;
+    }
+}
+
+/// Takes the other source's message, as [`Source::take_message`] does, but only if the first one lends a message: it is
+/// compared with that. Otherwise nothing changes.
+#[inline(always)]
+fn take_other<A: Allocator + Copy>(lent: Option<Kind>, others: &mut Source<A>) -> Option<Kind>
+    ensures { MayLend others.old others.new result }
+{
+    match lent {
+        Some(_) => others.take_message(),
+        None => None,
     }
 }
 

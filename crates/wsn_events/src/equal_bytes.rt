@@ -3,14 +3,19 @@ ghost use Rattle.wsn_print.specs.DifferingPayloads.{common_length};
 
 use std::simd::prelude::*;
 
-/// The number of bytes in a block.
+/// The number of bytes in a block, and in its parts.
 const BLOCK: usize = 64;
 
-/// The number of bytes in a short block.
+const HALF: usize = 32;
+
+const QUARTER: usize = 16;
+
+const EIGHTH: usize = 8;
+
 const WORD: usize = 4;
 
-/// Whether both have the same bytes. Up to three are compared one by one, others by blocks, the last of which overlaps the
-/// one before it: at most eight by two of 4, and 64 or more by blocks of 64.
+/// Whether both have the same bytes. Up to three are compared one by one, more by the longest of these parts that fits, at
+/// the beginning and at the end, and 64 or more by blocks, the last of which overlaps the one before it.
 #[inline(always)]
 pub(crate) fn are_equal(bytes: &[u8], others: &[u8]) -> bool
     ensures { IsTrue result ↔ (bytes.now ≡ others.now) }
@@ -19,16 +24,24 @@ pub(crate) fn are_equal(bytes: &[u8], others: &[u8]) -> bool
     if len != others.len() {
         return false;
     }
-    if len >= BLOCK {
-        return are_equal_in_blocks(bytes, others);
-    }
-    if len > 2 * WORD {
-        return bytes == others;
-    }
     if len < WORD {
         return are_equal_each(bytes, others);
     }
-    are_equal_words(bytes, others, 0) && are_equal_words(bytes, others, len - WORD)
+    if len < EIGHTH {
+        return are_equal_words(bytes, others, 0) && are_equal_words(bytes, others, len - WORD);
+    }
+    if len < QUARTER {
+        return are_equal_eighths(bytes, others, 0)
+            && are_equal_eighths(bytes, others, len - EIGHTH);
+    }
+    if len < HALF {
+        return are_equal_quarters(bytes, others, 0)
+            && are_equal_quarters(bytes, others, len - QUARTER);
+    }
+    if len < BLOCK {
+        return are_equal_halves(bytes, others, 0) && are_equal_halves(bytes, others, len - HALF);
+    }
+    are_equal_in_blocks(bytes, others)
 }
 
 /// Whether both, of the same number of bytes, have the same ones.
@@ -74,6 +87,39 @@ fn are_equal_blocks(bytes: &[u8], others: &[u8], at: usize) -> bool
     let block = u8x64::from_slice(&bytes[at..]);
     let other = u8x64::from_slice(&others[at..]);
     block.simd_ne(other).to_bitmask() == 0
+}
+
+/// Whether the 32 bytes of both from offset `at` on are the same.
+#[inline(always)]
+fn are_equal_halves(bytes: &[u8], others: &[u8], at: usize) -> bool
+    requires { (at + HALF ≤ length bytes.now) × (at + HALF ≤ length others.now) }
+    ensures { IsTrue result ↔ (take HALF (drop at bytes.now) ≡ take HALF (drop at others.now)) }
+{
+    let half = u8x32::from_slice(&bytes[at..]);
+    let other = u8x32::from_slice(&others[at..]);
+    half.simd_ne(other).to_bitmask() == 0
+}
+
+/// Whether the 16 bytes of both from offset `at` on are the same.
+#[inline(always)]
+fn are_equal_quarters(bytes: &[u8], others: &[u8], at: usize) -> bool
+    requires { (at + QUARTER ≤ length bytes.now) × (at + QUARTER ≤ length others.now) }
+    ensures { IsTrue result ↔ (take QUARTER (drop at bytes.now) ≡ take QUARTER (drop at others.now)) }
+{
+    let quarter = u8x16::from_slice(&bytes[at..]);
+    let other = u8x16::from_slice(&others[at..]);
+    quarter.simd_ne(other).to_bitmask() == 0
+}
+
+/// Whether the eight bytes of both from offset `at` on are the same.
+#[inline(always)]
+fn are_equal_eighths(bytes: &[u8], others: &[u8], at: usize) -> bool
+    requires { (at + EIGHTH ≤ length bytes.now) × (at + EIGHTH ≤ length others.now) }
+    ensures { IsTrue result ↔ (take EIGHTH (drop at bytes.now) ≡ take EIGHTH (drop at others.now)) }
+{
+    let eighth = u8x8::from_slice(&bytes[at..]);
+    let other = u8x8::from_slice(&others[at..]);
+    eighth.simd_ne(other).to_bitmask() == 0
 }
 
 /// Whether the four bytes of both from offset `at` on are the same.

@@ -8,11 +8,7 @@
 
 use std::io::{self, Read};
 use std::process::ExitCode;
-use wsn_capture::SideReader;
-use wsn_io::Input;
-use wsn_rules::{INPUT_MAX, Limits, MESSAGE_MAX, Refusal, Verdict};
-use wsn_scan::judge;
-use wsn_wire::Role;
+use wsn_canon::{INPUT_MAX, Input, Limits, MESSAGE_MAX, Refusal, Role, SideReader, Verdict, judge};
 
 fn main(rt: HostRuntime) -> io::Result<ExitCode> {
     let Some(limits) = Limits::new(MESSAGE_MAX, INPUT_MAX) else {

@@ -8,8 +8,8 @@ use crate::frame_context::FrameContext;
 use crate::partial_head::{Head, PartialHead};
 use wsn_wire::{FirstByte, LenForm, Role};
 
-/// The maximum length of a head in bytes.
-const HEAD_MAX: usize = 14;
+/// The maximum length of a head in bytes (RFC 6455 section 5.2).
+pub const HEAD_MAX: usize = 14;
 
 /// A payload's length, as the start of a frame encodes it.
 #[derive(Clone, Copy)]
@@ -24,7 +24,6 @@ struct Length {
 /// length bytes follow the second byte, and the head is evidence for no refusal. `None` decides nothing about `piece`:
 /// its head can be read byte by byte.
 #[inline(always)]
-#[tactic(none)]
 pub fn whole_head(piece: &[u8], context: &FrameContext) -> Option<(usize, Head)>
     ensures { IfSome result
         (λ found. IsHeadPrefix context.now.role context.now.limits context.now.message piece.now found.0 found.1) }
@@ -32,7 +31,22 @@ pub fn whole_head(piece: &[u8], context: &FrameContext) -> Option<(usize, Head)>
     if piece.len() < HEAD_MAX {
         return None;
     }
-    let Some(first) = first_byte(piece[0], context) else {
+    whole_head_after(piece[0], piece, context)
+}
+
+/// Reads a head as [`whole_head`] does; `byte` is the piece's first. Where that is known, the compiler leaves out what is
+/// for other bytes.
+#[inline(always)]
+#[tactic(none)]
+pub fn whole_head_after(byte: u8, piece: &[u8], context: &FrameContext) -> Option<(usize, Head)>
+    requires { take 1 piece.now ≡ byte ∷ [] }
+    ensures { IfSome result
+        (λ found. IsHeadPrefix context.now.role context.now.limits context.now.message piece.now found.0 found.1) }
+{
+    if piece.len() < HEAD_MAX {
+        return None;
+    }
+    let Some(first) = first_byte(byte, context) else {
         return None;
     };
     let Some(length) = length_at_start(first, piece, context) else {

@@ -16,7 +16,7 @@ mod partial_head;
 mod payload_check;
 mod unmasking;
 
-pub use buffered_head::whole_head;
+pub use buffered_head::{HEAD_MAX, whole_head, whole_head_after};
 pub use counts::Counts;
 pub use frame_context::FrameContext;
 pub use open_message::{OpenMessage, message_after};

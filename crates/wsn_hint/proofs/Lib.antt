@@ -1,6 +1,7 @@
 mod CommentLines
 mod EarlyVerdicts
 mod FirstFits
+mod HeadsSent
 mod KeptBytes
 mod LineStarts
 mod SideFits

@@ -1,25 +1,59 @@
 -- Which hint the sides of a capture have that begins with the text, where it is known why each side that was read is
 -- refused.
-use Rattle.std.specs.Prelude.{◌≡◌, ◌≢◌, ◌+◌, ◌<◌, ◌≤◌, ◌⊎◌, ℕ, Option, None, Some, IfSome, IsSome, List, [], ◌∷◌, drop}
+use Rattle.std.specs.Prelude.{◌≡◌, ◌≢◌, ◌+◌, ◌<◌, ◌≤◌, ◌⊎◌, ℕ, Bool, IsTrue, Option, None, Some, IfSome, IsSome, List, [], ◌∷◌, ◌++◌, length, drop}
+use Rattle.std.specs.List.{AllByRecursion}
 use Rattle.wsn_wire.specs.declared.endpoint.Role.{Role}
 use Rattle.wsn_wire.specs.declared.endpoint.Role.TheVariants.{Client, Server}
 use Rattle.wsn_wire.specs.declared.refusal.Reason.{Reason}
 use Rattle.wsn_wire.specs.declared.refusal.Reason.TheVariants.{ReservedBits, MaskMissing, MaskPresent, TextBad}
+use Rattle.wsn_wire.specs.Frame.{Frame, stream}
+use Rattle.wsn_rules.specs.declared.head_info.HeadInfo.{HeadInfo}
 use Rattle.wsn_rules.specs.declared.verdict.Refusal.{Refusal}
 use Rattle.wsn_rules.specs.declared.verdict.Verdict.TheVariants.{Accepted}
 use Rattle.wsn_rules.specs.declared.verdict.Summary.{Summary}
 use Rattle.wsn_rules.specs.Limits.{Limits}
+use Rattle.wsn_rules.specs.Lawful.{IsLawful}
+use Rattle.wsn_rules.specs.Heads.{BeginsWithHead}
+use Rattle.wsn_rules.specs.BadCharacter.{payload_offset}
 use Rattle.wsn_capture.specs.SideTexts.{sent_in}
-use Rattle.wsn_hint.specs.Hints.{HasVerdict, IsDataHead, IsFirstFit}
+use Rattle.wsn_hint.specs.Hints.{HasVerdict, IsDataHead, IsFirstFit, IsTextByte}
 use Rattle.wsn_hint.specs.Comments.{IsSaid}
 use Rattle.wsn_hint.specs.declared.comments.Said.TheVariants.{Answer, Compression, WrongAnswer}
 use Rattle.wsn_hint.specs.declared.refused_sides.RefusedSides.{RefusedSides}
 use Rattle.wsn_hint.specs.declared.hint.Hint.{Hint}
-use Rattle.wsn_hint.specs.declared.hint.Hint.TheVariants.{Empty, Compressed, MaybeCompressed, NotAgreed, Exchanged, NotUtf8, AfterClose, WrongHandshake}
+use Rattle.wsn_hint.specs.declared.hint.Hint.TheVariants.{Empty, Compressed, MaybeCompressed, NotAgreed, Exchanged, NeverMasked, NotUtf8, AfterClose, WrongHandshake}
 
 -- By the text's lines, this is the byte that the endpoint sent at this offset.
 abbrev pub IsSentAt : Role → List ℕ → ℕ → ℕ → Type 0
 IsSentAt role text place byte = (later : List ℕ) × (drop place (sent_in role text) ≡ byte ∷ later)
+
+-- ---- a text that was perhaps never masked
+
+-- Lawful frames come first, and then this head.
+pub record HasHead (role : Role) (limits : Limits) (sent : List ℕ) (head : HeadInfo) : Type 0 where
+  pub frames : List Frame
+  pub rest : List ℕ
+  pub lawful : IsLawful role limits frames
+  pub whole : sent ≡ stream frames ++ rest
+  pub begins : BeginsWithHead role limits frames rest head
+
+-- The bytes begin with this number of bytes of a text in ASCII, at most `most`.
+abbrev pub BeginsInAscii : ℕ → ℕ → List ℕ → Type 0
+BeginsInAscii most count bytes = (text : List ℕ) × (later : List ℕ) × (bytes ≡ text ++ later)
+    × (length text ≡ count) × (count ≤ most) × AllByRecursion IsTextByte text
+
+-- A frame's key isn't zero, and its payload begins with a text in ASCII as it was sent, up to the byte at this offset or
+-- further: it was perhaps never masked [5.3].
+pub record IsSentAsText (role : Role) (limits : Limits) (sent : List ℕ) (place : ℕ) : Type 0 where
+  pub head : HeadInfo
+  pub has_head : HasHead role limits sent head
+  pub key : List ℕ
+  pub keyed : head.key ≡ Some key
+  pub masks : key ≢ 0 ∷ 0 ∷ 0 ∷ 0 ∷ []
+  pub count : ℕ
+  pub text : BeginsInAscii head.len count (drop (payload_offset head) sent)
+  pub from : payload_offset head ≤ place
+  pub up_to : place < payload_offset head + count
 
 -- ---- a refused side
 
@@ -27,17 +61,19 @@ IsSentAt role text place byte = (later : List ℕ) × (drop place (sent_in role 
 abbrev pub IsCompressedHead : ℕ → Type 0
 IsCompressedHead byte = (plain : ℕ) × (byte ≡ plain + 0x40) × IsDataHead plain
 
--- The hint fits a side that is refused for this reason. The offending byte is known if it is within the text.
-abbrev pub FitsSide : List ℕ → Reason → Option ℕ → Hint → Type 0
-FitsSide text reason byte Compressed =
+-- The hint fits a side that is refused for this reason. The offending byte is known if it is within the text, and
+-- `as_text` says whether the payload is known to be a text as it was sent.
+abbrev pub FitsSide : List ℕ → Reason → Option ℕ → Bool → Hint → Type 0
+FitsSide text reason byte as_text Compressed =
     (reason ≡ ReservedBits) × IfSome byte IsCompressedHead × IsSaid Compression text
-FitsSide text reason byte NotAgreed =
+FitsSide text reason byte as_text NotAgreed =
     (reason ≡ ReservedBits) × IsSome byte × IfSome byte IsCompressedHead
     × IsSaid Answer text × ¬ IsSaid Compression text
-FitsSide text reason byte MaybeCompressed =
+FitsSide text reason byte as_text MaybeCompressed =
     (reason ≡ ReservedBits) × IsSome byte × IfSome byte IsCompressedHead
-FitsSide text reason byte NotUtf8 = reason ≡ TextBad
-FitsSide text reason byte hint = ⊥
+FitsSide text reason byte as_text NeverMasked = (reason ≡ TextBad) × IsTrue as_text
+FitsSide text reason byte as_text NotUtf8 = reason ≡ TextBad
+FitsSide text reason byte as_text hint = ⊥
 
 -- What the comments say of a compressed frame: that it was agreed on, or that the handshake is known and agreed on
 -- none, or neither.
@@ -49,13 +85,15 @@ IsCompressedHint text hint =
 
 -- the hints for a refused side, in the order in which they are tried
 abbrev pub side_hints : List Hint
-side_hints = Compressed ∷ NotAgreed ∷ MaybeCompressed ∷ NotUtf8 ∷ []
+side_hints = Compressed ∷ NotAgreed ∷ MaybeCompressed ∷ NeverMasked ∷ NotUtf8 ∷ []
 
 -- A side that is refused has the first hint that fits, or none if none does; any other side has none.
-abbrev pub IsSideHint : Role → List ℕ → Option Refusal → Option Hint → Type 0
-IsSideHint role text None result = result ≡ None
-IsSideHint role text (Some refusal) result = (byte : Option ℕ) × IfSome byte (IsSentAt role text refusal.place)
-    × IsFirstFit (FitsSide text refusal.reason byte) side_hints result
+abbrev pub IsSideHint : Role → Limits → List ℕ → Option Refusal → Option Hint → Type 0
+IsSideHint role limits text None result = result ≡ None
+IsSideHint role limits text (Some refusal) result = (byte : Option ℕ) × (as_text : Bool)
+    × IfSome byte (IsSentAt role text refusal.place)
+    × (IsTrue as_text → IsSentAsText role limits (sent_in role text) refusal.place)
+    × IsFirstFit (FitsSide text refusal.reason byte as_text) side_hints result
 
 -- ---- both sides
 
@@ -69,9 +107,9 @@ IsLikelier client server result =
     (IsWeak client × IsSome server × (result ≡ server)) ⊎ (¬ (IsWeak client × IsSome server) × (result ≡ client))
 
 -- The likelier hint of both sides.
-abbrev pub IsLikelierHint : List ℕ → RefusedSides → Option Hint → Type 0
-IsLikelierHint text refused result = (client : Option Hint) × (server : Option Hint)
-    × IsSideHint Client text refused.client client × IsSideHint Server text refused.server server
+abbrev pub IsLikelierHint : Limits → List ℕ → RefusedSides → Option Hint → Type 0
+IsLikelierHint limits text refused result = (client : Option Hint) × (server : Option Hint)
+    × IsSideHint Client limits text refused.client client × IsSideHint Server limits text refused.server server
     × IsLikelier client server result
 
 -- The first frame is refused for its masking, which is that of the other endpoint's frames (RFC 6455 section 5.1).
@@ -103,11 +141,11 @@ AreRefusedForMasks client server = ⊥
 
 -- The hint for an empty text; that the sides are exchanged; or the likelier of both sides' hints. Sides that are both
 -- refused for the other's masking are always said to be exchanged.
-abbrev pub IsSidesHint : List ℕ → RefusedSides → Option Hint → Type 0
-IsSidesHint text refused result =
+abbrev pub IsSidesHint : Limits → List ℕ → RefusedSides → Option Hint → Type 0
+IsSidesHint limits text refused result =
     ((text ≡ []) × (result ≡ Some Empty))
     ⊎ ((text ≢ []) × AreExchanged text refused × (result ≡ Some Exchanged))
-    ⊎ ((text ≢ []) × ¬ AreRefusedForMasks refused.client refused.server × IsLikelierHint text refused result)
+    ⊎ ((text ≢ []) × ¬ AreRefusedForMasks refused.client refused.server × IsLikelierHint limits text refused result)
 
 -- ---- a report on sides that aren't refused
 

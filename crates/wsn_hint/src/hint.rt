@@ -1,5 +1,6 @@
 ghost use Rattle.std.specs.Prelude.{◌≤◌, length};
 
+use crate::charge::Charge;
 use wsn_wire::Role;
 
 /// An everyday mistake: what an input is by its first bytes, where a command reads something else.
@@ -54,10 +55,14 @@ pub enum Hint {
     NotAgreed,
     /// A capture in which each side has the frames of the other.
     Exchanged,
+    /// A capture with a masked text that isn't UTF-8, but is a text as it was sent (RFC 6455 section 5.3).
+    NeverMasked,
     /// A capture with a text that isn't UTF-8.
     NotUtf8,
     /// A capture in which this endpoint sent bytes after its Close (RFC 6455 section 5.5.1).
     AfterClose(Role),
+    /// A capture in which this endpoint's Close accuses the other one, whose stream isn't refused (RFC 6455 section 7.4.1).
+    Accuses(Role, Charge),
     /// A capture with an answer to the handshake for which the client must fail the connection (RFC 6455 section 4.1).
     WrongHandshake,
 }
@@ -137,6 +142,9 @@ impl Hint {
             Hint::Exchanged => {
                 "hint: the sides are exchanged: sed 's/^C/X/; s/^S/C/; s/^X/S/' FILE swaps them"
             }
+            Hint::NeverMasked => {
+                "hint: as it was sent, the text is plain ASCII under a key: was it never masked?"
+            }
             Hint::NotUtf8 => {
                 "hint: a text isn't UTF-8: is it in Latin-1, or binary? 'wsn explain text-bad'"
             }
@@ -145,6 +153,24 @@ impl Hint {
             }
             Hint::AfterClose(Role::Server) => {
                 "hint: the server sent bytes after its Close: 'wsn show' lists them"
+            }
+            Hint::Accuses(Role::Client, Charge::Protocol) => {
+                "hint: the client says 1002; the server's bytes break no rule: 'wsn explain 1002'"
+            }
+            Hint::Accuses(Role::Server, Charge::Protocol) => {
+                "hint: the server says 1002; the client's bytes break no rule: 'wsn explain 1002'"
+            }
+            Hint::Accuses(Role::Client, Charge::Content) => {
+                "hint: the client says 1007; the server's bytes break no rule: 'wsn explain 1007'"
+            }
+            Hint::Accuses(Role::Server, Charge::Content) => {
+                "hint: the server says 1007; the client's bytes break no rule: 'wsn explain 1007'"
+            }
+            Hint::Accuses(Role::Client, Charge::Size) => {
+                "hint: the client says 1009; is its limit below --limit? 'wsn explain 1009'"
+            }
+            Hint::Accuses(Role::Server, Charge::Size) => {
+                "hint: the server says 1009; is its limit below --limit? 'wsn explain 1009'"
             }
             Hint::WrongHandshake => {
                 "hint: the handshake's answer is wrong: the client had to fail (RFC 6455, 4.1)"
@@ -184,12 +210,31 @@ impl Hint {
             Hint::MaybeCompressed => " seems compressed: recipes/inflate --extensions undoes it",
             Hint::NotAgreed => " has compressed frames, which its handshake doesn't allow",
             Hint::Exchanged => " has its sides exchanged: sed 's/^C/X/; s/^S/C/; s/^X/S/'",
+            Hint::NeverMasked => " has a text that was perhaps never masked, though it has a key",
             Hint::NotUtf8 => " has a text that isn't UTF-8: 'wsn explain text-bad'",
             Hint::AfterClose(Role::Client) => {
                 " has bytes after the client's Close: 'wsn show' lists them"
             }
             Hint::AfterClose(Role::Server) => {
                 " has bytes after the server's Close: 'wsn show' lists them"
+            }
+            Hint::Accuses(Role::Client, Charge::Protocol) => {
+                " has a client that says 1002; the server's bytes break no rule"
+            }
+            Hint::Accuses(Role::Server, Charge::Protocol) => {
+                " has a server that says 1002; the client's bytes break no rule"
+            }
+            Hint::Accuses(Role::Client, Charge::Content) => {
+                " has a client that says 1007; the server's bytes break no rule"
+            }
+            Hint::Accuses(Role::Server, Charge::Content) => {
+                " has a server that says 1007; the client's bytes break no rule"
+            }
+            Hint::Accuses(Role::Client, Charge::Size) => {
+                " has a client that says 1009: 'wsn explain 1009'"
+            }
+            Hint::Accuses(Role::Server, Charge::Size) => {
+                " has a server that says 1009: 'wsn explain 1009'"
             }
             Hint::WrongHandshake => " has a wrong answer to its handshake",
         }

@@ -9,19 +9,24 @@
 //! capture have, and `specs/Comments.antt` what a capture's comments say.
 #![tactic(auto)]
 
+mod accusations;
 mod capture_start;
 mod captures;
+mod charge;
 mod comments;
 mod early_verdict;
 mod formats;
 mod hint;
 mod plans;
 mod refused_sides;
+mod sent_text;
 mod sides;
 mod streams;
 
+pub use accusations::accusing_hint_of;
 pub use capture_start::CaptureStart;
 pub use captures::capture_hint_of;
+pub use charge::Charge;
 pub use hint::Hint;
 pub use plans::plan_hint_of;
 pub use refused_sides::RefusedSides;

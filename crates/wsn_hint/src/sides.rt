@@ -8,6 +8,7 @@ ghost use Rattle.wsn_hint.specs.SideHints.{AreExchanged, AreRefusedForMasks, Fit
 use crate::comments::{Said, is_said};
 use crate::hint::Hint;
 use crate::refused_sides::RefusedSides;
+use crate::sent_text::is_sent_as_text;
 use crate::streams::without_compression;
 use wsn_capture::SideReader;
 use wsn_rules::{Limits, Refusal, Verdict};
@@ -22,9 +23,9 @@ const CHUNK: usize = 512;
 ///
 /// `None` unless the capture is empty or one of the sides is refused: then the first hint of `side_hints`
 /// (specs/SideHints.antt) that fits a refused side, or that the sides are exchanged. The offending byte is looked at if
-/// it is within these bytes, and comments are.
-pub fn sides_hint_of(first: &[u8], refused: RefusedSides) -> Option<Hint>
-    ensures { IsSidesHint first.now refused result }
+/// it is within these bytes, with the payload of its frame if that is a text, and comments are.
+pub fn sides_hint_of(first: &[u8], refused: RefusedSides, limits: Limits) -> Option<Hint>
+    ensures { IsSidesHint limits first.now refused result }
 {
     if first.is_empty() {
         return Some(Hint::Empty);
@@ -32,8 +33,8 @@ pub fn sides_hint_of(first: &[u8], refused: RefusedSides) -> Option<Hint>
     if are_exchanged(first, refused) {
         return Some(Hint::Exchanged);
     }
-    let client = side_hint(first, Role::Client, refused.client);
-    let server = side_hint(first, Role::Server, refused.server);
+    let client = side_hint(first, Role::Client, limits, refused.client);
+    let server = side_hint(first, Role::Server, limits, refused.server);
     likelier(client, server)
 }
 
@@ -145,14 +146,17 @@ fn is_others_mask(byte: u8, role: Role) -> bool
 }
 
 /// The hint for the side of one endpoint, if it is refused.
-fn side_hint(first: &[u8], role: Role, refusal: Option<Refusal>) -> Option<Hint>
-    ensures { IsSideHint role first.now refusal result }
+fn side_hint(first: &[u8], role: Role, limits: Limits, refusal: Option<Refusal>) -> Option<Hint>
+    ensures { IsSideHint role limits first.now refusal result }
 {
     let Some(refusal) = refusal else {
         return None;
     };
     match refusal.reason {
         Reason::ReservedBits => bits_hint(first, byte_at(first, role, refusal.place)),
+        Reason::TextBad if is_sent_as_text(first, role, limits, refusal.place) => {
+            Some(Hint::NeverMasked)
+        }
         Reason::TextBad => Some(Hint::NotUtf8),
         _ => None,
     }
@@ -160,7 +164,7 @@ fn side_hint(first: &[u8], role: Role, refusal: Option<Refusal>) -> Option<Hint>
 
 /// The hint for a side that is refused for the reserved bits of this byte, if it is known: compressed, as agreed or not.
 fn bits_hint(first: &[u8], byte: Option<u8>) -> Option<Hint>
-    ensures { IsFirstFit (FitsSide first.now ReservedBits byte) side_hints result }
+    ensures { IsFirstFit (FitsSide first.now ReservedBits byte false) side_hints result }
 {
     match byte {
         Some(byte) if is_compressed_head(byte) => Some(compressed_hint(first)),

@@ -10,7 +10,7 @@ use Rattle.wsn_rules.specs.ShownStream.{Item}
 use Rattle.wsn_print.specs.DifferingPayloads.{event_in, StandsForPayloads}
 use Rattle.wsn_events.specs.PayloadExcerpts.{ArePayloadsKept}
 use Rattle.wsn_print.specs.declared.shown.Difference.{Difference}
-use Rattle.wsn_print.specs.DifferenceText.{difference_text}
+use Rattle.wsn_shown_text.specs.DifferenceText.{difference_text}
 use Rattle.wsn_print.specs.Formats.{comparison_text}
 use Rattle.wsn_print.specs.ShownParts.{StandsFor}
 use Rattle.wsn_events.specs.declared.first_difference.FirstDifference.{FirstDifference}

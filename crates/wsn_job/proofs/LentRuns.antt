@@ -16,7 +16,7 @@ use Rattle.wsn_plan.specs.declared.planning.PlanAnswer.TheVariants as planning
 use Rattle.wsn_command.specs.declared.comparison.Comparison.{Comparison}
 use Rattle.wsn_command.specs.declared.answered.Ran.{Ran}
 use Rattle.wsn_command.specs.declared.job.Job.{Job}
-use Rattle.wsn_command.specs.declared.job.Job.TheVariants.{Judge, Frames, Normal, Plan, Recut, Payload, ShowStream, Closing, Show}
+use Rattle.wsn_command.specs.declared.job.Job.TheVariants.{Judge, Frames, Normal, Redact, Plan, Recut, Payload, ShowStream, Closing, Show, RedactCapture}
 use Rattle.wsn_job.specs.Channels.{Channels, ComparedChannels}
 use Rattle.wsn_job.specs.Closings.{IsReportPrinted}
 use Rattle.wsn_job.specs.Comparisons.{IsComparisonPrinted}
@@ -59,12 +59,14 @@ pub run_is_read : {A : Type 0} (job : Job A) (before after : Channels) (ran : Ra
 run_is_read (Judge role limits format) before after ran run = verdict_is_read format role limits _ _ _ _ run.0 run.1
 run_is_read (Frames role limits format) before after ran run = received_is_read _ _ _ _ run.1.received
 run_is_read (Normal role limits) before after ran run = received_is_read _ _ _ _ run.1.received
+run_is_read (Redact role limits) before after ran run = received_is_read _ _ _ _ run.1.received
 run_is_read (Plan role limits) before after ran run = plan_is_read role limits _ _ _ _ run.0 run.1
 run_is_read (Recut role limits how) before after ran run = received_is_read _ _ _ _ run.1.received
 run_is_read (Payload role limits at) before after ran run = received_is_read _ _ _ _ run.1.received
 run_is_read (ShowStream role limits style) before after ran run = received_is_read _ _ _ _ run.1.received
 run_is_read (Closing limits format) before after ran run = report_is_read format limits _ _ _ _ run.0 run.1
 run_is_read (Show limits style) before after ran run = received_is_read _ _ _ _ run.1.received
+run_is_read (RedactCapture limits) before after ran run = received_is_read _ _ _ _ run.1.received
 
 -- No read of either failed.
 abbrev AreRead : ComparedChannels → ComparedChannels → Type 0

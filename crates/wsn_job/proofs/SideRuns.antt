@@ -15,6 +15,7 @@ use Rattle.wsn_capture.specs.LineFaults.{fault_word}
 use Rattle.wsn_scan.specs.Judging.{IsReached, IsJudged}
 use Rattle.wsn_list.specs.Listing.{IsListedAs}
 use Rattle.wsn_events.specs.Normalised.{IsNormalised}
+use Rattle.wsn_redact.specs.Redacting.{IsRedactedInput}
 use Rattle.wsn_print.specs.declared.style.Style.{Style}
 use Rattle.wsn_show.specs.StreamShows.{IsStreamShown}
 use Rattle.wsn_plan.specs.declared.planning.PlanAnswer.{PlanAnswer}
@@ -26,7 +27,7 @@ use Rattle.wsn_command.specs.declared.answered.Answer.{Answer}
 use Rattle.wsn_command.specs.declared.answered.Answer.TheVariants.{FaultyLine, Stopped}
 use Rattle.wsn_command.specs.declared.answered.Ran.{Ran}
 use Rattle.wsn_command.specs.declared.job.Job.{Job}
-use Rattle.wsn_command.specs.declared.job.Job.TheVariants.{Judge, Frames, Normal, Plan, Recut, Payload, ShowStream, Closing, Show}
+use Rattle.wsn_command.specs.declared.job.Job.TheVariants.{Judge, Frames, Normal, Redact, Plan, Recut, Payload, ShowStream, Closing, Show, RedactCapture}
 use Rattle.wsn_job.specs.declared.done.Done.{Done}
 use Rattle.wsn_job.specs.declared.done.Done.TheVariants as done
 use Rattle.wsn_job.specs.Channels.{Channels, channels}
@@ -34,6 +35,7 @@ use Rattle.wsn_print.specs.Statuses.{verdict_status}
 use Rattle.wsn_job.specs.Answers.{ran_with, verdict_answer, plan_answer, recut_answer, payload_answer}
 use Rattle.wsn_job.specs.Diagnostics.{IsDiagnosed, IsStopDiagnosed}
 use Rattle.wsn_job.specs.Jobs.{IsRun}
+use Rattle.wsn_job.specs.Redactions.{redact_status}
 use Rattle.wsn_job.specs.Plans.{IsPlanPrinted, IsPlanDiagnosed, plan_status}
 use Rattle.wsn_payload.specs.declared.answer.Payload.TheVariants.{Whole, Unfinished, Inside, Head, Nothing}
 use Rattle.wsn_payload.specs.declared.answer.Payload.{Payload as Taken}
@@ -90,6 +92,14 @@ module _ (role : Role) (limits : Limits) (old new : Incoming) (failed : new.fail
   normalised before after (Err stop.InputLimit) is = let h : new.failed ≡ false = is.written.1.0.2 in absurd cc
   normalised before after (Err stop.Memory) is = let h : new.failed ≡ false = is.written.1.2 in absurd cc
   normalised before after (Err stop.Write) is = let h : new.failed ≡ false = is.written.0 in absurd cc
+
+  redacted : (before after : Outgoing) (result : Result Verdict Stop) →
+      IsRedactedInput role limits old new before after result → result ≡ Err stop.Read
+  redacted before after (Ok verdict) is = let h : new.failed ≡ false = is.answer.3 in absurd cc
+  redacted before after (Err stop.Read) is = refl
+  redacted before after (Err stop.InputLimit) is = let h : new.failed ≡ false = is.answer.2 in absurd cc
+  redacted before after (Err stop.Memory) is = absurd is.answer
+  redacted before after (Err stop.Write) is = let h : new.failed ≡ false = is.answer.1 in absurd cc
 
   planned : {A : Type 0} (result : Result (PlanAnswer A) Stop) → IsPlanned {A = A} role limits old new result →
       result ≡ Err stop.Read
@@ -151,6 +161,9 @@ run_of_failed_read (Frames role limits format) before after (done.Frames answer)
 run_of_failed_read (Normal role limits) before after (done.Normal answer) may is failed errors said =
     let stopped = normalised role limits before.input after.input failed before.output after.output answer is in
     (answer, is, no_answer verdict_status verdict_answer answer refl stopped, subst (λ (a : Result Verdict Stop). IsVerdictDiagnosed a before.errors errors) (sym stopped) said)
+run_of_failed_read (Redact role limits) before after (done.Redact answer) may is failed errors said =
+    let stopped = redacted role limits before.input after.input failed before.output after.output answer is in
+    (answer, is, no_answer redact_status verdict_answer answer refl stopped, subst (λ (a : Result Verdict Stop). IsStopDiagnosed a before.errors errors) (sym stopped) said)
 run_of_failed_read {A} (Plan role limits) before after (done.Plan answer) may is failed errors said =
     let stopped = plan_printed role limits before.input after.input failed before.output after.output answer is in
     (answer, is, no_answer plan_status plan_answer answer refl stopped, subst (λ (a : Result (PlanAnswer A) Stop). IsPlanDiagnosed a before.errors errors) (sym stopped) said)
@@ -165,6 +178,7 @@ run_of_failed_read (ShowStream role limits style) before after (done.ShowStream 
     (answer, is, no_answer verdict_status verdict_answer answer refl stopped, subst (λ (a : Result Verdict Stop). IsStopDiagnosed a before.errors errors) (sym stopped) said)
 run_of_failed_read (Closing limits format) before after d may is failed errors said = let h : false ≡ true = may.1 in absurd cc
 run_of_failed_read (Show limits style) before after d may is failed errors said = let h : false ≡ true = may.1 in absurd cc
+run_of_failed_read (RedactCapture limits) before after d may is failed errors said = let h : false ≡ true = may.1 in absurd cc
 run_of_failed_read job before after d may is failed errors said = absurd is
 
 -- A run over a side that ended with no faulty line.

@@ -13,7 +13,9 @@ use Rattle.wsn_payload.specs.declared.answer.Payload.{Payload}
 use Rattle.wsn_payload.specs.declared.answer.Payload.TheVariants as payloads
 use Rattle.wsn_capture.specs.declared.capture_stop.CaptureStop.TheVariants as capture
 use Rattle.wsn_show.specs.declared.showing.ShowStop.{ShowStop}
-use Rattle.wsn_show.specs.declared.showing.ShowStop.TheVariants.{Capture, Write}
+use Rattle.wsn_show.specs.declared.showing.ShowStop.TheVariants.{Capture}
+use Rattle.wsn_redact.specs.declared.capture_redacting.RedactStop.{RedactStop}
+use Rattle.wsn_redact.specs.declared.capture_redacting.RedactStop.TheVariants as redacting
 use Rattle.wsn_command.specs.declared.answered.Answer.{Answer}
 use Rattle.wsn_command.specs.declared.answered.Answer.TheVariants.{Verdict, Report, Other, FaultyLine, Stopped}
 use Rattle.wsn_command.specs.declared.answered.Ran.{Ran}
@@ -53,6 +55,12 @@ abbrev pub report_answer : Result GivenReport ShowStop → Answer
 report_answer (Ok report) = Report report
 report_answer (Err (Capture (capture.Line number fault))) = FaultyLine
 report_answer (Err stopped) = Stopped
+
+-- another answer than a report once a capture's redaction is written; a line that isn't accepted, or any other stop
+abbrev pub redacted_answer : Result (Unit {0}) RedactStop → Answer
+redacted_answer (Ok done) = Other
+redacted_answer (Err (redacting.Capture (capture.Line number fault))) = FaultyLine
+redacted_answer (Err stopped) = Stopped
 
 -- The verdict on the stream that isn't accepted; any other answer is of two accepted streams.
 abbrev pub compared_answer : Result Compared Stop → Answer

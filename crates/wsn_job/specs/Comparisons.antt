@@ -4,7 +4,7 @@ use Rattle.wsn_io.specs.Transfer.{IsWritten, IsPartlyWritten}
 use Rattle.wsn_io.specs.declared.stop.Stop.{Stop}
 use Rattle.wsn_io.specs.declared.stop.Stop.TheVariants as stop
 use Rattle.wsn_print.specs.Formats.{comparison_text}
-use Rattle.wsn_print.specs.DifferenceText.{difference_text}
+use Rattle.wsn_shown_text.specs.DifferenceText.{difference_text}
 use Rattle.wsn_rules.specs.LeftOut.{events_without}
 use Rattle.wsn_rules.specs.ShownStream.{Item}
 use Rattle.wsn_rules.specs.ShownEvents.{IsShownAt}

@@ -4,15 +4,18 @@ use Rattle.wsn_io.specs.Transfer.{Incoming, Outgoing}
 use Rattle.wsn_print.specs.Statuses.{verdict_status}
 use Rattle.wsn_list.specs.Listing.{IsListedAs}
 use Rattle.wsn_events.specs.Normalised.{IsNormalised}
+use Rattle.wsn_redact.specs.Redacting.{IsRedactedInput}
+use Rattle.wsn_redact.specs.RedactingCaptures.{IsRedactedCaptureInput}
 use Rattle.wsn_command.specs.declared.job.Job.{Job}
-use Rattle.wsn_command.specs.declared.job.Job.TheVariants.{Judge, Frames, Normal, Plan, Recut, Payload, ShowStream, Closing, Show}
+use Rattle.wsn_command.specs.declared.job.Job.TheVariants.{Judge, Frames, Normal, Redact, Plan, Recut, Payload, ShowStream, Closing, Show, RedactCapture}
 use Rattle.wsn_command.specs.declared.answered.Answer.{Answer}
 use Rattle.wsn_command.specs.declared.answered.Ran.{Ran}
 use Rattle.wsn_job.specs.declared.done.Done.{Done}
 use Rattle.wsn_job.specs.declared.done.Done.TheVariants as done
-use Rattle.wsn_job.specs.Answers.{ran_with, verdict_answer, plan_answer, recut_answer, payload_answer, report_answer}
+use Rattle.wsn_job.specs.Answers.{ran_with, verdict_answer, plan_answer, recut_answer, payload_answer, report_answer, redacted_answer}
 use Rattle.wsn_job.specs.Diagnostics.{IsStopDiagnosed}
 use Rattle.wsn_job.specs.Verdicts.{IsVerdictPrinted, IsVerdictDiagnosed}
+use Rattle.wsn_job.specs.Redactions.{redact_status, redact_capture_status, IsRedactDiagnosed}
 use Rattle.wsn_job.specs.Plans.{IsPlanPrinted, IsPlanDiagnosed, plan_status}
 use Rattle.wsn_plan.specs.Recutting.{IsRecut}
 use Rattle.wsn_job.specs.Recuts.{IsRecutDiagnosed, planned_by, recut_status}
@@ -30,6 +33,8 @@ IsDone (Frames role limits format) old new before after (done.Frames answer) =
     IsListedAs format role limits old new before after answer
 IsDone (Normal role limits) old new before after (done.Normal answer) =
     IsNormalised role limits old new before after answer
+IsDone (Redact role limits) old new before after (done.Redact answer) =
+    IsRedactedInput role limits old new before after answer
 IsDone (Plan role limits) old new before after (done.Plan answer) = IsPlanPrinted role limits old new before after answer
 IsDone (Recut role limits how) old new before after (done.Recut answer) =
     IsRecut role limits (planned_by how) old new before after answer
@@ -40,6 +45,8 @@ IsDone (ShowStream role limits style) old new before after (done.ShowStream answ
 IsDone (Closing limits format) old new before after (done.Closing answer) =
     IsReportPrinted format limits old new before after answer
 IsDone (Show limits style) old new before after (done.Show answer) = IsShown limits style old new before after answer
+IsDone (RedactCapture limits) old new before after (done.RedactCapture answer) =
+    IsRedactedCaptureInput limits old new before after answer
 IsDone job old new before after answer = ⊥
 
 -- the exit status
@@ -47,24 +54,28 @@ abbrev pub done_status : {A : Type 0} → Done A → ℕ
 done_status (done.Judge answer) = verdict_status answer
 done_status (done.Frames answer) = verdict_status answer
 done_status (done.Normal answer) = verdict_status answer
+done_status (done.Redact answer) = redact_status answer
 done_status (done.Plan answer) = plan_status answer
 done_status (done.Recut answer) = recut_status answer
 done_status (done.Payload at answer) = payload_status answer
 done_status (done.ShowStream answer) = verdict_status answer
 done_status (done.Closing answer) = closing_status answer
 done_status (done.Show answer) = closing_status answer
+done_status (done.RedactCapture answer) = redact_capture_status answer
 
 -- the answer
 abbrev pub done_answer : {A : Type 0} → Done A → Answer
 done_answer (done.Judge answer) = verdict_answer answer
 done_answer (done.Frames answer) = verdict_answer answer
 done_answer (done.Normal answer) = verdict_answer answer
+done_answer (done.Redact answer) = verdict_answer answer
 done_answer (done.Plan answer) = plan_answer answer
 done_answer (done.Recut answer) = recut_answer answer
 done_answer (done.Payload at answer) = payload_answer answer
 done_answer (done.ShowStream answer) = verdict_answer answer
 done_answer (done.Closing answer) = report_answer answer
 done_answer (done.Show answer) = report_answer answer
+done_answer (done.RedactCapture answer) = redacted_answer answer
 
 -- what the run came to
 abbrev pub done_ran : {A : Type 0} → Done A → Ran
@@ -75,9 +86,11 @@ abbrev pub IsDoneDiagnosed : {A : Type 0} → Done A → Outgoing → Outgoing �
 IsDoneDiagnosed (done.Judge answer) old new = IsStopDiagnosed answer old new
 IsDoneDiagnosed (done.Frames answer) old new = IsStopDiagnosed answer old new
 IsDoneDiagnosed (done.Normal answer) old new = IsVerdictDiagnosed answer old new
+IsDoneDiagnosed (done.Redact answer) old new = IsStopDiagnosed answer old new
 IsDoneDiagnosed (done.Plan answer) old new = IsPlanDiagnosed answer old new
 IsDoneDiagnosed (done.Recut answer) old new = IsRecutDiagnosed answer old new
 IsDoneDiagnosed (done.Payload at answer) old new = IsPayloadDiagnosed at answer old new
 IsDoneDiagnosed (done.ShowStream answer) old new = IsStopDiagnosed answer old new
 IsDoneDiagnosed (done.Closing answer) old new = IsClosingDiagnosed answer old new
 IsDoneDiagnosed (done.Show answer) old new = IsClosingDiagnosed answer old new
+IsDoneDiagnosed (done.RedactCapture answer) old new = IsRedactDiagnosed answer old new

@@ -1,7 +1,7 @@
 //! What a run answered, by what its work came to.
 
 ghost use Rattle.std.specs.Prelude.{◌≡◌};
-ghost use Rattle.wsn_job.specs.Answers.{verdict_answer, plan_answer, recut_answer, payload_answer, report_answer, compared_answer};
+ghost use Rattle.wsn_job.specs.Answers.{verdict_answer, plan_answer, recut_answer, payload_answer, report_answer, redacted_answer, compared_answer};
 
 use std::alloc::Allocator;
 use wsn_capture::{CaptureStop, Report};
@@ -10,6 +10,7 @@ use wsn_events::Compared;
 use wsn_io::Stop;
 use wsn_payload::Payload;
 use wsn_plan::{PlanAnswer, RecutAnswer};
+use wsn_redact::RedactStop;
 use wsn_rules::Verdict;
 use wsn_show::ShowStop;
 
@@ -67,6 +68,18 @@ pub(crate) fn of_report(done: Result<Report, ShowStop>) -> Answer
         Err(ShowStop::Capture(CaptureStop::Line { .. })) => Answer::FaultyLine,
         Err(ShowStop::Capture(CaptureStop::Read)) => Answer::Stopped,
         Err(ShowStop::Write) => Answer::Stopped,
+    }
+}
+
+/// That a capture's redaction is written, unless the work stopped; a line that isn't accepted is a stop of its own.
+pub(crate) fn of_redaction(done: Result<(), RedactStop>) -> Answer
+    ensures { result ≡ redacted_answer done }
+{
+    match done {
+        Ok(()) => Answer::Other,
+        Err(RedactStop::Capture(CaptureStop::Line { .. })) => Answer::FaultyLine,
+        Err(RedactStop::Capture(CaptureStop::Read)) => Answer::Stopped,
+        Err(RedactStop::Write) => Answer::Stopped,
     }
 }
 

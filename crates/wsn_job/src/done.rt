@@ -1,6 +1,6 @@
 use crate::diagnostics::diagnose_if_stopped;
 use crate::verdicts::diagnose_unless_accepted;
-use crate::{answers, closings, payloads, plans, recuts};
+use crate::{answers, closings, payloads, plans, recuts, redactions};
 use std::alloc::Allocator;
 use std::io::Write;
 use wsn_capture::Report;
@@ -9,6 +9,7 @@ use wsn_io::{Output, Stop};
 use wsn_payload::Payload;
 use wsn_plan::{PlanAnswer, RecutAnswer};
 use wsn_print::status_of_verdict;
+use wsn_redact::RedactStop;
 use wsn_rules::Verdict;
 use wsn_show::ShowStop;
 
@@ -18,6 +19,7 @@ pub(crate) enum Done<A: Allocator> {
     Judge(Result<Verdict, Stop>),
     Frames(Result<Verdict, Stop>),
     Normal(Result<Verdict, Stop>),
+    Redact(Result<Verdict, Stop>),
     Plan(Result<PlanAnswer<A>, Stop>),
     Recut(Result<RecutAnswer, Stop>),
     /// With the offset that was asked for.
@@ -25,6 +27,7 @@ pub(crate) enum Done<A: Allocator> {
     ShowStream(Result<Verdict, Stop>),
     Closing(Result<Report, ShowStop>),
     Show(Result<Report, ShowStop>),
+    RedactCapture(Result<(), RedactStop>),
 }
 
 impl<A: Allocator> Done<A> {
@@ -37,9 +40,10 @@ impl<A: Allocator> Done<A> {
         ensures { IsDoneDiagnosed self.now errors.old errors.new }
     {
         match self {
-            Done::Judge(done) | Done::Frames(done) | Done::ShowStream(done) => {
-                diagnose_if_stopped(*done, errors);
-            }
+            Done::Judge(done) | Done::Frames(done) | Done::Redact(done) | Done::ShowStream(done) =>
+                {
+                    diagnose_if_stopped(*done, errors);
+                }
             Done::Normal(done) => diagnose_unless_accepted(*done, errors),
             Done::Plan(done) => plans::diagnose_answer(done, errors),
             Done::Recut(done) => recuts::diagnose_answer(*done, errors),
@@ -47,6 +51,7 @@ impl<A: Allocator> Done<A> {
             Done::Closing(done) | Done::Show(done) => {
                 closings::diagnose_closing(*done, errors);
             }
+            Done::RedactCapture(done) => redactions::diagnose_redaction(*done, errors),
         }
     }
 
@@ -58,10 +63,12 @@ impl<A: Allocator> Done<A> {
         match self {
             Done::Judge(done) | Done::Frames(done) | Done::Normal(done) | Done::ShowStream(done) =>
                 status_of_verdict(*done),
+            Done::Redact(done) => redactions::status(*done),
             Done::Plan(done) => plans::status(done),
             Done::Recut(done) => recuts::status(*done),
             Done::Payload(_, done) => payloads::status(*done),
             Done::Closing(done) | Done::Show(done) => closings::status(*done),
+            Done::RedactCapture(done) => redactions::capture_status(*done),
         }
     }
 
@@ -70,12 +77,16 @@ impl<A: Allocator> Done<A> {
         ensures { result ≡ done_answer self.now }
     {
         match self {
-            Done::Judge(done) | Done::Frames(done) | Done::Normal(done) | Done::ShowStream(done) =>
-                answers::of_verdict(*done),
+            Done::Judge(done)
+            | Done::Frames(done)
+            | Done::Normal(done)
+            | Done::Redact(done)
+            | Done::ShowStream(done) => answers::of_verdict(*done),
             Done::Plan(done) => answers::of_plan(done),
             Done::Recut(done) => answers::of_recut(*done),
             Done::Payload(_, done) => answers::of_payload(*done),
             Done::Closing(done) | Done::Show(done) => answers::of_report(*done),
+            Done::RedactCapture(done) => answers::of_redaction(*done),
         }
     }
 

@@ -16,6 +16,7 @@ pub mod laws;
 mod payloads;
 mod plans;
 mod recuts;
+mod redactions;
 mod running;
 mod sides;
 pub mod status_examples;

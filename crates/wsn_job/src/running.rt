@@ -15,14 +15,15 @@ use wsn_command::{Job, Ran};
 use wsn_events::normalise;
 use wsn_list::list_as;
 use wsn_payload::payload;
+use wsn_redact::{redact, redact_capture};
 use wsn_show::{show, show_stream};
 use wsn_wire::{Input, Output};
 
 /// Does a command's work and returns the program's exit status and the answer.
 ///
-/// Status 0: the command did its work on an accepted stream, or both sides of the connection sent a Close. 1: any other
-/// answer; one that isn't printed on `output` is reported in one line on `errors`. 2: a stop, which is reported in one
-/// line on `errors`. What can't be written to `errors` is dropped.
+/// Status 0: the command did its work on an accepted stream, or both sides of the connection sent a Close, or a stream
+/// or a capture was redacted. 1: any other answer; one that isn't printed on `output` is reported in one line on `errors`.
+/// 2: a stop, which is reported in one line on `errors`. What can't be written to `errors` is dropped.
 #[tactic(none)]
 pub fn run<A: Allocator + Copy, R: Read, W: Write, E: Write>(
     alloc: A,
@@ -73,6 +74,7 @@ pub(crate) fn work<A: Allocator + Copy, R: Read, W: Write>(
         Job::Normal(role, limits) => {
             Done::Normal(normalise(alloc, input, output, *role, *limits))
         }
+        Job::Redact(role, limits) => Done::Redact(redact(input, output, *role, *limits)),
         Job::Plan(role, limits) => Done::Plan(print_plan(alloc, input, *role, *limits, output)),
         Job::Recut(role, limits, how) => {
             Done::Recut(recut_input(alloc, input, *role, *limits, how, output))
@@ -87,5 +89,6 @@ pub(crate) fn work<A: Allocator + Copy, R: Read, W: Write>(
             Done::Closing(print_report(input, *limits, *format, output))
         }
         Job::Show(limits, style) => Done::Show(show(input, output, *limits, *style)),
+        Job::RedactCapture(limits) => Done::RedactCapture(redact_capture(input, output, *limits)),
     }
 }

@@ -5,7 +5,7 @@ use Rattle.std.proofs.lemmas.Bool.{and_parts, or_cases, cases_lt}
 use Rattle.std.proofs.lemmas.Bool.Decides.{nat_tests}
 use Rattle.wsn_print.specs.declared.escapes.TheConstants.{SECOND_LOW}
 use Rattle.wsn_print.specs.Runs.{first_high, first_low, class_of}
-use Rattle.wsn_print.specs.ShownText.{is_from, is_in, hidden_ranges, is_hidden}
+use Rattle.wsn_print.specs.EscapedText.{is_from, is_in, hidden_ranges, is_hidden}
 
 -- ---- tests
 

@@ -1,18 +1,10 @@
 pub mod ReportTexts
-pub mod CharacterPieces
 pub mod ComputedHeads
 pub mod Pieces
 pub mod Gathered
-pub mod HeldViews
-pub mod JsonTexts
-pub mod VisibleTexts
-pub mod TextFronts
-pub mod VisibleLines
-pub mod CommentLines
+pub mod HeldParts
 pub mod Appended
-pub mod ObjectPieces
 pub mod FrameObjects
-pub mod PlacedItems
 pub mod DigitPairs
 pub mod PutParts
 pub mod MaskedLanes
@@ -20,4 +12,3 @@ pub mod RunTexts
 pub mod HiddenRanges
 pub mod PlainStarts
 pub mod RunCharacters
-pub mod DifferingParts

@@ -4,9 +4,8 @@ use Rattle.std.specs.Prelude.{nat_le, nat_lt, Option, None, Some, List, length, 
 use Rattle.std.proofs.lemmas.Bool.{cases_Bool, cases_lt, and_parts}
 use Rattle.std.proofs.lemmas.Bool.Decides.{nat_tests}
 use Rattle.std.proofs.lemmas.List.{get_or_past}
-use Rattle.wsn_print.specs.CharacterText.{is_continuation}
+use Rattle.wsn_print.specs.EscapedText.{is_continuation, is_from, is_hidden}
 use Rattle.wsn_print.specs.Runs.{class_of, hidden_from, hidden_of}
-use Rattle.wsn_print.specs.ShownText.{is_from, is_hidden}
 use Rattle.wsn_print.proofs.HiddenRanges.{from_is, from_low, from_high, hidden_scalar, of_one_byte, of_two_bytes, of_three_bytes, of_four_bytes}
 
 -- The hidden character that c is, with some bytes after its first; none, if it isn't hidden.

@@ -12,7 +12,7 @@ use Rattle.std.specs.Str.{IsUtf8, chars, encode_utf8_all}
 use Rattle.hex.specs.Hex.{encode_with, encode_lower}
 use Rattle.wsn_print.specs.declared.escapes.Escapes.{Escapes}
 use Rattle.wsn_print.specs.declared.escapes.Escapes.TheVariants.{Comment, Quoted}
-use Rattle.wsn_print.specs.ShownText.{is_hidden, unicode_escape, ascii_escape, shown_character}
+use Rattle.wsn_print.specs.EscapedText.{is_hidden, unicode_escape, ascii_escape, shown_character}
 use Rattle.wsn_print.specs.Runs.{escaped, escaped_after, escaped_character, class_of, IsPlainUpTo, takes_backslash, hidden_of, hidden_at, written_of, more_of, escaped_byte}
 
 -- A number's escape, in three parts.

@@ -1,4 +1,4 @@
--- Definitions of printed lines and of exit statuses, in reading order.
+-- Definitions of printed answers and of exit statuses, and of what is shown of a payload, in reading order.
 pub mod Fields
 pub mod VerdictText
 pub mod HeadText
@@ -10,15 +10,11 @@ pub mod PayloadText
 pub mod Statuses
 pub mod Json
 pub mod Objects
-pub mod ShownText
-pub mod CharacterText
-pub mod ShownObjects
-pub mod ShownParts
+pub mod EscapedText
 pub mod Formats
 pub mod NamedReportText
-pub mod QuotedTexts
+pub mod ShownParts
 pub mod DifferingPayloads
-pub mod DifferenceText
 pub mod HeldTexts
 pub mod Runs
 -- for the examples

@@ -5,7 +5,7 @@ use Rattle.wsn_print.specs.declared.format.Format.{Format}
 use Rattle.wsn_print.specs.declared.format.Format.TheVariants.{Text, Json}
 use Rattle.wsn_print.specs.Objects.{report_object}
 use Rattle.wsn_print.specs.ReportText.{side_text, outcome_word}
-use Rattle.wsn_print.specs.ShownText.{comment_text, quoted}
+use Rattle.wsn_print.specs.EscapedText.{comment_text, quoted}
 
 -- The outcome and what became of both streams, each after a tab.
 abbrev pub outcome_columns : Report → List ℕ

@@ -3,8 +3,7 @@ use Rattle.std.specs.Prelude.{◌≡◌, ℕ, zero, suc, ◌+◌, ◌*◌, ◌/�
 use Rattle.wsn_print.specs.declared.escapes.Escapes.{Escapes}
 use Rattle.wsn_print.specs.declared.escapes.Escapes.TheVariants.{Comment, Quoted}
 use Rattle.wsn_print.specs.declared.escapes.TheConstants.{FIRST_HIGH, FIRST_LOW, SECOND_LOW}
-use Rattle.wsn_print.specs.CharacterText.{is_continuation}
-use Rattle.wsn_print.specs.ShownText.{is_from, is_hidden, ascii_escape, comment_character, quoted_character}
+use Rattle.wsn_print.specs.EscapedText.{is_continuation, is_from, is_hidden, ascii_escape, comment_character, quoted_character}
 
 -- A character as it is written.
 abbrev pub escaped_character : Escapes → ℕ → List ℕ

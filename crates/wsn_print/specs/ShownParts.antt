@@ -1,6 +1,7 @@
 -- What the arguments of the functions that write entries stand for: times, and bytes of which only a part is held.
 use Rattle.std.specs.Prelude.{◌≡◌, ℕ, ◌-◌, ◌≤◌, ◌⊎◌, ⊤, Option, None, Some, option_copied, List, length, take, drop, codes}
 use Rattle.std.specs.Str.{IsUtf8}
+use Rattle.std.specs.Str.Lossy.{utf8_valid_len}
 use Rattle.wsn_wire.specs.declared.opcode.Kind.TheVariants as kinds
 use Rattle.wsn_wire.specs.declared.opcode.Op.{Op}
 use Rattle.wsn_wire.specs.declared.opcode.Op.TheVariants as ops
@@ -18,18 +19,44 @@ use Rattle.wsn_print.specs.declared.shown.HeldBytes.{HeldBytes}
 use Rattle.wsn_print.specs.declared.shown.ShownCharacter.{ShownCharacter}
 use Rattle.wsn_print.specs.declared.shown.Remainder.{Remainder}
 use Rattle.wsn_print.specs.declared.shown.Remainder.TheVariants as remainders
-use Rattle.wsn_print.specs.ShownObjects.{Position}
-use Rattle.wsn_print.specs.ShownObjects.Position.{InLine, AtEnd, InStream}
+
+-- ---- where an entry is
 
 -- The time in front of an entry.
 abbrev pub time_of : Front → Option (List ℕ)
 time_of front = option_copied front.time
 
 -- Where an entry is.
+pub data Position : Type 0 where
+  -- In a line of a capture: its number, from 1, and the time that holds for it.
+  InLine : ℕ → Option (List ℕ) → Position
+  -- At the end of a capture: the time that held when the endpoint's last bytes came.
+  AtEnd : Option (List ℕ) → Position
+  -- In a stream without a capture.
+  InStream : Position
+
+-- The time that is given for a position; none in a stream.
+abbrev pub time_at : Position → Option (List ℕ)
+time_at (InLine number time) = time
+time_at (AtEnd time) = time
+time_at InStream = None
+
+-- The number of the line, from 1; 0 outside of lines.
+abbrev pub number_at : Position → ℕ
+number_at (InLine number time) = number
+number_at position = 0
+
+-- Where this is.
 abbrev pub position_of : Origin → Position
 position_of (origins.Line number time) = InLine number (option_copied time)
 position_of (origins.End time) = AtEnd (option_copied time)
 position_of origins.Stream = InStream
+
+-- ---- bytes of which a part is held
+
+-- The number of the first bytes of a text that are shown: at most n, whole characters.
+abbrev pub text_part : ℕ → List ℕ → ℕ
+text_part n text = utf8_valid_len (take n text)
 
 -- The first bytes are held: all, or at least `least` of them.
 abbrev pub HoldsFirst : ℕ → List ℕ → List ℕ → Type 0
@@ -48,6 +75,13 @@ IsFrontOf least all bytes = (bytes.bytes ≡ length all) × HoldsFirst least all
 -- These are the number and the last bytes of all these bytes, at least `least` of them.
 abbrev pub IsEndOf : ℕ → List ℕ → HeldBytes → Type 0
 IsEndOf least all bytes = (bytes.bytes ≡ length all) × HoldsLast least all bytes.held.now
+
+-- ---- events
+
+-- The payload of an event.
+abbrev pub payload_in : MeantEvent → List ℕ
+payload_in (Message kind payload) = payload
+payload_in (Control op body) = body
 
 -- The event with this opcode and this payload. No event has the opcode of a continuation.
 abbrev pub event_of : Op → List ℕ → MeantEvent
@@ -94,6 +128,8 @@ abbrev pub StandsFor : ℕ → Option PlacedEvent → Option Item → Type 0
 StandsFor n None None = ⊤
 StandsFor n (Some placed) (Some (Event offset event frames)) = IsPlaced n placed offset event frames
 StandsFor n placed item = ⊥
+
+-- ---- bad characters, and bytes in no frame
 
 -- The bad character for which this stands.
 abbrev pub character_of : ShownCharacter → BadCharacter

@@ -42,7 +42,7 @@ fn put_verdict_of<W: Write>(
 }
 
 /// The line of a difference.
-pub(crate) fn line_of_difference(index: u64) -> Line<DIFFERENCE_LINE_MAX>
+pub fn line_of_difference(index: u64) -> Line<DIFFERENCE_LINE_MAX>
     ensures { result ≡ comparison_line (Compared.Different index) }
 {
     let mut line = Line::new();

@@ -1,9 +1,8 @@
 //! Which characters of a text are escaped, and where they are.
 ghost use Rattle.std.specs.Prelude.{◌≡◌, ◌≢◌, ℕ, suc, ◌+◌, ◌*◌, ◌%◌, ◌<◌, ◌≤◌, ◌^◌, length, map, get_or, IfSome};
 ghost use Rattle.std.specs.Simd.Lanes.{mask_l, zip2};
-ghost use Rattle.wsn_print.specs.CharacterText.{is_continuation};
+ghost use Rattle.wsn_print.specs.EscapedText.{is_continuation, is_hidden};
 ghost use Rattle.wsn_print.specs.Runs.{first_high, first_low, second_low, class_of, may_hide, IsPlainUpTo, hidden_from, hidden_of, takes_backslash};
-ghost use Rattle.wsn_print.specs.ShownText.{is_hidden};
 
 use std::simd::prelude::*;
 
@@ -162,8 +161,9 @@ fn hidden_from(least: u32, number: u32, more: usize) -> Option<(u32, usize)>
     }
 }
 
-/// Whether a character is hidden.
-fn is_hidden(number: u32) -> bool
+/// Whether a character has no shape of its own: it moves a terminal's cursor, changes how the text around it is shown, or
+/// isn't seen at all.
+pub fn is_hidden(number: u32) -> bool
     ensures { result ≡ is_hidden number }
 {
     match number {

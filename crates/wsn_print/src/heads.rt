@@ -55,7 +55,7 @@ fn put_op(op: Op, text: &mut [u8], at: usize) -> usize
 }
 
 /// The word for an opcode.
-pub(crate) fn op_word(op: Op) -> &'static str
+pub fn op_word(op: Op) -> &'static str
     ensures word { result.now ≡ op_word op }
     ensures short { length result.now ≤ 6 }
 {

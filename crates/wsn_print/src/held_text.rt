@@ -1,6 +1,6 @@
 ghost use Rattle.std.specs.Prelude.{◌≡◌, ℕ, ◌+◌, ◌*◌, ◌-◌, ◌<◌, ◌≤◌, List, ◌++◌, length, take, drop, flat_map, codes};
 ghost use Rattle.wsn_print.specs.Runs.{escaped, escaped_byte, IsPlainUpTo};
-ghost use Rattle.wsn_print.specs.ShownText.{unicode_escape, ascii_escape};
+ghost use Rattle.wsn_print.specs.EscapedText.{unicode_escape, ascii_escape};
 
 use crate::escapes::{BLOCK, Escapes, hidden_at_start, marks, plain_at_start, takes_backslash};
 use crate::kept_bytes::KeptBytes;

@@ -14,7 +14,7 @@ pub(crate) fn push_field<const MAX: usize>(line: &mut Line<MAX>, key: &str, valu
 }
 
 /// Appends a member whose value is a word.
-pub(crate) fn push_string_field<const MAX: usize>(line: &mut Line<MAX>, key: &str, word: &str)
+pub fn push_string_field<const MAX: usize>(line: &mut Line<MAX>, key: &str, word: &str)
     requires { length line.old + length key.now + length word.now + 6 ≤ MAX }
     ensures text { line.new ≡ line.old ++ string_field key.now word.now }
     ensures len { length line.new ≤ length line.old + length key.now + length word.now + 6 }
@@ -26,7 +26,7 @@ pub(crate) fn push_string_field<const MAX: usize>(line: &mut Line<MAX>, key: &st
 }
 
 /// Appends a member whose value is a number.
-pub(crate) fn push_number_field<const MAX: usize>(line: &mut Line<MAX>, key: &str, n: u64)
+pub fn push_number_field<const MAX: usize>(line: &mut Line<MAX>, key: &str, n: u64)
     requires { length line.old + length key.now + 24 ≤ MAX }
     ensures text { line.new ≡ line.old ++ number_field key.now n }
     ensures len { length line.new ≤ length line.old + length key.now + 24 }
@@ -36,11 +36,7 @@ pub(crate) fn push_number_field<const MAX: usize>(line: &mut Line<MAX>, key: &st
 }
 
 /// Appends a member whose value is a number, or null for `None`.
-pub(crate) fn push_number_or_null_field<const MAX: usize>(
-    line: &mut Line<MAX>,
-    key: &str,
-    n: Option<u64>,
-)
+pub fn push_number_or_null_field<const MAX: usize>(line: &mut Line<MAX>, key: &str, n: Option<u64>)
     requires { length line.old + length key.now + 24 ≤ MAX }
     ensures text { line.new ≡ line.old ++ number_or_null_field key.now n }
     ensures len { length line.new ≤ length line.old + length key.now + 24 }

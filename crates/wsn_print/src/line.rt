@@ -57,7 +57,7 @@ impl<const MAX: usize> Line<MAX> {
     }
 
     /// Appends another line.
-    pub(crate) fn push_line<const OTHER: usize>(&mut self, other: &Line<OTHER>)
+    pub fn push_line<const OTHER: usize>(&mut self, other: &Line<OTHER>)
         requires { length self.old + OTHER ≤ MAX }
         ensures text { self.new ≡ self.old ++ other.now }
         ensures len { length self.new ≤ length self.old + OTHER }
@@ -88,7 +88,7 @@ impl<const MAX: usize> Line<MAX> {
     }
 
     /// Appends a byte as it is.
-    pub(crate) fn push_byte(&mut self, b: u8)
+    pub fn push_byte(&mut self, b: u8)
         requires { length self.old + 1 ≤ MAX }
         ensures text { self.new ≡ self.old ++ b ∷ [] }
         ensures len { length self.new ≡ length self.old + 1 }
@@ -97,7 +97,7 @@ impl<const MAX: usize> Line<MAX> {
     }
 
     /// Appends bytes, at most 32, as two lower-case hexadecimal digits each.
-    pub(crate) fn push_hex(&mut self, bytes: &[u8])
+    pub fn push_hex(&mut self, bytes: &[u8])
         requires few { length bytes.now ≤ 32 }
         requires room { length self.old + 2 * length bytes.now ≤ MAX }
         ensures text { self.new ≡ self.old ++ encode_lower bytes.now }
@@ -110,7 +110,7 @@ impl<const MAX: usize> Line<MAX> {
     }
 
     /// Appends a space, the fields of a head and the LF, at most 49 bytes.
-    pub(crate) fn push_fields(&mut self, head: &HeadInfo)
+    pub fn push_fields(&mut self, head: &HeadInfo)
         requires { length self.old + 49 ≤ MAX }
         ensures text { self.new ≡ self.old ++ (codes " " ++ head_fields head.now ++ codes "\n") }
         ensures len { length self.new ≤ length self.old + 49 }
@@ -119,7 +119,7 @@ impl<const MAX: usize> Line<MAX> {
     }
 
     /// Appends the members of a head after its offset, the end of the object and the LF, at most 97 bytes.
-    pub(crate) fn push_members(&mut self, head: &HeadInfo)
+    pub fn push_members(&mut self, head: &HeadInfo)
         requires { length self.old + 97 ≤ MAX }
         ensures text { self.new ≡ self.old ++ (head_members head.now ++ codes "}\n") }
         ensures len { length self.new ≤ length self.old + 97 }

@@ -145,7 +145,7 @@ fn push_close<const MAX: usize>(line: &mut Line<MAX>, close: Option<Option<u16>>
 
 /// Appends the offset of the offending byte, under this key, the reason and the close code of a refusal.
 #[tactic(auto, using(crate::proofs::ReportTexts::word_short))]
-pub(crate) fn push_refusal<const MAX: usize>(line: &mut Line<MAX>, key: &str, refusal: &Refusal)
+pub fn push_refusal<const MAX: usize>(line: &mut Line<MAX>, key: &str, refusal: &Refusal)
     requires { length line.old + length key.now + 90 ≤ MAX }
     ensures text { line.new ≡ line.old ++ refusal_fields key.now refusal.now }
     ensures len { length line.new ≤ length line.old + length key.now + 90 }

@@ -3,7 +3,7 @@ ghost use Rattle.hex.specs.Hex.{encode_lower};
 ghost use Rattle.std.specs.Str.{chars, IsUtf8};
 ghost use Rattle.std.specs.Str.Lossy.{utf8_valid_len};
 ghost use Rattle.wsn_io.specs.Stops.{IsWrittenOrStops};
-ghost use Rattle.wsn_print.specs.ShownText.{is_hidden, unicode_escape, comment_character, quoted_character, quoted, comment_byte, comment_text, comment_line};
+ghost use Rattle.wsn_print.specs.EscapedText.{is_hidden, unicode_escape, comment_character, quoted_character, quoted, comment_byte, comment_text, comment_line};
 ghost use Rattle.wsn_print.specs.Runs.{escaped};
 ghost use Rattle.wsn_print.specs.HeldTexts.{IsHeldOrStops};
 
@@ -41,7 +41,7 @@ pub(crate) fn put_comment_text<W: Write>(to: &mut Output<W>, text: &[u8]) -> Res
 
 /// Writes a text in UTF-8 between quotation marks. It isn't validated.
 #[inline(never)]
-pub(crate) fn put_quoted<W: Write>(to: &mut Output<W>, text: &[u8]) -> Result<(), Stop>
+pub fn put_quoted<W: Write>(to: &mut Output<W>, text: &[u8]) -> Result<(), Stop>
     requires { to.old.failed ≡ false }
     ensures text { IsUtf8 text.now → IsWrittenOrStops to.old to.new (quoted text.now) result }
     ensures unfailed { IfOk result (λ done. to.new.failed ≡ false) }
@@ -56,7 +56,7 @@ pub(crate) fn put_quoted<W: Write>(to: &mut Output<W>, text: &[u8]) -> Result<()
 
 /// Writes the characters of a text that is quoted.
 #[inline(never)]
-pub(crate) fn put_quoted_characters<W: Write>(to: &mut Output<W>, text: &str) -> Result<(), Stop>
+pub fn put_quoted_characters<W: Write>(to: &mut Output<W>, text: &str) -> Result<(), Stop>
     requires { to.old.failed ≡ false }
     ensures { IsWrittenOrStops to.old to.new (flat_map quoted_character (chars text.now)) result }
 {

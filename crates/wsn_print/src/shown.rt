@@ -90,7 +90,7 @@ pub struct EntryFront<'a> {
 
 impl<'a> EntryFront<'a> {
     ghost use Rattle.std.specs.Prelude.{◌≡◌};
-    ghost use Rattle.wsn_print.specs.ShownObjects.{time_at};
+    ghost use Rattle.wsn_print.specs.ShownParts.{time_at};
     ghost use Rattle.wsn_print.specs.ShownParts.{time_of, position_of};
 
     /// What is in front of the entry's line.

@@ -6,9 +6,9 @@ use Rattle.std.proofs.lemmas.Str.{encodes-chars}
 use Rattle.hex.specs.Hex.{encode_lower}
 use Rattle.wsn_wire.specs.Frame.{IsBytes}
 use Rattle.wsn_print.specs.Json.{field, number_field}
-use Rattle.wsn_print.specs.ShownText.{quoted}
-use Rattle.wsn_print.specs.ShownObjects.{comment_object, comment_field, hex_field}
-use Rattle.wsn_print.proofs.VisibleTexts.{utf8_if_all}
+use Rattle.wsn_print.specs.EscapedText.{quoted}
+use Rattle.wsn_shown_text.specs.ShownObjects.{comment_object, comment_field, hex_field}
+use Rattle.wsn_shown_text.proofs.VisibleTexts.{utf8_if_all}
 use Rattle.wsn_print_laws.specs.JsonText.{Value, String, Object, Members, End, Member, HasDistinctNames, IsJsonLine, IsObjectLine}
 use Rattle.wsn_print_laws.specs.Answers.{IsInU64}
 use Rattle.wsn_print_laws.proofs.Fields.{number, one_number, one_line}

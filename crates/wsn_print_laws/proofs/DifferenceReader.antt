@@ -12,13 +12,14 @@ use Rattle.wsn_rules.specs.Meaning.{MeantEvent, Message, Control}
 use Rattle.wsn_rules.specs.ShownStream.{Item}
 use Rattle.wsn_rules.specs.ShownStream.Item.{Head}
 use Rattle.wsn_print.specs.Json.{field, string_field, number_field}
-use Rattle.wsn_print.specs.ShownText.{left_out, offset_of}
-use Rattle.wsn_print.specs.ShownObjects.{object_front, item_type}
-use Rattle.wsn_print.specs.ShownObjects.Position.{InStream}
-use Rattle.wsn_print.specs.DifferingPayloads.{place_in, ascii_character, ascii_quoted, view_start, payload_on, part_length, part_at, part_text, left_out_before, view_at, event_in, differ_field}
-use Rattle.wsn_print.specs.DifferenceText.{event_value, difference_object}
-use Rattle.wsn_print.proofs.DifferingParts.{no_view, view_is}
-use Rattle.wsn_print.proofs.HeldViews.{not_zero}
+use Rattle.wsn_shown_text.specs.ShownText.{left_out, offset_of}
+use Rattle.wsn_shown_text.specs.ShownObjects.{object_front, item_type}
+use Rattle.wsn_print.specs.ShownParts.Position.{InStream}
+use Rattle.wsn_print.specs.DifferingPayloads.{place_in, view_start, payload_on, part_length, part_at, event_in}
+use Rattle.wsn_shown_text.specs.DifferingText.{ascii_character, ascii_quoted, part_text, left_out_before, view_at, differ_field}
+use Rattle.wsn_shown_text.specs.DifferenceText.{event_value, difference_object}
+use Rattle.wsn_shown_text.proofs.DifferingParts.{no_view, view_is}
+use Rattle.wsn_shown_text.proofs.HeldViews.{not_zero}
 use Rattle.wsn_print_laws.specs.JsonText.{Null, String, Object, Members, Member, IsJsonLine}
 use Rattle.wsn_print_laws.specs.Answers.{IsInU64}
 use Rattle.wsn_print_laws.specs.ShownItems.{IsItemInRange}

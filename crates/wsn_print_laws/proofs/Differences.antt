@@ -12,13 +12,15 @@ use Rattle.wsn_rules.specs.Meaning.{MeantEvent, Message, Control}
 use Rattle.wsn_rules.specs.ShownStream.{Item}
 use Rattle.wsn_rules.specs.ShownStream.Item.{Event, Head}
 use Rattle.wsn_print.specs.Json.{field, string_field, number_field}
-use Rattle.wsn_print.specs.QuotedTexts.{payload_in, ShowsTextReason}
-use Rattle.wsn_print.specs.ShownText.{text_part, offset_of}
-use Rattle.wsn_print.specs.ShownObjects.{truncated_field, side_word, item_type, item_fields}
-use Rattle.wsn_print.specs.ShownObjects.Position.{InStream}
-use Rattle.wsn_print.specs.DifferingPayloads.{common_length, place_in, view_start, payload_on, part_length, part_at, part_field, view_value, place_value, event_in, differ_field}
-use Rattle.wsn_print.specs.DifferenceText.{event_value, difference_object}
-use Rattle.wsn_print.proofs.TextFronts.{part_is_utf8}
+use Rattle.wsn_print.specs.ShownParts.{payload_in, text_part}
+use Rattle.wsn_shown_text.specs.QuotedTexts.{ShowsTextReason}
+use Rattle.wsn_shown_text.specs.ShownText.{offset_of}
+use Rattle.wsn_shown_text.specs.ShownObjects.{truncated_field, side_word, item_type, item_fields}
+use Rattle.wsn_print.specs.ShownParts.Position.{InStream}
+use Rattle.wsn_print.specs.DifferingPayloads.{common_length, place_in, view_start, payload_on, part_length, part_at, event_in}
+use Rattle.wsn_shown_text.specs.DifferingText.{part_field, view_value, place_value, differ_field}
+use Rattle.wsn_shown_text.specs.DifferenceText.{event_value, difference_object}
+use Rattle.wsn_shown_text.proofs.TextFronts.{part_is_utf8}
 use Rattle.wsn_print_laws.specs.JsonText.{Value, Null, True, String, Object, Members, End, Member, IsValue, HasDistinctNames, AreDistinct, IsJsonLine, IsObjectLine}
 use Rattle.wsn_print_laws.specs.Answers.{IsInU64}
 use Rattle.wsn_print_laws.specs.ShownItems.{AreBytesInRange, IsItemInRange}

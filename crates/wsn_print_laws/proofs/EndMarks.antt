@@ -2,7 +2,8 @@
 use Rattle.std.proofs.Common.{◌≡◌, ℕ, List, ◌++◌, codes, refl, subst, append_assoc}
 use Rattle.wsn_wire.specs.declared.endpoint.Role.{Role}
 use Rattle.wsn_print.specs.Json.{string_field, number_field}
-use Rattle.wsn_print.specs.ShownObjects.{Position, line_field, side_word, time_key, time_value, end_object}
+use Rattle.wsn_print.specs.ShownParts.{Position}
+use Rattle.wsn_shown_text.specs.ShownObjects.{line_field, side_word, time_key, time_value, end_object}
 use Rattle.wsn_print_laws.specs.JsonText.{Value, String, Object, End, Member, IsJsonLine, IsObjectLine}
 use Rattle.wsn_print_laws.specs.Answers.{IsInU64}
 use Rattle.wsn_print_laws.specs.ShownItems.{IsPositionInRange}

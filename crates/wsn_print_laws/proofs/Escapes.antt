@@ -9,10 +9,10 @@ use Rattle.std.proofs.lemmas.Bool.Decides.{nat_tests}
 use Rattle.std.proofs.lemmas.Str.{encode_ascii}
 use Rattle.hex.specs.Hex.{encode_with, encode_upper}
 use Rattle.hex.proofs.HexLemmas.{decode_of-encode_upper}
-use Rattle.wsn_print.specs.ShownText.{is_from, ascii_escape}
-use Rattle.wsn_print.specs.QuotedTexts.{unescaped, IsUnitEscape, IsOfSurrogates, IsJsonCharacter}
-use Rattle.wsn_print.specs.DifferingPayloads.{ascii_character}
-use Rattle.wsn_print.proofs.JsonTexts.{two_bytes, surrogates_of, number_is}
+use Rattle.wsn_print.specs.EscapedText.{is_from, ascii_escape}
+use Rattle.wsn_shown_text.specs.QuotedTexts.{unescaped, IsUnitEscape, IsOfSurrogates, IsJsonCharacter}
+use Rattle.wsn_shown_text.specs.DifferingText.{ascii_character}
+use Rattle.wsn_shown_text.proofs.JsonTexts.{two_bytes, surrogates_of, number_is}
 use Rattle.wsn_print_laws.specs.JsonText.{AreCharacters, String, IsValue}
 
 scalar_most : (c : ℕ) → IsScalar c → c < 0x110000

@@ -3,7 +3,7 @@ use Rattle.std.proofs.Common.{◌≡◌, ℕ, ◌<◌, ◌≤◌, ◌==◌, inl,
 use Rattle.std.specs.Prelude.{⊤}
 use Rattle.std.specs.List.{AllByRecursion}
 use Rattle.std.proofs.lemmas.Bool.Decides.{nat_tests}
-use Rattle.wsn_print.specs.ShownText.{is_from}
+use Rattle.wsn_print.specs.EscapedText.{is_from}
 use Rattle.wsn_print_laws.specs.JsonText.{Are, ◌and_then◌, ◌or_else◌, Optional, IsDigit, AreDigits, StartAboveZero, IsInteger, IsFraction, IsExponent, IsNumber}
 
 -- A character that numbers have.

@@ -2,7 +2,7 @@
 use Rattle.std.proofs.Common.{◌≡◌, ℕ, ◌≤◌, ◌==◌, inl, inr, Bool, true, false, ◌||◌, if◌then◌else◌, List, [], ◌∷◌, ◌++◌, codes, refl, sym, ap, ◌∙◌, subst, arith}
 use Rattle.std.specs.List.{AllByRecursion}
 use Rattle.std.proofs.lemmas.Bool.Decides.{nat_tests}
-use Rattle.wsn_print.specs.ShownText.{is_from}
+use Rattle.wsn_print.specs.EscapedText.{is_from}
 use Rattle.wsn_print_laws.specs.JsonText.{Are, ◌and_then◌, ◌or_else◌, Optional, IsDigit, AreDigits, IsInteger, IsFraction, IsExponent, IsNumber}
 
 pub data State : Type 0 where

@@ -21,13 +21,14 @@ use Rattle.wsn_rules.specs.ShownStream.Item.{Event, Head, Unfinished, Unfinished
 use Rattle.wsn_print.specs.Fields.{op_word}
 use Rattle.wsn_print.specs.Json.{number_or_null, boolean, field, string_field, number_field, number_or_null_field}
 use Rattle.wsn_print.specs.Objects.{key_value, form_word, head_members}
-use Rattle.wsn_print.specs.QuotedTexts.{payload_in, ShowsTextReason}
-use Rattle.wsn_print.specs.ShownParts.{HasTextReason}
-use Rattle.wsn_print.specs.CharacterText.{from_character, bytes_before, text_before, leaves_out, shown_bytes, truncated_text, character_object, character_fields}
-use Rattle.wsn_print.specs.ShownText.{quoted, text_part, is_printable, event_word, event_size, offset_of}
-use Rattle.wsn_print.specs.ShownObjects.{Position, truncated_field, text_fields, hex_fields, end_fields, body_fields, reason_field, close_fields, event_view_fields, unfinished_view_fields, line_field, side_word, time_key, time_value, event_fields, item_type, item_fields, item_object}
-use Rattle.wsn_print.specs.ShownObjects.Position.{InLine, AtEnd, InStream}
-use Rattle.wsn_print.proofs.TextFronts.{part_is_utf8, whole_is_utf8}
+use Rattle.wsn_print.specs.ShownParts.{payload_in, HasTextReason, text_part, Position}
+use Rattle.wsn_shown_text.specs.QuotedTexts.{ShowsTextReason}
+use Rattle.wsn_shown_text.specs.CharacterText.{from_character, bytes_before, text_before, leaves_out, shown_bytes, truncated_text, character_object, character_fields}
+use Rattle.wsn_print.specs.EscapedText.{quoted}
+use Rattle.wsn_shown_text.specs.ShownText.{is_printable, event_word, event_size, offset_of}
+use Rattle.wsn_shown_text.specs.ShownObjects.{truncated_field, text_fields, hex_fields, end_fields, body_fields, reason_field, close_fields, event_view_fields, unfinished_view_fields, line_field, side_word, time_key, time_value, event_fields, item_type, item_fields, item_object}
+use Rattle.wsn_print.specs.ShownParts.Position.{InLine, AtEnd, InStream}
+use Rattle.wsn_shown_text.proofs.TextFronts.{part_is_utf8, whole_is_utf8}
 use Rattle.wsn_print_laws.specs.JsonText.{IsNumber, IsInteger, Value, Null, True, Number, String, Object, Members, End, Member, IsJsonLine}
 use Rattle.wsn_print_laws.specs.Answers.{IsInU64}
 use Rattle.wsn_print_laws.specs.ShownItems.{IsPositionInRange, IsCharacterInRange, IsItemInRange}

@@ -11,11 +11,12 @@ use Rattle.wsn_rules.specs.BadCharacter.{BadCharacter}
 use Rattle.wsn_rules.specs.Meaning.{MeantEvent, Message, Control}
 use Rattle.wsn_rules.specs.ShownStream.{Item}
 use Rattle.wsn_rules.specs.ShownStream.Item.{Event, Head, Unfinished, UnfinishedHead, RefusedFrame, Unread, Tail}
-use Rattle.wsn_print.specs.QuotedTexts.{ShowsTextReason}
-use Rattle.wsn_print.specs.CharacterText.{text_before, leaves_out, shown_bytes}
-use Rattle.wsn_print.specs.ShownText.{text_part, is_printable, event_word, event_size, offset_of}
-use Rattle.wsn_print.specs.ShownObjects.{Position, side_word, item_type, item_object}
-use Rattle.wsn_print.specs.ShownObjects.Position.{InLine, AtEnd, InStream}
+use Rattle.wsn_shown_text.specs.QuotedTexts.{ShowsTextReason}
+use Rattle.wsn_shown_text.specs.CharacterText.{text_before, leaves_out, shown_bytes}
+use Rattle.wsn_print.specs.ShownParts.{text_part, Position}
+use Rattle.wsn_shown_text.specs.ShownText.{is_printable, event_word, event_size, offset_of}
+use Rattle.wsn_shown_text.specs.ShownObjects.{side_word, item_type, item_object}
+use Rattle.wsn_print.specs.ShownParts.Position.{InLine, AtEnd, InStream}
 use Rattle.wsn_print_laws.specs.JsonText.{Value, Null, True, Number, String, Object, Members, End, Member, IsNew, HasDistinctNames, AreDistinct, IsObjectLine}
 use Rattle.wsn_print_laws.specs.ShownItems.{IsPositionInRange, IsItemInRange}
 use Rattle.wsn_print_laws.proofs.Fields.{number, optional_number, optional_distinct}

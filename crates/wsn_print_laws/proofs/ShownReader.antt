@@ -15,12 +15,14 @@ use Rattle.wsn_rules.specs.BadCharacter.{BadCharacter}
 use Rattle.wsn_rules.specs.Meaning.{MeantEvent, Message, Control}
 use Rattle.wsn_rules.specs.ShownStream.{Item}
 use Rattle.wsn_rules.specs.ShownStream.Item.{Event, Head, Unfinished, UnfinishedHead, RefusedFrame, Unread, Tail}
-use Rattle.wsn_print.specs.QuotedTexts.{payload_in, ShowsTextReason}
-use Rattle.wsn_print.specs.CharacterText.{text_before, leaves_out, shown_bytes, byte_escape, character_view}
-use Rattle.wsn_print.specs.ShownText.{quoted_character, text_part, text_view, hex_text, hex_view, end_view, is_printable, reason_text, close_view, event_view, unfinished_view, event_word, event_size, offset_of}
-use Rattle.wsn_print.specs.ShownObjects.{Position, side_word, item_type, item_object}
-use Rattle.wsn_print.specs.ShownObjects.Position.{InLine, AtEnd, InStream}
-use Rattle.wsn_print.proofs.HeldViews.{not_zero}
+use Rattle.wsn_print.specs.ShownParts.{payload_in, text_part, Position}
+use Rattle.wsn_shown_text.specs.QuotedTexts.{ShowsTextReason}
+use Rattle.wsn_shown_text.specs.CharacterText.{text_before, leaves_out, shown_bytes, byte_escape, character_view}
+use Rattle.wsn_print.specs.EscapedText.{quoted_character}
+use Rattle.wsn_shown_text.specs.ShownText.{text_view, hex_text, hex_view, end_view, is_printable, reason_text, close_view, event_view, unfinished_view, event_word, event_size, offset_of}
+use Rattle.wsn_shown_text.specs.ShownObjects.{side_word, item_type, item_object}
+use Rattle.wsn_print.specs.ShownParts.Position.{InLine, AtEnd, InStream}
+use Rattle.wsn_shown_text.proofs.HeldViews.{not_zero}
 use Rattle.wsn_print_laws.specs.JsonText.{Null, True, Number, String, Members, End, Member, IsJsonLine}
 use Rattle.wsn_print_laws.specs.Answers.{IsInU64}
 use Rattle.wsn_print_laws.specs.ShownItems.{IsPositionInRange, AreBytesInRange, IsCharacterInRange, IsItemInRange, AreAlike, HaveLikeCharacters, LookAlike}

@@ -5,9 +5,9 @@ use Rattle.std.proofs.lemmas.Bool.{and_parts}
 use Rattle.std.proofs.lemmas.Str.{encode_ascii, char_from_byte}
 use Rattle.std.specs.Char.{IsScalar, encode_utf8}
 use Rattle.std.specs.List.{AllByRecursion}
-use Rattle.wsn_print.specs.ShownText.{is_from}
-use Rattle.wsn_print.specs.QuotedTexts.{IsPlain, IsJsonCharacter, AreJsonCharacters}
-use Rattle.wsn_print.proofs.JsonTexts.{escape_begins, one_character}
+use Rattle.wsn_print.specs.EscapedText.{is_from}
+use Rattle.wsn_shown_text.specs.QuotedTexts.{IsPlain, IsJsonCharacter, AreJsonCharacters}
+use Rattle.wsn_shown_text.proofs.JsonTexts.{escape_begins, one_character}
 use Rattle.wsn_print_laws.specs.JsonText.{AreCharacters, IsString}
 
 -- ---- one character

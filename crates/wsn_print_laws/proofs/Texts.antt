@@ -7,9 +7,9 @@ use Rattle.std.specs.Str.{chars, IsUtf8, all_scalars}
 use Rattle.std.proofs.lemmas.Bool.{and_parts}
 use Rattle.std.proofs.lemmas.Str.{scalars-chars}
 use Rattle.wsn_print.specs.Json.{string_of, field}
-use Rattle.wsn_print.specs.ShownText.{quoted}
-use Rattle.wsn_print.specs.DifferingPayloads.{ascii_character, ascii_quoted}
-use Rattle.wsn_print.proofs.JsonTexts.{quoted_is_json}
+use Rattle.wsn_print.specs.EscapedText.{quoted}
+use Rattle.wsn_shown_text.specs.DifferingText.{ascii_character, ascii_quoted}
+use Rattle.wsn_shown_text.proofs.JsonTexts.{quoted_is_json}
 use Rattle.wsn_print_laws.specs.JsonText.{Value, Null, True, Number, String, Object, Members, End, Member, IsValue, AreOthers, IsJsonLine}
 use Rattle.wsn_print_laws.specs.Answers.{IsInU64}
 use Rattle.wsn_print_laws.proofs.Strings.{are_unescaped, one_after_another, plain_string}

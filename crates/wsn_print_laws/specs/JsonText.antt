@@ -4,7 +4,7 @@
 use Rattle.std.specs.Prelude.{◌≡◌, ◌≢◌, ℕ, ◌≤◌, ◌⊎◌, List, [], ◌∷◌, ◌++◌, codes, ⊤}
 use Rattle.std.specs.Char.{IsScalar}
 use Rattle.std.specs.List.{AllByRecursion}
-use Rattle.wsn_print.specs.QuotedTexts.{IsJsonCharacter}
+use Rattle.wsn_shown_text.specs.QuotedTexts.{IsJsonCharacter}
 
 -- ---- parts of a text
 

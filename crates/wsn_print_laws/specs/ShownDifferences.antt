@@ -3,8 +3,9 @@ use Rattle.std.specs.Prelude.{◌≡◌, ◌≢◌, ℕ, IfSome, Option, None, S
 use Rattle.wsn_rules.specs.Meaning.{MeantEvent}
 use Rattle.wsn_rules.specs.ShownStream.{Item}
 use Rattle.wsn_rules.specs.ShownStream.Item.{Head}
-use Rattle.wsn_print.specs.QuotedTexts.{ShowsTextReason}
-use Rattle.wsn_print.specs.DifferingPayloads.{place_in, view_start, view_at, event_in}
+use Rattle.wsn_shown_text.specs.QuotedTexts.{ShowsTextReason}
+use Rattle.wsn_print.specs.DifferingPayloads.{place_in, view_start, event_in}
+use Rattle.wsn_shown_text.specs.DifferingText.{view_at}
 use Rattle.wsn_print_laws.specs.Answers.{IsInU64}
 use Rattle.wsn_print_laws.specs.ShownItems.{IsItemInRange, LookAlike}
 

@@ -6,11 +6,10 @@ use Rattle.wsn_rules.specs.Meaning.{MeantEvent}
 use Rattle.wsn_rules.specs.ShownStream.{Item}
 use Rattle.wsn_rules.specs.ShownStream.Item.{Event, Head, Unfinished, UnfinishedHead, RefusedFrame, Unread, Tail}
 use Rattle.wsn_rules.specs.ShownCapture.{IsSeconds}
-use Rattle.wsn_print.specs.ShownObjects.{Position}
-use Rattle.wsn_print.specs.ShownObjects.Position.{InLine, AtEnd, InStream}
-use Rattle.wsn_print.specs.QuotedTexts.{payload_in}
-use Rattle.wsn_print.specs.ShownText.{event_word, event_size, event_view, unfinished_view, end_view, hex_view}
-use Rattle.wsn_print.specs.CharacterText.{character_view}
+use Rattle.wsn_print.specs.ShownParts.{Position, payload_in}
+use Rattle.wsn_print.specs.ShownParts.Position.{InLine, AtEnd, InStream}
+use Rattle.wsn_shown_text.specs.ShownText.{event_word, event_size, event_view, unfinished_view, end_view, hex_view}
+use Rattle.wsn_shown_text.specs.CharacterText.{character_view}
 use Rattle.wsn_print_laws.specs.Answers.{IsInU64, IsHeadInRange}
 
 -- ---- in range

@@ -1,5 +1,5 @@
-//! Laws of the JSON objects that `wsn_print` and `wsn_show` write: what a program that reads the lines of `wsn` with `--json` can rely
-//! on.
+//! Laws of the JSON objects that `wsn_print`, `wsn_shown_text` and `wsn_show` write: what a program that reads the lines
+//! of `wsn` with `--json` can rely on.
 //!
 //! [`laws`] has them. Two different answers never print the same object, so an object says all that its answer does
 //! ([`laws::law_answer_objects`]): a verdict ([`laws::law_verdict_objects`]), a frame's head
@@ -15,8 +15,9 @@
 //! ([`laws::law_one_value`]), and [`laws::law_what_is_not_json`] has texts that the grammar refuses. Which character two
 //! escaped surrogates are, [`laws::law_surrogates_are_a_character`] determines.
 //!
-//! The definitions of the objects are those of `wsn_print` (`specs/Objects.antt`, `ShownObjects.antt`,
-//! `DifferenceText.antt`) and of `wsn_show` (`specs/EndedBy.antt`), whose functions write them. Nothing here runs.
+//! The definitions of the objects are those of `wsn_print` (`specs/Objects.antt`), of `wsn_shown_text`
+//! (`specs/ShownObjects.antt`, `DifferenceText.antt`) and of `wsn_show` (`specs/EndedBy.antt`), whose functions write
+//! them. Nothing here runs.
 //!
 //! [`printed_captures`] has examples of what `show` prints of a whole capture, computed from the definitions.
 #![tactic(auto)]

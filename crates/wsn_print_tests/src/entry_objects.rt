@@ -4,12 +4,12 @@ use crate::reading::{expect_none, expect_object};
 use std::alloc::Global;
 use std::process::Abort;
 use wsn_io::Output;
-use wsn_print::{
-    EntryFront, HeldBytes, Origin, Remainder, ShownCharacter, ShownEvent, ViewLimit,
+use wsn_print::{EntryFront, HeldBytes, Origin, Remainder, ShownCharacter, ShownEvent, ViewLimit};
+use wsn_rules::{HeadInfo, Refusal};
+use wsn_shown_text::{
     put_comment_object, put_end_object, put_event_object, put_refused_object, put_remainder_object,
     put_shown_frame_object, put_unfinished_head_object, put_unfinished_object,
 };
-use wsn_rules::{HeadInfo, Refusal};
 use wsn_wire::{Form, Op, Reason, Role};
 
 /// In line 1 of a capture, with a time.

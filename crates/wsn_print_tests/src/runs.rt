@@ -5,9 +5,9 @@ use std::alloc::{AllocError, Global};
 use std::process::Abort;
 use std::str;
 use wsn_io::Output;
-use wsn_print::{
-    EntryFront, Front, Origin, ShownEvent, ViewLimit, put_comment, put_comment_object, put_event,
-    put_event_object, put_unfinished, put_unfinished_object,
+use wsn_print::{EntryFront, Front, Origin, ShownEvent, ViewLimit, put_comment};
+use wsn_shown_text::{
+    put_comment_object, put_event, put_event_object, put_unfinished, put_unfinished_object,
 };
 use wsn_wire::{Op, Role};
 

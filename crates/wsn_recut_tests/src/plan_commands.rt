@@ -8,7 +8,7 @@ use crate::recut_memory;
 use crate::recuts::{FITS, RecutRow};
 use std::alloc::{Allocator, Global};
 use std::process::Abort;
-use wsn_doubles::command_runs::{CommandRun, run_on};
+use wsn_command_runs::{CommandRun, run_on};
 use wsn_doubles::heaps::heap_of;
 use wsn_doubles::readers::Chopped;
 use wsn_doubles::vectors::limits_from;

@@ -7,7 +7,7 @@ use crate::recut_memory;
 use crate::sized_recuts::{SIZED_RECUTS, SizedRow};
 use std::alloc::{Allocator, Global};
 use std::process::Abort;
-use wsn_doubles::command_runs::{CommandRun, run_on};
+use wsn_command_runs::{CommandRun, run_on};
 use wsn_doubles::engines::KEY;
 use wsn_doubles::heaps::heap_of;
 use wsn_doubles::readers::Chopped;

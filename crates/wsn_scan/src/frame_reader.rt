@@ -107,7 +107,8 @@ impl FrameReader {
     {
         let from = self.at;
         let kind = message_kind(&self.buffer[from..self.end])?;
-        let (count, head) = event_in(&mut self.scan, &mut self.buffer, from, self.end)?;
+        let byte = first_byte_of(kind);
+        let (count, head) = event_in(byte, &mut self.scan, &mut self.buffer, from, self.end)?;
         self.at = from + count;
         self.from = self.at - head.len as usize;
         Some((kind, head.place))
@@ -223,9 +224,28 @@ fn message_kind(frame: &[u8]) -> Option<Kind>
     }
 }
 
-/// Passes `buffer[at..end]` to the scan, which takes an event. The bytes after those consumed don't change.
+/// The first byte of a message of this kind that is one frame (RFC 6455 section 5.2).
 #[inline(always)]
-fn event_in(scan: &mut Scan, buffer: &mut [u8], at: usize, end: usize) -> Option<(usize, HeadInfo)>
+fn first_byte_of(kind: Kind) -> u8
+    ensures { result ≡ first_byte true (op_of kind) }
+{
+    match kind {
+        Kind::Text => 0x81,
+        Kind::Binary => 0x82,
+    }
+}
+
+/// Passes `buffer[at..end]`, which begins with this byte, to the scan, which takes an event. The bytes after those
+/// consumed don't change.
+#[inline(always)]
+fn event_in(
+    byte: u8,
+    scan: &mut Scan,
+    buffer: &mut [u8],
+    at: usize,
+    end: usize,
+) -> Option<(usize, HeadInfo)>
+    requires first { take 1 (slice_range buffer.old at end) ≡ byte ∷ [] }
     requires within { (at ≤ end) × (end ≤ length buffer.old) }
     requires fits { end ≤ room_of scan.old + at }
     ensures in_bytes { IsBytes (slice_range buffer.old at end) }
@@ -241,7 +261,7 @@ fn event_in(scan: &mut Scan, buffer: &mut [u8], at: usize, end: usize) -> Option
     ensures whole { IfSome result (λ _. HasNoRest scan.new) }
     ensures none { IfNone result ((scan.new ≡ scan.old) × (buffer.new ≡ buffer.old)) }
 {
-    scan.next_event(&mut buffer[at..end])
+    scan.next_event_after(byte, &mut buffer[at..end])
 }
 
 /// Passes `buffer[at..end]` to the scan, which takes events. The bytes after those consumed don't change.

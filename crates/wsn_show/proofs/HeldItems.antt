@@ -19,9 +19,9 @@ use Rattle.wsn_print.specs.declared.shown.ShownEvent.{ShownEvent}
 use Rattle.wsn_print.specs.declared.shown.HeldBytes.{HeldBytes}
 use Rattle.wsn_print.specs.declared.shown.Remainder.{Remainder}
 use Rattle.wsn_print.specs.declared.shown.Remainder.TheVariants.{Unread, Tail}
-use Rattle.wsn_print.specs.CharacterText.{item_lines}
-use Rattle.wsn_print.specs.ShownText.{item_line}
-use Rattle.wsn_print.proofs.HeldViews.{first_held}
+use Rattle.wsn_shown_text.specs.CharacterText.{item_lines}
+use Rattle.wsn_shown_text.specs.ShownText.{item_line}
+use Rattle.wsn_print.proofs.HeldParts.{first_held}
 use Rattle.wsn_print.specs.ShownParts.{HoldsFirst, IsFrontOf, IsEndOf, event_of, Represents, HasTextReason, item_of_remainder}
 use Rattle.wsn_show.specs.declared.first_bytes.FirstBytes.{FirstBytes}
 use Rattle.wsn_show.specs.declared.last_bytes.LastBytes.{LastBytes}

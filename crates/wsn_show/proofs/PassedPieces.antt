@@ -12,7 +12,7 @@ use Rattle.wsn_rules.specs.Entries.{Entry}
 use Rattle.wsn_rules.specs.TextLines.{IsLine, ended}
 use Rattle.wsn_rules.proofs.TextLines.{ended-push, each_join}
 use Rattle.wsn_rules.specs.ShownCapture.{ShownLine, AreShownAfter}
-use Rattle.wsn_print.proofs.HeldViews.{rest_is}
+use Rattle.wsn_print.proofs.HeldParts.{rest_is}
 use Rattle.wsn_print.specs.declared.style.Style.{Style}
 use Rattle.wsn_show.specs.Styles.{styled_line}
 use Rattle.wsn_capture.specs.declared.capture_stop.CaptureStop.TheVariants as capture

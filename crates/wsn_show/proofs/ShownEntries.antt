@@ -12,8 +12,8 @@ use Rattle.wsn_rules.specs.Sides.{sent, bytes_in}
 use Rattle.wsn_rules.specs.ShownStream.{Item, Shown, IsShownStream, IsLeftOver}
 use Rattle.wsn_rules.specs.ShownCapture.{of_stream, beyond, GivesTime, GivesNoTime}
 use Rattle.wsn_rules.specs.ShownCapture.LineItem.{End, Comment}
-use Rattle.wsn_print.specs.ShownObjects.{Position}
-use Rattle.wsn_print.specs.Formats.{end_entry, comment_entry}
+use Rattle.wsn_print.specs.ShownParts.{Position}
+use Rattle.wsn_shown_text.specs.EntryFormats.{end_entry, comment_entry}
 use Rattle.wsn_capture.specs.CaptureLines.{count_of}
 use Rattle.wsn_print.specs.declared.style.Style.{Style}
 use Rattle.wsn_show.specs.Styles.{styled_item, styled_items, styled_line_item}

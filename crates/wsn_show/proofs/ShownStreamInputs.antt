@@ -22,7 +22,7 @@ use Rattle.wsn_rules.proofs.OneVerdict.{one_verdict}
 use Rattle.wsn_rules.proofs.StaysRefused.{place_within, stays_refused}
 use Rattle.wsn_rules.proofs.ShownStreams.{shown_goes_on}
 use Rattle.wsn_rules.proofs.ShownLines.{nothing_shown}
-use Rattle.wsn_print.specs.ShownObjects.Position.{InStream}
+use Rattle.wsn_print.specs.ShownParts.Position.{InStream}
 use Rattle.wsn_scan.specs.declared.refill.ReadChunk.{ReadChunk}
 use Rattle.wsn_scan.specs.Refill.{IsChunk, chunk_size, count_of}
 use Rattle.wsn_scan.specs.Judging.{IsReached, IsUnrefused}

@@ -23,7 +23,7 @@ use Rattle.wsn_rules.proofs.OpenOffsets.{offset_of_none, none_open}
 use Rattle.wsn_rules.proofs.Prefixes.{append_cancel}
 use Rattle.wsn_print.specs.declared.shown.ShownEvent.{ShownEvent}
 use Rattle.wsn_print.specs.ShownParts.{event_of, Represents, HasText}
-use Rattle.wsn_print.proofs.HeldViews.{first_held}
+use Rattle.wsn_print.proofs.HeldParts.{first_held}
 use Rattle.wsn_scan.specs.declared.part.Part.{Part}
 use Rattle.wsn_scan.specs.Positions.{Position, BetweenFrames, InFrame}
 use Rattle.wsn_show.specs.declared.entry_context.EntryContext.{EntryContext}

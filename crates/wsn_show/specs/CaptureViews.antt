@@ -19,8 +19,8 @@ use Rattle.wsn_show.specs.Styles.{styled_line_item, styled_line, styled_left, st
 use Rattle.wsn_capture.specs.declared.line_fault.LineFault.{LineFault}
 use Rattle.wsn_capture.specs.LineFaults.{HasFault}
 use Rattle.wsn_capture.specs.CaptureLines.{HasAccepted, HasNotedCloses, count_of}
-use Rattle.wsn_print.specs.ShownObjects.{Position}
-use Rattle.wsn_print.specs.ShownObjects.Position.{InLine}
+use Rattle.wsn_print.specs.ShownParts.{Position}
+use Rattle.wsn_print.specs.ShownParts.Position.{InLine}
 use Rattle.wsn_show.specs.StreamViews.{HasViewed}
 use Rattle.wsn_show.specs.declared.capture_view.CaptureView.{CaptureView}
 

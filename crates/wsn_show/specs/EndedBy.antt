@@ -10,7 +10,7 @@ use Rattle.wsn_rules.specs.Reports.{IsEndedEarly}
 use Rattle.wsn_print.specs.declared.format.Format.{Format}
 use Rattle.wsn_print.specs.declared.format.Format.TheVariants.{Text, Json}
 use Rattle.wsn_print.specs.Json.{string_field, field, boolean}
-use Rattle.wsn_print.specs.ShownObjects.{side_word}
+use Rattle.wsn_shown_text.specs.ShownObjects.{side_word}
 use Rattle.wsn_show.specs.declared.ended_by.EndedBy.{EndedBy}
 
 -- ---- who ended it

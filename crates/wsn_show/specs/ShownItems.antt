@@ -8,8 +8,7 @@ use Rattle.wsn_rules.specs.declared.head_info.HeadInfo.{HeadInfo}
 use Rattle.wsn_rules.specs.Meaning.{MeantEvent}
 use Rattle.wsn_rules.specs.ShownStream.{Item, items_of_final}
 use Rattle.wsn_rules.specs.ShownStream.Item.{Event, Head, Unfinished, UnfinishedHead, RefusedFrame}
-use Rattle.wsn_print.specs.ShownObjects.{Position}
-use Rattle.wsn_print.specs.ShownParts.{position_of, Represents, HasText, HasTextPayload, IsFrontOf, IsEndOf, character_in, item_of_remainder}
+use Rattle.wsn_print.specs.ShownParts.{Position, position_of, Represents, HasText, HasTextPayload, IsFrontOf, IsEndOf, character_in, item_of_remainder}
 use Rattle.wsn_show.specs.Styles.{styled_items}
 use Rattle.wsn_show.specs.declared.entry_context.EntryContext.{EntryContext}
 use Rattle.wsn_show.specs.declared.shown_item.ShownItem.{ShownItem}

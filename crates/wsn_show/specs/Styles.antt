@@ -6,9 +6,10 @@ use Rattle.wsn_rules.specs.declared.report.Report.{Report}
 use Rattle.wsn_rules.specs.declared.verdict.Verdict.{Verdict}
 use Rattle.wsn_rules.specs.ShownStream.{Item}
 use Rattle.wsn_rules.specs.ShownCapture.{LineItem, ShownLine, LeftAtEnd}
-use Rattle.wsn_print.specs.ShownObjects.{Position}
-use Rattle.wsn_print.specs.ShownObjects.Position.{AtEnd}
-use Rattle.wsn_print.specs.Formats.{item_entry, line_item_entry, line_entries, report_text, verdict_text}
+use Rattle.wsn_print.specs.ShownParts.{Position}
+use Rattle.wsn_print.specs.ShownParts.Position.{AtEnd}
+use Rattle.wsn_shown_text.specs.EntryFormats.{item_entry, line_item_entry, line_entries}
+use Rattle.wsn_print.specs.Formats.{report_text, verdict_text}
 use Rattle.wsn_print.specs.declared.style.Style.{Style}
 use Rattle.wsn_show.specs.declared.ended_by.EndedBy.{EndedBy}
 use Rattle.wsn_show.specs.EndedBy.{ended_by_text}

@@ -4,7 +4,7 @@ ghost use Rattle.wsn_rules.specs.Entries.{Entry};
 ghost use Rattle.wsn_rules.specs.Sides.{sent};
 ghost use Rattle.wsn_print.specs.declared.style.Style.{Style};
 ghost use Rattle.wsn_show.specs.StreamViews.{HasViewed};
-ghost use Rattle.wsn_print.specs.ShownObjects.Position.{InLine};
+ghost use Rattle.wsn_print.specs.ShownParts.Position.{InLine};
 ghost use Rattle.wsn_print.specs.ShownParts.{position_of};
 ghost use Rattle.wsn_capture.specs.CaptureLines.{count_of};
 ghost use Rattle.wsn_show.specs.CaptureViews.{ShowsMark};
@@ -17,8 +17,9 @@ use crate::times::{CurrentTime, LINE_MAX};
 use std::io::Write;
 use wsn_capture::{BYTES_MAX, CaptureLines, LineEntry, LineFault, Report, strip_cr};
 use wsn_io::{Output, put_line};
-use wsn_print::{EntryFront, Origin, Style, put_comment_as, put_end_as};
+use wsn_print::{EntryFront, Origin, Style};
 use wsn_rules::Limits;
+use wsn_shown_text::{put_comment_as, put_end_as};
 use wsn_wire::Role;
 
 /// Shows the lines of a capture one by one: prints what each completes. It keeps none of the lines.

@@ -3,8 +3,8 @@ ghost use Rattle.wsn_rules.specs.ShownStream.Item.{RefusedFrame};
 ghost use Rattle.wsn_show.specs.ShownItems.{IsItem, Prints, items_of_begun};
 ghost use Rattle.std.specs.Prelude.{◌≡◌, ℕ, ◌/◌, List, [], ◌∷◌, false};
 ghost use Rattle.wsn_io.specs.Stops.{IsWrittenOrStops};
-ghost use Rattle.wsn_print.specs.CharacterText.{item_lines};
-ghost use Rattle.wsn_print.specs.ShownObjects.{item_object, shown_frame_object};
+ghost use Rattle.wsn_shown_text.specs.CharacterText.{item_lines};
+ghost use Rattle.wsn_shown_text.specs.ShownObjects.{item_object, shown_frame_object};
 ghost use Rattle.wsn_print.specs.ShownParts.{time_of, position_of, IsEndOf, character_in};
 
 use crate::entry_context::EntryContext;
@@ -12,11 +12,13 @@ use std::io::Write;
 use wsn_io::{Output, Stop};
 use wsn_print::{
     EntryFront, Format, Front, HeldBytes, Remainder, ShownCharacter, ShownEvent, ViewLimit,
+};
+use wsn_rules::{Detail, HeadInfo, Refusal};
+use wsn_shown_text::{
     put_bad_character, put_event, put_event_object, put_frame, put_refused, put_refused_object,
     put_remainder, put_remainder_object, put_shown_frame_object, put_unfinished,
     put_unfinished_head, put_unfinished_head_object, put_unfinished_object,
 };
-use wsn_rules::{Detail, HeadInfo, Refusal};
 
 /// An item of a stream, of which as much is held as is printed.
 #[derive(Clone, Copy)]

@@ -7,7 +7,7 @@ use crate::rows::{
 };
 use std::alloc::Global;
 use std::process::Abort;
-use wsn_doubles::command_runs::run_on;
+use wsn_command_runs::run_on;
 use wsn_doubles::heaps::heap_of;
 use wsn_doubles::readers::{Chopped, READS};
 use wsn_doubles::vectors::greatest;

@@ -4,7 +4,7 @@ ghost use Rattle.wsn_command.specs.Jobs.{MayRun};
 use std::alloc::Global;
 use std::process::Abort;
 use std::str;
-use wsn_doubles::command_runs::{CommandRun, run_on};
+use wsn_command_runs::{CommandRun, run_on};
 use wsn_doubles::readers::Chopped;
 use wsn_doubles::writers::Narrow;
 use wsn_job::Job;

@@ -6,7 +6,7 @@ ghost use Rattle.wsn_command.specs.Jobs.{MayRun};
 use crate::expecting::{events_of, objects_of, style_of};
 use std::alloc::Global;
 use std::process::Abort;
-use wsn_doubles::command_runs::run_on;
+use wsn_command_runs::run_on;
 use wsn_doubles::readers::Chopped;
 use wsn_doubles::vectors::greatest;
 use wsn_doubles::writers::{Full, Narrow};

@@ -6,7 +6,7 @@ use crate::expecting::{Expected, events_of, expect_job, expect_run};
 use std::alloc::Global;
 use std::io::ErrorKind;
 use std::process::Abort;
-use wsn_doubles::command_runs::run_on;
+use wsn_command_runs::run_on;
 use wsn_doubles::readers::{Chopped, READS};
 use wsn_doubles::vectors::greatest;
 use wsn_doubles::writers::{FULL, Narrow};

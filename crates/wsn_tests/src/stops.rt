@@ -1,7 +1,6 @@
 //! What ends an engine's work before its verdict: readers that fail after each byte; and the words of a stop.
 
 use crate::expecting::{Reading, expect_line, prefix_of};
-use crate::same_command::{PAIRS, expect_compared};
 use std::alloc::Global;
 use std::process::Abort;
 use wsn_doubles::answer_lines::{listing, stop_line};
@@ -240,28 +239,5 @@ fn normalise_writes_the_events_that_came_before_a_failed_read(rt: HostRuntime) {
     for due in DUE.iter() {
         let stream = stream_named(rt.alloc(), due.name).expect(&rt, "a vector of this name");
         expect_due_events(&rt, rt.alloc(), due, &stream);
-    }
-}
-
-/// The bytes without the last.
-fn all_but_the_last(bytes: &[u8]) -> &[u8] {
-    &bytes[..bytes.len().saturating_sub(1)]
-}
-
-/// A stop takes precedence over any verdict or difference.
-#[test]
-fn same_reports_a_failed_read_of_either_stream(rt: HostRuntime) {
-    let alloc = rt.alloc();
-    for pair in PAIRS.iter() {
-        let first = Chopped::breaking(all_but_the_last(pair.first), 1);
-        expect_compared(&rt, alloc, first, Chopped::new(&[], 1), "read failed");
-        let second = Chopped::breaking(all_but_the_last(pair.second), 1);
-        expect_compared(
-            &rt,
-            alloc,
-            Chopped::new(pair.first, 1),
-            second,
-            "read failed",
-        );
     }
 }

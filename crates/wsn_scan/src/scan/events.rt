@@ -12,7 +12,7 @@ ghost use Rattle.wsn_scan.specs.declared.part.Taken.{Taken};
 
 use super::Scan;
 use crate::stage::Stage;
-use wsn_frame::{FrameContext, Head, PayloadCheck, unmask, whole_head};
+use wsn_frame::{FrameContext, HEAD_MAX, Head, PayloadCheck, unmask, whole_head_after};
 use wsn_rules::HeadInfo;
 use wsn_wire::{FirstByte, Form, Op};
 
@@ -87,9 +87,33 @@ impl Scan {
     /// event's normal frame is in its place. It does so if the scan is between frames and no message is open. Otherwise it
     /// returns `None`, and nothing changes.
     #[inline(always)]
-    #[tactic(none)]
     pub fn next_event(&mut self, piece: &mut [u8]) -> Option<(usize, HeadInfo)>
         requires { length piece.old ≤ room_of self.old }
+        ensures taken { IfSome result (λ found. IsBytes piece.old →
+            ConsumesPrefix self.old self.new piece.old found.0 (found.1 ∷ [])) }
+        ensures part { IfSome result (λ found. AdvancesFrom self.old.stage self.old self.new piece.old piece.new found.0
+            Taken.Part (whole_part found.1 found.0)) }
+        ensures first { IfSome result (λ found. (found.1.fin ≡ true)
+            × (take 1 piece.old ≡ first_byte true found.1.op ∷ [])) }
+        ensures whole { IfSome result (λ found. (found.1.len ≤ found.0) × HasNoRest self.new) }
+        ensures reported { IfSome result (λ _. refusal_in self.new ≡ None) }
+        ensures within { IfSome result (λ found. (0 < found.0) × (found.0 ≤ length piece.old)) }
+        ensures kept { IfSome result (λ found. drop found.0 piece.new ≡ drop found.0 piece.old) }
+        ensures room { IfSome result (λ found. room_of self.new + found.0 ≡ room_of self.old) }
+        ensures none { IfNone result ((self.new ≡ self.old) × (piece.new ≡ piece.old)) }
+    {
+        if piece.len() < HEAD_MAX {
+            return None;
+        }
+        self.next_event_after(piece[0], piece)
+    }
+
+    /// Consumes a frame as [`Scan::next_event`] does; `byte` is the piece's first.
+    #[inline(always)]
+    #[tactic(none)]
+    pub fn next_event_after(&mut self, byte: u8, piece: &mut [u8]) -> Option<(usize, HeadInfo)>
+        requires fits { length piece.old ≤ room_of self.old }
+        requires first { take 1 piece.old ≡ byte ∷ [] }
         ensures taken { IfSome result (λ found. IsBytes piece.old →
             ConsumesPrefix self.old self.new piece.old found.0 (found.1 ∷ [])) }
         ensures part { IfSome result (λ found. AdvancesFrom self.old.stage self.old self.new piece.old piece.new found.0
@@ -111,7 +135,7 @@ impl Scan {
             message: None,
             ..self.context
         };
-        let frame = take_event(&context, piece)?;
+        let frame = take_event_after(byte, &context, piece)?;
         let head = frame.info(self.used);
         self.counts = self.counts.with(true, frame.op);
         self.room -= frame.size as u64;
@@ -132,7 +156,6 @@ impl Scan {
 /// frame. It does so if no message is open, the piece has the whole frame, and the frame is valid, final and no Close,
 /// and encodes its length shortest. Otherwise it returns `None`, and nothing changes.
 #[inline(always)]
-#[tactic(none)]
 fn take_event(context: &FrameContext, piece: &mut [u8]) -> Option<EventFrame>
     requires { context.now.message ≡ None }
     ensures taken { IfSome result (λ frame. IsBytes piece.old →
@@ -143,7 +166,27 @@ fn take_event(context: &FrameContext, piece: &mut [u8]) -> Option<EventFrame>
     ensures kept { IfSome result (λ frame. drop frame.size piece.new ≡ drop frame.size piece.old) }
     ensures none { IfNone result (piece.new ≡ piece.old) }
 {
-    let (start, head) = whole_head(piece, context)?;
+    if piece.len() < HEAD_MAX {
+        return None;
+    }
+    take_event_after(piece[0], context, piece)
+}
+
+/// Takes an event as [`take_event`] does; `byte` is the piece's first.
+#[inline(always)]
+#[tactic(none)]
+fn take_event_after(byte: u8, context: &FrameContext, piece: &mut [u8]) -> Option<EventFrame>
+    requires none_open { context.now.message ≡ None }
+    requires first { take 1 piece.old ≡ byte ∷ [] }
+    ensures taken { IfSome result (λ frame. IsBytes piece.old →
+        IsEventFrame context.now.role context.now.limits piece.old piece.new frame) }
+    ensures first { IfSome result (λ frame. take 1 piece.old ≡ first_byte true frame.op ∷ []) }
+    ensures within { IfSome result (λ frame. (0 < frame.size) × (frame.size ≤ length piece.old)
+        × (frame.len ≤ frame.size)) }
+    ensures kept { IfSome result (λ frame. drop frame.size piece.new ≡ drop frame.size piece.old) }
+    ensures none { IfNone result (piece.new ≡ piece.old) }
+{
+    let (start, head) = whole_head_after(byte, piece, context)?;
     if head.len == 0 {
         let frame = take_empty(&head, &mut piece[..start])?;
         return Some(frame);

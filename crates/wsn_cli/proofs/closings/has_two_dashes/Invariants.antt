@@ -1,4 +1,4 @@
-use Rattle.std.proofs.Common.{◌≡◌, ◌+◌, true, false, cond, map, drop, string_bytes}
+use Rattle.std.proofs.Common.{◌≡◌, ◌+◌, cond, map, drop, string_bytes}
 use Rattle.wsn_cli.specs.Inputs.{dashes}
 use Rattle.wsn_cli.proofs.closings.has_two_dashes.Given as goal
 

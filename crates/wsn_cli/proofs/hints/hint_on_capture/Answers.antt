@@ -1,4 +1,4 @@
-use Rattle.std.proofs.Common.{◌≡◌, ℕ, List, Option, take, refl, sym, subst}
+use Rattle.std.proofs.Common.{◌≡◌, ℕ, List, Option, refl, sym, subst}
 use Rattle.wsn_wire.specs.declared.endpoint.Role.{Role}
 use Rattle.wsn_command.specs.declared.answered.Answer.{Answer}
 use Rattle.wsn_command.specs.declared.answered.Answer.TheVariants.{Verdict, Report, Other, FaultyLine, Stopped}
@@ -6,12 +6,12 @@ use Rattle.wsn_command.specs.declared.job.Job.{Job}
 use Rattle.wsn_hint.specs.declared.hint.Hint.{Hint}
 use Rattle.wsn_hint.specs.Hints.{Fits, IsFirstFit, capture_hints}
 use Rattle.wsn_cli.specs.Requests.{job_limits}
-use Rattle.wsn_cli.specs.RunHints.{IsCaptureHint, IsLinesHint, refused_sides}
+use Rattle.wsn_cli.specs.RunHints.{IsCaptureHint, IsLinesHint}
 use Rattle.wsn_cli.proofs.hints.hint_on_capture.Goals as goal
 
 -- an answer that is no stop
 of_lines : {A : Type 0} (job : Job A) (side : Option Role) (text : List ℕ) (answer : Answer) (result : Option Hint) → (answer ≡ FaultyLine → ⊥) → (answer ≡ Stopped → ⊥)
-    → IsLinesHint job text (refused_sides side answer) result → IsCaptureHint job side text answer result
+    → IsLinesHint job side text answer result → IsCaptureHint job side text answer result
 of_lines job side text (Verdict verdict) result faulty stopped is = is
 of_lines job side text (Report report) result faulty stopped is = is
 of_lines job side text Other result faulty stopped is = is
@@ -28,4 +28,4 @@ returns-in-FaultyLine g c =
 pub returns-in_default : goal.returns-in_default
 returns-in_default g c =
     of_lines c.args.job.now c.args.side c.args.first.now c.args.answer c.hint_on_lines.result c.in_default.not-FaultyLine c.in_default.not-Stopped
-    (subst (λ (refused : _). IsLinesHint c.args.job.now c.args.first.now refused c.hint_on_lines.result) c.refused_sides.ensures c.hint_on_lines.ensures)
+    c.hint_on_lines.ensures

@@ -45,12 +45,12 @@ turn_after-requires-clause-readable g c =
 pub turn_after-requires-in-loop-lent-clause-begun : goal.turn_after-requires-in-loop-lent-clause-begun
 turn_after-requires-in-loop-lent-clause-begun g c =
     let at = c.loop-lent.invariant in
-    after_begun c.loop-lent.others c.take_message-other_lent.new.self c.take_message-other_lent.result c.take_message-other_lent.ensures (begun c.args.without c.args.role c.args.limits c.args.second.now c.loop-lent.second c.loop-lent.others at.other_came at.other_given at.other_followed)
+    after_begun c.loop-lent.others c.take_other-other_lent.new.others c.take_other-other_lent.result c.take_other-other_lent.ensures (begun c.args.without c.args.role c.args.limits c.args.second.now c.loop-lent.second c.loop-lent.others at.other_came at.other_given at.other_followed)
 
 pub turn_after-requires-in-loop-lent-clause-readable : goal.turn_after-requires-in-loop-lent-clause-readable
 turn_after-requires-in-loop-lent-clause-readable g c =
     let at = c.loop-lent.invariant in
-    after_readable c.loop-lent.others c.take_message-other_lent.new.self c.take_message-other_lent.result c.take_message-other_lent.ensures c.args.without c.loop-lent.second (readable c.args.without c.args.role c.args.limits c.args.second.now c.loop-lent.second c.loop-lent.others at.other_came at.other_given at.other_followed)
+    after_readable c.loop-lent.others c.take_other-other_lent.new.others c.take_other-other_lent.result c.take_other-other_lent.ensures c.args.without c.loop-lent.second (readable c.args.without c.args.role c.args.limits c.args.second.now c.loop-lent.second c.loop-lent.others at.other_came at.other_given at.other_followed)
 
 pub returns-in_err-turn : goal.returns-in_err-turn
 returns-in_err-turn g c =
@@ -70,8 +70,8 @@ returns-in_err-other g c =
     let at = c.loop-lent.invariant in
     let e = c.take_message-lent.ensures in
     let reads : ReadsTurn c.args.without c.loop-lent.first c.turn_after.new.input c.loop-lent.events c.turn_after.new.source c.turn_after.result = turn_reads c.loop-lent.events c.take_message-lent.new.self c.take_message-lent.result e c.args.without c.loop-lent.first (readable c.args.without c.args.role c.args.limits c.args.first.now c.loop-lent.first c.loop-lent.events at.came at.given at.followed) c.turn_after.new.input c.turn_after.new.source c.turn_after.result c.turn_after.ensures.lent c.turn_after.ensures.own in
-    let d = c.take_message-other_lent.ensures in
-    let other_reads : ReadsTurn c.args.without c.loop-lent.second c.turn_after-in-loop-lent.new.input c.loop-lent.others c.turn_after-in-loop-lent.new.source c.turn_after-in-loop-lent.result = turn_reads c.loop-lent.others c.take_message-other_lent.new.self c.take_message-other_lent.result d c.args.without c.loop-lent.second (readable c.args.without c.args.role c.args.limits c.args.second.now c.loop-lent.second c.loop-lent.others at.other_came at.other_given at.other_followed) c.turn_after-in-loop-lent.new.input c.turn_after-in-loop-lent.new.source c.turn_after-in-loop-lent.result c.turn_after-in-loop-lent.ensures.lent c.turn_after-in-loop-lent.ensures.own in
+    let d = c.take_other-other_lent.ensures in
+    let other_reads : ReadsTurn c.args.without c.loop-lent.second c.turn_after-in-loop-lent.new.input c.loop-lent.others c.turn_after-in-loop-lent.new.source c.turn_after-in-loop-lent.result = turn_reads c.loop-lent.others c.take_other-other_lent.new.others c.take_other-other_lent.result d c.args.without c.loop-lent.second (readable c.args.without c.args.role c.args.limits c.args.second.now c.loop-lent.second c.loop-lent.others at.other_came at.other_given at.other_followed) c.turn_after-in-loop-lent.new.input c.turn_after-in-loop-lent.new.source c.turn_after-in-loop-lent.result c.turn_after-in-loop-lent.ensures.lent c.turn_after-in-loop-lent.ensures.own in
     let one = gives_turn c.args.without c.args.role c.args.limits c.args.first.now c.loop-lent.first c.turn_after.new.input c.loop-lent.events c.turn_after.new.source at.came at.given c.turn_after.result at.followed reads c.in_ok-turn.turn c.in_ok-turn.was in
     let stopped = stops c.args.without c.args.role c.args.limits c.args.second.now c.loop-lent.second c.turn_after-in-loop-lent.new.input c.loop-lent.others c.turn_after-in-loop-lent.new.source at.other_came at.other_given c.turn_after-in-loop-lent.result at.other_followed other_reads c.in_err-other.field-0.0 c.in_err-other.was in
     rw is
@@ -88,8 +88,8 @@ end_round-round-requires-clause-turn g c =
 pub end_round-round-requires-clause-other : goal.end_round-round-requires-clause-other
 end_round-round-requires-clause-other g c =
     let at = c.loop-lent.invariant in
-    let d = c.take_message-other_lent.ensures in
-    let other_reads : ReadsTurn c.args.without c.loop-lent.second c.turn_after-in-loop-lent.new.input c.loop-lent.others c.turn_after-in-loop-lent.new.source c.turn_after-in-loop-lent.result = turn_reads c.loop-lent.others c.take_message-other_lent.new.self c.take_message-other_lent.result d c.args.without c.loop-lent.second (readable c.args.without c.args.role c.args.limits c.args.second.now c.loop-lent.second c.loop-lent.others at.other_came at.other_given at.other_followed) c.turn_after-in-loop-lent.new.input c.turn_after-in-loop-lent.new.source c.turn_after-in-loop-lent.result c.turn_after-in-loop-lent.ensures.lent c.turn_after-in-loop-lent.ensures.own in
+    let d = c.take_other-other_lent.ensures in
+    let other_reads : ReadsTurn c.args.without c.loop-lent.second c.turn_after-in-loop-lent.new.input c.loop-lent.others c.turn_after-in-loop-lent.new.source c.turn_after-in-loop-lent.result = turn_reads c.loop-lent.others c.take_other-other_lent.new.others c.take_other-other_lent.result d c.args.without c.loop-lent.second (readable c.args.without c.args.role c.args.limits c.args.second.now c.loop-lent.second c.loop-lent.others at.other_came at.other_given at.other_followed) c.turn_after-in-loop-lent.new.input c.turn_after-in-loop-lent.new.source c.turn_after-in-loop-lent.result c.turn_after-in-loop-lent.ensures.lent c.turn_after-in-loop-lent.ensures.own in
     let two = gives_turn c.args.without c.args.role c.args.limits c.args.second.now c.loop-lent.second c.turn_after-in-loop-lent.new.input c.loop-lent.others c.turn_after-in-loop-lent.new.source at.other_came at.other_given c.turn_after-in-loop-lent.result at.other_followed other_reads c.in_ok-other.other c.in_ok-other.was in
     two.lawful
 
@@ -98,8 +98,8 @@ returns-in-Over g c =
     let at = c.loop-lent.invariant in
     let e = c.take_message-lent.ensures in
     let reads : ReadsTurn c.args.without c.loop-lent.first c.turn_after.new.input c.loop-lent.events c.turn_after.new.source c.turn_after.result = turn_reads c.loop-lent.events c.take_message-lent.new.self c.take_message-lent.result e c.args.without c.loop-lent.first (readable c.args.without c.args.role c.args.limits c.args.first.now c.loop-lent.first c.loop-lent.events at.came at.given at.followed) c.turn_after.new.input c.turn_after.new.source c.turn_after.result c.turn_after.ensures.lent c.turn_after.ensures.own in
-    let d = c.take_message-other_lent.ensures in
-    let other_reads : ReadsTurn c.args.without c.loop-lent.second c.turn_after-in-loop-lent.new.input c.loop-lent.others c.turn_after-in-loop-lent.new.source c.turn_after-in-loop-lent.result = turn_reads c.loop-lent.others c.take_message-other_lent.new.self c.take_message-other_lent.result d c.args.without c.loop-lent.second (readable c.args.without c.args.role c.args.limits c.args.second.now c.loop-lent.second c.loop-lent.others at.other_came at.other_given at.other_followed) c.turn_after-in-loop-lent.new.input c.turn_after-in-loop-lent.new.source c.turn_after-in-loop-lent.result c.turn_after-in-loop-lent.ensures.lent c.turn_after-in-loop-lent.ensures.own in
+    let d = c.take_other-other_lent.ensures in
+    let other_reads : ReadsTurn c.args.without c.loop-lent.second c.turn_after-in-loop-lent.new.input c.loop-lent.others c.turn_after-in-loop-lent.new.source c.turn_after-in-loop-lent.result = turn_reads c.loop-lent.others c.take_other-other_lent.new.others c.take_other-other_lent.result d c.args.without c.loop-lent.second (readable c.args.without c.args.role c.args.limits c.args.second.now c.loop-lent.second c.loop-lent.others at.other_came at.other_given at.other_followed) c.turn_after-in-loop-lent.new.input c.turn_after-in-loop-lent.new.source c.turn_after-in-loop-lent.result c.turn_after-in-loop-lent.ensures.lent c.turn_after-in-loop-lent.ensures.own in
     let one = gives_turn c.args.without c.args.role c.args.limits c.args.first.now c.loop-lent.first c.turn_after.new.input c.loop-lent.events c.turn_after.new.source at.came at.given c.turn_after.result at.followed reads c.in_ok-turn.turn c.in_ok-turn.was in
     let two = gives_turn c.args.without c.args.role c.args.limits c.args.second.now c.loop-lent.second c.turn_after-in-loop-lent.new.input c.loop-lent.others c.turn_after-in-loop-lent.new.source at.other_came at.other_given c.turn_after-in-loop-lent.result at.other_followed other_reads c.in_ok-other.other c.in_ok-other.was in
     let round : IsRoundOf (meant_turn c.turn_after.new.source c.in_ok-turn.turn) (meant_turn c.turn_after-in-loop-lent.new.source c.in_ok-other.other) (Over c.in-Over.verdict c.in-Over.other) = subst (λ (r : Round). IsRoundOf (meant_turn c.turn_after.new.source c.in_ok-turn.turn) (meant_turn c.turn_after-in-loop-lent.new.source c.in_ok-other.other) r) c.in-Over.is c.end_round-round.ensures.round in
@@ -117,8 +117,8 @@ loop-lent-smaller g c =
     let at = c.loop-lent.invariant in
     let e = c.take_message-lent.ensures in
     let reads : ReadsTurn c.args.without c.loop-lent.first c.turn_after.new.input c.loop-lent.events c.turn_after.new.source c.turn_after.result = turn_reads c.loop-lent.events c.take_message-lent.new.self c.take_message-lent.result e c.args.without c.loop-lent.first (readable c.args.without c.args.role c.args.limits c.args.first.now c.loop-lent.first c.loop-lent.events at.came at.given at.followed) c.turn_after.new.input c.turn_after.new.source c.turn_after.result c.turn_after.ensures.lent c.turn_after.ensures.own in
-    let d = c.take_message-other_lent.ensures in
-    let other_reads : ReadsTurn c.args.without c.loop-lent.second c.turn_after-in-loop-lent.new.input c.loop-lent.others c.turn_after-in-loop-lent.new.source c.turn_after-in-loop-lent.result = turn_reads c.loop-lent.others c.take_message-other_lent.new.self c.take_message-other_lent.result d c.args.without c.loop-lent.second (readable c.args.without c.args.role c.args.limits c.args.second.now c.loop-lent.second c.loop-lent.others at.other_came at.other_given at.other_followed) c.turn_after-in-loop-lent.new.input c.turn_after-in-loop-lent.new.source c.turn_after-in-loop-lent.result c.turn_after-in-loop-lent.ensures.lent c.turn_after-in-loop-lent.ensures.own in
+    let d = c.take_other-other_lent.ensures in
+    let other_reads : ReadsTurn c.args.without c.loop-lent.second c.turn_after-in-loop-lent.new.input c.loop-lent.others c.turn_after-in-loop-lent.new.source c.turn_after-in-loop-lent.result = turn_reads c.loop-lent.others c.take_other-other_lent.new.others c.take_other-other_lent.result d c.args.without c.loop-lent.second (readable c.args.without c.args.role c.args.limits c.args.second.now c.loop-lent.second c.loop-lent.others at.other_came at.other_given at.other_followed) c.turn_after-in-loop-lent.new.input c.turn_after-in-loop-lent.new.source c.turn_after-in-loop-lent.result c.turn_after-in-loop-lent.ensures.lent c.turn_after-in-loop-lent.ensures.own in
     let one = gives_turn c.args.without c.args.role c.args.limits c.args.first.now c.loop-lent.first c.turn_after.new.input c.loop-lent.events c.turn_after.new.source at.came at.given c.turn_after.result at.followed reads c.in_ok-turn.turn c.in_ok-turn.was in
     let two = gives_turn c.args.without c.args.role c.args.limits c.args.second.now c.loop-lent.second c.turn_after-in-loop-lent.new.input c.loop-lent.others c.turn_after-in-loop-lent.new.source at.other_came at.other_given c.turn_after-in-loop-lent.result at.other_followed other_reads c.in_ok-other.other c.in_ok-other.was in
     let on = goes_on c.args.without c.args.role c.args.limits c.args.first.now c.args.second.now c.turn_after.new.input c.turn_after-in-loop-lent.new.input c.loop-lent.events c.turn_after.new.source c.loop-lent.others c.turn_after-in-loop-lent.new.source
@@ -130,8 +130,8 @@ loop-lent-preserved g c =
     let at = c.loop-lent.invariant in
     let e = c.take_message-lent.ensures in
     let reads : ReadsTurn c.args.without c.loop-lent.first c.turn_after.new.input c.loop-lent.events c.turn_after.new.source c.turn_after.result = turn_reads c.loop-lent.events c.take_message-lent.new.self c.take_message-lent.result e c.args.without c.loop-lent.first (readable c.args.without c.args.role c.args.limits c.args.first.now c.loop-lent.first c.loop-lent.events at.came at.given at.followed) c.turn_after.new.input c.turn_after.new.source c.turn_after.result c.turn_after.ensures.lent c.turn_after.ensures.own in
-    let d = c.take_message-other_lent.ensures in
-    let other_reads : ReadsTurn c.args.without c.loop-lent.second c.turn_after-in-loop-lent.new.input c.loop-lent.others c.turn_after-in-loop-lent.new.source c.turn_after-in-loop-lent.result = turn_reads c.loop-lent.others c.take_message-other_lent.new.self c.take_message-other_lent.result d c.args.without c.loop-lent.second (readable c.args.without c.args.role c.args.limits c.args.second.now c.loop-lent.second c.loop-lent.others at.other_came at.other_given at.other_followed) c.turn_after-in-loop-lent.new.input c.turn_after-in-loop-lent.new.source c.turn_after-in-loop-lent.result c.turn_after-in-loop-lent.ensures.lent c.turn_after-in-loop-lent.ensures.own in
+    let d = c.take_other-other_lent.ensures in
+    let other_reads : ReadsTurn c.args.without c.loop-lent.second c.turn_after-in-loop-lent.new.input c.loop-lent.others c.turn_after-in-loop-lent.new.source c.turn_after-in-loop-lent.result = turn_reads c.loop-lent.others c.take_other-other_lent.new.others c.take_other-other_lent.result d c.args.without c.loop-lent.second (readable c.args.without c.args.role c.args.limits c.args.second.now c.loop-lent.second c.loop-lent.others at.other_came at.other_given at.other_followed) c.turn_after-in-loop-lent.new.input c.turn_after-in-loop-lent.new.source c.turn_after-in-loop-lent.result c.turn_after-in-loop-lent.ensures.lent c.turn_after-in-loop-lent.ensures.own in
     let one = gives_turn c.args.without c.args.role c.args.limits c.args.first.now c.loop-lent.first c.turn_after.new.input c.loop-lent.events c.turn_after.new.source at.came at.given c.turn_after.result at.followed reads c.in_ok-turn.turn c.in_ok-turn.was in
     let two = gives_turn c.args.without c.args.role c.args.limits c.args.second.now c.loop-lent.second c.turn_after-in-loop-lent.new.input c.loop-lent.others c.turn_after-in-loop-lent.new.source at.other_came at.other_given c.turn_after-in-loop-lent.result at.other_followed other_reads c.in_ok-other.other c.in_ok-other.was in
     let on = goes_on c.args.without c.args.role c.args.limits c.args.first.now c.args.second.now c.turn_after.new.input c.turn_after-in-loop-lent.new.input c.loop-lent.events c.turn_after.new.source c.loop-lent.others c.turn_after-in-loop-lent.new.source
@@ -156,12 +156,12 @@ pub loop-lent-smaller-then-are_alike : goal.loop-lent-smaller-then-are_alike
 loop-lent-smaller-then-are_alike g c =
     let at = c.loop-lent.invariant in
     let e = c.take_message-lent.ensures in
-    let d = c.take_message-other_lent.ensures in
+    let d = c.take_other-other_lent.ensures in
     let alike = c.are_alike.ensures c.if-are_alike.true in
     let event = c.take_message-lent.new.self in
-    let other = c.take_message-other_lent.new.self in
+    let other = c.take_other-other_lent.new.others in
     let reads = lent_reads c.loop-lent.events event c.take_message-lent.result e c.args.without c.loop-lent.first (readable c.args.without c.args.role c.args.limits c.args.first.now c.loop-lent.first c.loop-lent.events at.came at.given at.followed) alike.kind alike.is in
-    let other_reads = lent_reads c.loop-lent.others other c.take_message-other_lent.result d c.args.without c.loop-lent.second (readable c.args.without c.args.role c.args.limits c.args.second.now c.loop-lent.second c.loop-lent.others at.other_came at.other_given at.other_followed) alike.kind alike.other_is in
+    let other_reads = lent_reads c.loop-lent.others other c.take_other-other_lent.result d c.args.without c.loop-lent.second (readable c.args.without c.args.role c.args.limits c.args.second.now c.loop-lent.second c.loop-lent.others at.other_came at.other_given at.other_followed) alike.kind alike.other_is in
     let one = gives_turn c.args.without c.args.role c.args.limits c.args.first.now c.loop-lent.first c.loop-lent.first c.loop-lent.events event at.came at.given (Ok (Lent alike.kind)) at.followed reads (Lent alike.kind) refl in
     let two = gives_turn c.args.without c.args.role c.args.limits c.args.second.now c.loop-lent.second c.loop-lent.second c.loop-lent.others other at.other_came at.other_given (Ok (Lent alike.kind)) at.other_followed other_reads (Lent alike.kind) refl in
     let on = goes_on c.args.without c.args.role c.args.limits c.args.first.now c.args.second.now c.loop-lent.first c.loop-lent.second c.loop-lent.events event c.loop-lent.others other
@@ -173,12 +173,12 @@ pub loop-lent-preserved-then-are_alike : goal.loop-lent-preserved-then-are_alike
 loop-lent-preserved-then-are_alike g c =
     let at = c.loop-lent.invariant in
     let e = c.take_message-lent.ensures in
-    let d = c.take_message-other_lent.ensures in
+    let d = c.take_other-other_lent.ensures in
     let alike = c.are_alike.ensures c.if-are_alike.true in
     let event = c.take_message-lent.new.self in
-    let other = c.take_message-other_lent.new.self in
+    let other = c.take_other-other_lent.new.others in
     let reads = lent_reads c.loop-lent.events event c.take_message-lent.result e c.args.without c.loop-lent.first (readable c.args.without c.args.role c.args.limits c.args.first.now c.loop-lent.first c.loop-lent.events at.came at.given at.followed) alike.kind alike.is in
-    let other_reads = lent_reads c.loop-lent.others other c.take_message-other_lent.result d c.args.without c.loop-lent.second (readable c.args.without c.args.role c.args.limits c.args.second.now c.loop-lent.second c.loop-lent.others at.other_came at.other_given at.other_followed) alike.kind alike.other_is in
+    let other_reads = lent_reads c.loop-lent.others other c.take_other-other_lent.result d c.args.without c.loop-lent.second (readable c.args.without c.args.role c.args.limits c.args.second.now c.loop-lent.second c.loop-lent.others at.other_came at.other_given at.other_followed) alike.kind alike.other_is in
     let one = gives_turn c.args.without c.args.role c.args.limits c.args.first.now c.loop-lent.first c.loop-lent.first c.loop-lent.events event at.came at.given (Ok (Lent alike.kind)) at.followed reads (Lent alike.kind) refl in
     let two = gives_turn c.args.without c.args.role c.args.limits c.args.second.now c.loop-lent.second c.loop-lent.second c.loop-lent.others other at.other_came at.other_given (Ok (Lent alike.kind)) at.other_followed other_reads (Lent alike.kind) refl in
     let on = goes_on c.args.without c.args.role c.args.limits c.args.first.now c.args.second.now c.loop-lent.first c.loop-lent.second c.loop-lent.events event c.loop-lent.others other

@@ -1,4 +1,4 @@
-use Rattle.std.proofs.Common.{ℕ, Option, None, Some, sym, subst}
+use Rattle.std.proofs.Common.{ℕ, false, Option, None, Some, sym, subst}
 use Rattle.std.proofs.lemmas.Bool.{iff_false}
 use Rattle.wsn_wire.specs.declared.refusal.Reason.TheVariants.{ReservedBits}
 use Rattle.wsn_hint.specs.Hints.{IsFirstFit}
@@ -9,11 +9,11 @@ use Rattle.wsn_hint.proofs.sides.bits_hint.Goals as goal
 pub returns-in-Some : goal.returns-in-Some
 returns-in-Some c =
     let text = c.args.first.now in
-    subst (λ (o : Option ℕ). IsFirstFit (FitsSide text ReservedBits o) side_hints (Some c.compressed_hint.result)) (sym c.in-Some.is)
+    subst (λ (o : Option ℕ). IsFirstFit (FitsSide text ReservedBits o false) side_hints (Some c.compressed_hint.result)) (sym c.in-Some.is)
     (head_known text c.in-Some.byte c.compressed_hint.result (c.is_compressed_head.ensures.0 c.if-is_compressed_head.true) c.compressed_hint.ensures)
 
 pub returns-in-Some-2 : goal.returns-in-Some-2
 returns-in-Some-2 c =
     let text = c.args.first.now in
-    subst (λ (o : Option ℕ). IsFirstFit (FitsSide text ReservedBits o) side_hints None) (sym c.in-Some.is)
+    subst (λ (o : Option ℕ). IsFirstFit (FitsSide text ReservedBits o false) side_hints None) (sym c.in-Some.is)
     (other_head text c.in-Some.byte (iff_false c.is_compressed_head.ensures c.if-is_compressed_head.false))

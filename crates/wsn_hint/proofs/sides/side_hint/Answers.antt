@@ -1,4 +1,4 @@
-use Rattle.std.proofs.Common.{Option, sym, subst}
+use Rattle.std.proofs.Common.{false, Option, sym, subst}
 use Rattle.wsn_wire.specs.declared.refusal.Reason.{Reason}
 use Rattle.wsn_rules.specs.declared.verdict.Refusal.{Refusal}
 use Rattle.wsn_hint.specs.Hints.{IsFirstFit}
@@ -10,8 +10,10 @@ returns-in-ReservedBits c =
     let text = c.args.first.now in
     let byte = c.byte_at.result in
     let result = c.bits_hint.result in
-    subst (λ (o : Option Refusal). IsSideHint c.args.role text o result) (sym c.in-Some.is) (
+    subst (λ (o : Option Refusal). IsSideHint c.args.role c.args.limits text o result) (sym c.in-Some.is) (
       byte,
+      false,
       c.byte_at.ensures,
-      subst (λ (reason : Reason). IsFirstFit (FitsSide text reason byte) side_hints result) (sym c.in-ReservedBits.is) c.bits_hint.ensures,
+      λ known. cc known,
+      subst (λ (reason : Reason). IsFirstFit (FitsSide text reason byte false) side_hints result) (sym c.in-ReservedBits.is) c.bits_hint.ensures,
     )

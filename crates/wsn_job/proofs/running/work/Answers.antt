@@ -165,3 +165,39 @@ returns-in-Payload-clause-read g c = search rules
 
 pub returns-in-Payload-clause-write : goal.returns-in-Payload-clause-write
 returns-in-Payload-clause-write g c = search rules
+
+pub redact-requires-clause-readable : goal.redact-requires-clause-readable
+redact-requires-clause-readable g c = search rules
+
+pub redact-requires-clause-writable : goal.redact-requires-clause-writable
+redact-requires-clause-writable g c = search rules
+
+pub returns-in-Redact-clause-done : goal.returns-in-Redact-clause-done
+returns-in-Redact-clause-done g c = search rules
+
+pub returns-in-Redact-clause-status : goal.returns-in-Redact-clause-status
+returns-in-Redact-clause-status g c = search rules
+
+pub returns-in-Redact-clause-read : goal.returns-in-Redact-clause-read
+returns-in-Redact-clause-read g c = search rules
+
+pub returns-in-Redact-clause-write : goal.returns-in-Redact-clause-write
+returns-in-Redact-clause-write g c = search rules
+
+pub redact_capture-requires-clause-readable : goal.redact_capture-requires-clause-readable
+redact_capture-requires-clause-readable g c = search rules
+
+pub redact_capture-requires-clause-writable : goal.redact_capture-requires-clause-writable
+redact_capture-requires-clause-writable g c = search rules
+
+pub returns-in-RedactCapture-clause-done : goal.returns-in-RedactCapture-clause-done
+returns-in-RedactCapture-clause-done g c = search rules
+
+pub returns-in-RedactCapture-clause-status : goal.returns-in-RedactCapture-clause-status
+returns-in-RedactCapture-clause-status g c = search rules
+
+pub returns-in-RedactCapture-clause-read : goal.returns-in-RedactCapture-clause-read
+returns-in-RedactCapture-clause-read g c = search rules
+
+pub returns-in-RedactCapture-clause-write : goal.returns-in-RedactCapture-clause-write
+returns-in-RedactCapture-clause-write g c = search rules

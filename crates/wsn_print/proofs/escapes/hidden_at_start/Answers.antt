@@ -1,5 +1,5 @@
 use Rattle.std.proofs.Common.{◌≡◌, ℕ, List, true, get_or, sym, ap, ◌∙◌, arith}
-use Rattle.wsn_print.specs.CharacterText.{is_continuation}
+use Rattle.wsn_print.specs.EscapedText.{is_continuation}
 use Rattle.wsn_print.specs.Runs.{hidden_from}
 use Rattle.wsn_print.proofs.RunCharacters.{three, four, of_three, of_four, of_none, found_within}
 use Rattle.wsn_print.proofs.escapes.hidden_at_start.Goals as goal

@@ -2,7 +2,7 @@ use Rattle.std.proofs.Common.{◌≡◌, List, ℕ, ◌++◌, ◌∙◌, ap, app
 use Rattle.wsn_io.specs.Stops.{IsWrittenOrStops}
 use Rattle.wsn_rules.specs.declared.report.Report.{Report}
 use Rattle.wsn_print.specs.NamedReportText.{named_report_line, outcome_columns}
-use Rattle.wsn_print.specs.ShownText.{comment_text}
+use Rattle.wsn_print.specs.EscapedText.{comment_text}
 use Rattle.wsn_print.proofs.Pieces.{first_stops, two_pieces}
 use Rattle.wsn_print.proofs.named_reports.put_named_line.Goals as goal
 

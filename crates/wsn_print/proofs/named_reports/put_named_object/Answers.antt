@@ -6,7 +6,7 @@ use Rattle.wsn_io.specs.Stops.{IsWrittenOrStops}
 use Rattle.wsn_rules.specs.declared.report.Report.{Report}
 use Rattle.wsn_print.specs.NamedReportText.{named_report_object}
 use Rattle.wsn_print.specs.Objects.{report_object}
-use Rattle.wsn_print.specs.ShownText.{quoted_character}
+use Rattle.wsn_print.specs.EscapedText.{quoted_character}
 use Rattle.wsn_print.proofs.Pieces.{first_stops, second_stops, third_stops, four_pieces}
 use Rattle.wsn_print.proofs.named_reports.put_named_object.Goals as goal
 

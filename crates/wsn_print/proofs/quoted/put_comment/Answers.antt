@@ -1,5 +1,5 @@
 use Rattle.std.proofs.Common.{codes, refl, rules}
-use Rattle.wsn_print.specs.ShownText.{comment_text, comment_line}
+use Rattle.wsn_print.specs.EscapedText.{comment_text, comment_line}
 use Rattle.wsn_print.proofs.Pieces.{first_stops, two_pieces}
 use Rattle.wsn_print.proofs.quoted.put_comment.Goals as goal
 

@@ -2,7 +2,7 @@ use Rattle.std.proofs.Common.{◌≡◌, ℕ, List, get_or, ◌∙◌, subst, re
 use Rattle.std.proofs.lemmas.Grind.{common_steps}
 use Rattle.wsn_io.specs.Transfer.{IsWritten, IsPartlyWritten}
 use Rattle.wsn_io.specs.declared.stop.Stop.TheVariants as stop
-use Rattle.wsn_print.specs.ShownText.{comment_byte}
+use Rattle.wsn_print.specs.EscapedText.{comment_byte}
 use Rattle.wsn_print.proofs.Pieces.{each_stopped, each_written}
 use Rattle.wsn_print.proofs.quoted.put_comment_bytes.Goals as goal
 

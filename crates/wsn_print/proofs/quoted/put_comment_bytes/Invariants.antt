@@ -1,7 +1,7 @@
 use Rattle.std.proofs.Common.{take}
 use Rattle.std.specs.Prelude.{flat_map}
 use Rattle.wsn_io.specs.Transfer.{IsWritten}
-use Rattle.wsn_print.specs.ShownText.{comment_byte}
+use Rattle.wsn_print.specs.EscapedText.{comment_byte}
 use Rattle.wsn_print.proofs.quoted.put_comment_bytes.Given as goal
 
 -- The bytes so far are written.

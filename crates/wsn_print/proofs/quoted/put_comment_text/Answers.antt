@@ -5,7 +5,7 @@ use Rattle.std.specs.Str.Lossy.{utf8_valid_len}
 use Rattle.std.proofs.lemmas.Str.{utf8_valid_len-IsUtf8}
 use Rattle.std.proofs.lemmas.Bool.Decides.{nat_tests}
 use Rattle.wsn_io.specs.Stops.{IsWrittenOrStops}
-use Rattle.wsn_print.specs.ShownText.{comment_character, comment_byte, comment_text}
+use Rattle.wsn_print.specs.EscapedText.{comment_character, comment_byte, comment_text}
 use Rattle.wsn_print.proofs.quoted.put_comment_text.Goals as goal
 
 same : (n m : ℕ) → n ≡ m → (n == m) ≡ true

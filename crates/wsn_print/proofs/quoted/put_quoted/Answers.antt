@@ -5,7 +5,7 @@ use Rattle.wsn_io.specs.Transfer.{IsPartlyWritten}
 use Rattle.wsn_io.specs.declared.stop.Stop.TheVariants as stop
 use Rattle.wsn_io.specs.Stops.{IsWrittenOrStops}
 use Rattle.wsn_print.specs.declared.escapes.Escapes.TheVariants.{Quoted}
-use Rattle.wsn_print.specs.ShownText.{quoted, quoted_character}
+use Rattle.wsn_print.specs.EscapedText.{quoted, quoted_character}
 use Rattle.wsn_print.specs.Runs.{escaped}
 use Rattle.wsn_print.proofs.Gathered.{IsGathered, gathers_on, gathering_stopped, adding_stopped, gathering_ended}
 use Rattle.wsn_print.proofs.RunTexts.{text_written}

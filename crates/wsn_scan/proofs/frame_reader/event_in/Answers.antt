@@ -17,4 +17,4 @@ kept_after at end buffer piece (Some f) ordered within size some kept =
 
 pub returns-clause-kept : goal.returns-clause-kept
 returns-clause-kept c =
-    kept_after c.args.at c.args.end c.args.buffer.now c.next_event.new.piece c.next_event.result c.requires.within.0 c.requires.within.1 (c.next_event.auto.piece ∙ mid_len c.args.at c.args.end c.args.buffer.now c.requires.within.1) c.next_event.ensures.within c.next_event.ensures.kept
+    kept_after c.args.at c.args.end c.args.buffer.now c.next_event_after.new.piece c.next_event_after.result c.requires.within.0 c.requires.within.1 (c.next_event_after.auto.piece ∙ mid_len c.args.at c.args.end c.args.buffer.now c.requires.within.1) c.next_event_after.ensures.within c.next_event_after.ensures.kept

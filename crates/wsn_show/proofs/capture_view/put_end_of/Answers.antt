@@ -3,7 +3,7 @@ use Rattle.wsn_io.specs.Transfer.{IsWrittenUpToFailure}
 use Rattle.wsn_io.proofs.PutTexts.{prints_nothing, prints_on, prints_no_more, went_out}
 use Rattle.wsn_rules.specs.Sides.{sent}
 use Rattle.wsn_print.specs.declared.format.Format.{Format}
-use Rattle.wsn_print.specs.Formats.{end_entry}
+use Rattle.wsn_shown_text.specs.EntryFormats.{end_entry}
 use Rattle.wsn_print.specs.ShownParts.{position_of}
 use Rattle.wsn_print.specs.declared.style.Style.{Style}
 use Rattle.wsn_show.proofs.ShownEntries.{PutsLeft, marks}

@@ -4,7 +4,7 @@ use Rattle.std.proofs.lemmas.List.{take_all, length-take-le, length-drop}
 use Rattle.std.proofs.lemmas.Result.{err_from_is_err_and}
 use Rattle.wsn_io.specs.Transfer.{Outgoing}
 use Rattle.wsn_rules.specs.Limits.{Limits}
-use Rattle.wsn_print.proofs.HeldViews.{rest_is}
+use Rattle.wsn_print.proofs.HeldParts.{rest_is}
 use Rattle.wsn_capture.proofs.PiecePrefixes.{taken_more, room_for_line}
 use Rattle.wsn_print.specs.declared.style.Style.{Style}
 use Rattle.wsn_show.specs.declared.showing.ShowStop.{ShowStop}

@@ -2,8 +2,8 @@ use Rattle.std.proofs.Common.{ℕ, Option, List, [], ◌∷◌, refl, sym, ◌�
 use Rattle.wsn_io.specs.Stops.{IsWrittenOrStops}
 use Rattle.wsn_wire.specs.declared.endpoint.Role.{Role}
 use Rattle.wsn_print.specs.declared.format.Format.{Format}
-use Rattle.wsn_print.specs.Formats.{item_entry}
-use Rattle.wsn_print.specs.CharacterText.{item_lines}
+use Rattle.wsn_shown_text.specs.EntryFormats.{item_entry}
+use Rattle.wsn_shown_text.specs.CharacterText.{item_lines}
 use Rattle.wsn_print.specs.ShownParts.{time_of, position_of}
 use Rattle.wsn_show.specs.ShownItems.{IsItem}
 use Rattle.wsn_show.proofs.PrintedItems.{prints_line, prints_none}

@@ -3,7 +3,7 @@ use Rattle.wsn_io.specs.Stops.{IsWrittenOrStops}
 use Rattle.wsn_rules.specs.ShownStream.{Item}
 use Rattle.wsn_show.specs.declared.shown_item.ShownItem.{ShownItem}
 use Rattle.wsn_show.specs.ShownItems.{IsItem}
-use Rattle.wsn_print.specs.CharacterText.{item_lines}
+use Rattle.wsn_shown_text.specs.CharacterText.{item_lines}
 use Rattle.wsn_print.specs.ShownParts.{time_of}
 use Rattle.wsn_show.proofs.HeldItems.{lines_of_remainder}
 use Rattle.wsn_show.proofs.shown_item.put_line_of.Goals as goal

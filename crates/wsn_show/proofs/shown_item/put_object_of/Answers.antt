@@ -3,7 +3,7 @@ use Rattle.wsn_io.specs.Stops.{IsWrittenOrStops}
 use Rattle.wsn_rules.specs.ShownStream.{Item}
 use Rattle.wsn_show.specs.declared.shown_item.ShownItem.{ShownItem}
 use Rattle.wsn_show.specs.ShownItems.{IsItem}
-use Rattle.wsn_print.specs.ShownObjects.{item_object}
+use Rattle.wsn_shown_text.specs.ShownObjects.{item_object}
 use Rattle.wsn_print.specs.ShownParts.{position_of}
 use Rattle.wsn_show.proofs.shown_item.put_object_of.Goals as goal
 

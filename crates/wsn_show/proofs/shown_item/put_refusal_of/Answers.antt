@@ -3,8 +3,8 @@ use Rattle.wsn_io.specs.Transfer.{IsWritten}
 use Rattle.wsn_io.specs.Stops.{IsWrittenOrStops}
 use Rattle.wsn_rules.specs.ShownStream.{Item}
 use Rattle.wsn_rules.specs.ShownStream.Item.{RefusedFrame}
-use Rattle.wsn_print.specs.CharacterText.{item_lines, character_line, character_lines}
-use Rattle.wsn_print.specs.ShownText.{item_line}
+use Rattle.wsn_shown_text.specs.CharacterText.{item_lines, character_line, character_lines}
+use Rattle.wsn_shown_text.specs.ShownText.{item_line}
 use Rattle.wsn_print.specs.ShownParts.{time_of, character_of, character_in}
 use Rattle.wsn_print.specs.declared.shown.ShownCharacter.{ShownCharacter}
 use Rattle.wsn_print.proofs.Pieces.{first_stops, two_pieces}

@@ -9,3 +9,6 @@ returns-in-Judge g c = search rules
 
 pub returns-in-Closing-2 : goal.returns-in-Closing-2
 returns-in-Closing-2 g c = search rules
+
+pub returns-in-Closing-3 : goal.returns-in-Closing-3
+returns-in-Closing-3 g c = search rules

@@ -1,8 +1,8 @@
 use Rattle.std.proofs.Common.{rules, ◌≡◌, ℕ, ◌-◌, List, [], length, take, drop, ap, ◌∙◌, arith}
 use Rattle.std.proofs.lemmas.List.{length-take}
 use Rattle.wsn_print.specs.DifferingPayloads.{payload_on}
-use Rattle.wsn_print.specs.QuotedTexts.{payload_in}
-use Rattle.wsn_print.proofs.HeldViews.{rest_is}
+use Rattle.wsn_print.specs.ShownParts.{payload_in}
+use Rattle.wsn_print.proofs.HeldParts.{rest_is}
 use Rattle.wsn_events.specs.PayloadExcerpts.{meant_payload}
 use Rattle.wsn_events.proofs.ExcerptViews.{appended}
 use Rattle.wsn_events.proofs.PayloadParts.{first_kept}

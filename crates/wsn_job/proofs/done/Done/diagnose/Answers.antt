@@ -18,3 +18,6 @@ returns-in-Judge g c = search rules
 
 pub returns-in-Payload : goal.returns-in-Payload
 returns-in-Payload g c = search rules
+
+pub returns-in-RedactCapture : goal.returns-in-RedactCapture
+returns-in-RedactCapture g c = search rules

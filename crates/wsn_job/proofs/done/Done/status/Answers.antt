@@ -15,3 +15,9 @@ returns-in-Judge g c = search rules
 
 pub returns-in-Payload : goal.returns-in-Payload
 returns-in-Payload g c = search rules
+
+pub returns-in-Redact : goal.returns-in-Redact
+returns-in-Redact g c = search rules
+
+pub returns-in-RedactCapture : goal.returns-in-RedactCapture
+returns-in-RedactCapture g c = search rules

@@ -1,6 +1,6 @@
 use Rattle.std.proofs.Common.{◌≡◌, ◌++◌, ◌∙◌, ℕ, List, get_or, ap}
 use Rattle.std.specs.Prelude.{Some}
-use Rattle.wsn_print.specs.ShownText.{ascii_escape}
+use Rattle.wsn_print.specs.EscapedText.{ascii_escape}
 use Rattle.wsn_print.specs.Runs.{hidden_of}
 use Rattle.wsn_print.proofs.RunTexts.{hidden_first}
 use Rattle.wsn_print.proofs.held_text.HeldText.add_first.Goals as goal

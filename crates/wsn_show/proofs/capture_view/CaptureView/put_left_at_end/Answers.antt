@@ -3,8 +3,8 @@ use Rattle.std.proofs.Common.{◌≡◌, [], ◌++◌, ap, true, false, inl, inr
 use Rattle.wsn_wire.specs.declared.endpoint.Role.{Role}
 use Rattle.wsn_io.specs.Transfer.{IsWrittenUpToFailure}
 use Rattle.wsn_rules.specs.Sides.{has_ended, sent}
-use Rattle.wsn_print.specs.ShownObjects.{Position}
-use Rattle.wsn_print.specs.ShownObjects.Position.{AtEnd}
+use Rattle.wsn_print.specs.ShownParts.{Position}
+use Rattle.wsn_print.specs.ShownParts.Position.{AtEnd}
 use Rattle.wsn_show.specs.LastTimes.{last_time}
 use Rattle.wsn_show.specs.Styles.{styled_items}
 use Rattle.wsn_show.specs.StreamViews.{HasViewed}

@@ -5,7 +5,7 @@ use Rattle.wsn_rules.specs.Entries.{bytes_prefix}
 use Rattle.wsn_rules.specs.Entries.Entry.{Bytes}
 use Rattle.wsn_rules.specs.Sides.{sent}
 use Rattle.wsn_capture.specs.CaptureLines.{HasAccepted, HasNotedCloses}
-use Rattle.wsn_print.specs.ShownObjects.{Position}
+use Rattle.wsn_print.specs.ShownParts.{Position}
 use Rattle.wsn_show.specs.CaptureViews.{IsAcceptedText, CanShow, ShowsText}
 use Rattle.wsn_show.proofs.ShownEntries.{Takes, shows_client, shows_server, room_for_client, room_for_server}
 use Rattle.wsn_show.proofs.capture_view.CaptureView.show_bytes.Goals as goal

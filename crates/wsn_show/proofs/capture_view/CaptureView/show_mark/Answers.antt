@@ -2,7 +2,7 @@ use Rattle.std.proofs.Common.{refl, sym, subst}
 use Rattle.wsn_wire.specs.declared.endpoint.Role.{Role}
 use Rattle.wsn_wire.specs.declared.endpoint.Role.TheVariants.{Client, Server}
 use Rattle.wsn_rules.specs.Sides.{sent}
-use Rattle.wsn_print.specs.ShownObjects.{Position}
+use Rattle.wsn_print.specs.ShownParts.{Position}
 use Rattle.wsn_show.specs.StreamViews.{HasViewed}
 use Rattle.wsn_show.specs.CaptureViews.{IsAcceptedText, line_position, ShowsText, ShowsMark}
 use Rattle.wsn_show.proofs.ShownEntries.{shows_mark}

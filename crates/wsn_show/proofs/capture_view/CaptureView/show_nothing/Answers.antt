@@ -1,7 +1,7 @@
 use Rattle.std.proofs.Common.{ℕ, Option, List, sym, ap, subst, ◌∙◌}
 use Rattle.wsn_io.specs.Transfer.{IsWrittenUpToFailure}
 use Rattle.wsn_print.specs.declared.format.Format.{Format}
-use Rattle.wsn_print.specs.Formats.{comment_entry}
+use Rattle.wsn_shown_text.specs.EntryFormats.{comment_entry}
 use Rattle.wsn_capture.specs.CaptureLines.{count_of}
 use Rattle.wsn_print.specs.declared.style.Style.{Style}
 use Rattle.wsn_io.proofs.PutTexts.{prints_nothing, went_out}

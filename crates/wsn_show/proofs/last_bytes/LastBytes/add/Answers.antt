@@ -1,5 +1,5 @@
 use Rattle.std.proofs.Common.{◌≡◌, ℕ, ◌+◌, ◌-◌, List, ◌++◌, length, take, drop, min, refl, ap, ◌∙◌}
-use Rattle.wsn_print.proofs.HeldViews.{rest_is}
+use Rattle.wsn_print.proofs.HeldParts.{rest_is}
 use Rattle.wsn_show.proofs.MoreBytesHeld.{counted, last_more}
 use Rattle.wsn_show.proofs.last_bytes.LastBytes.add.Goals as goal
 

@@ -1,5 +1,5 @@
 use Rattle.std.proofs.Common.{◌-◌, length, take, drop, sym, ◌∙◌}
-use Rattle.wsn_print.proofs.HeldViews.{rest_is}
+use Rattle.wsn_print.proofs.HeldParts.{rest_is}
 use Rattle.wsn_show.proofs.ShownPieces.{shows_none, shows_rest, frames_of}
 use Rattle.wsn_show.proofs.shown_scan.ShownScan.take.Goals as goal
 

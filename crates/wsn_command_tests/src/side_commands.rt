@@ -1,0 +1,253 @@
+//! Commands on one side of a capture: they answer as on the side's bytes; at a line that isn't accepted they end, report
+//! the line, and what they printed before stays.
+ghost use Rattle.wsn_job.specs.Sides.{MayRunOnSide};
+
+use crate::expecting::{expect_bytes_of, expect_equal_of, expect_run};
+use std::alloc::Global;
+use std::io::ErrorKind;
+use std::process::Abort;
+use wsn_command_runs::{run_on, run_on_side_on, run_same_on_sides_on};
+use wsn_doubles::readers::{Chopped, READS};
+use wsn_doubles::vectors::{filled, greatest};
+use wsn_doubles::writers::{FULL, Narrow};
+use wsn_job::{Format, How, Job};
+use wsn_wire::Role;
+
+/// Lines of both sides, and no LF at the end.
+const BOTH: &[u8] =
+    b"C 818500000000\r\nS 8900\n# both\nC 48656c6c6f\nS 0102\nS 4869\n\nS.\nC 8980\nC 00000000";
+
+const BOTH_CLIENT: &[u8] = b"\x81\x85\x00\x00\x00\x00Hello\x89\x80\x00\x00\x00\x00";
+
+const BOTH_SERVER: &[u8] = b"\x89\x00\x01\x02Hi";
+
+/// A ping and a text's head, and then a line of none of the forms.
+const FAULTY: &[u8] = b"C 00\nS 8900\nS 8102\nX\nS 4869\n";
+
+/// Fails unless this is the result of a command on the server's side of a text, however the text is read.
+fn expect_on_side(
+    rt: &impl Abort,
+    alloc: Global,
+    job: &Job,
+    text: &[u8],
+    status: u8,
+    out: &[u8],
+    line: &str,
+)
+    requires { MayRunOnSide job.now }
+{
+    for at_most in READS {
+        let text = Chopped::new(text, at_most);
+        let done = run_on_side_on(alloc, alloc, job, Role::Server, text, Narrow::wide(alloc));
+        expect_run(rt, &done, status, out, line);
+    }
+}
+
+/// Fails unless a command answers on a side of `BOTH` as it does on the side's bytes.
+fn expect_as_on_bytes(rt: &impl Abort, alloc: Global, job: &Job, role: Role, bytes: &[u8])
+    requires { MayRunOnSide job.now }
+{
+    let text = Chopped::new(BOTH, 7);
+    let side = run_on_side_on(alloc, alloc, job, role, text, Narrow::wide(alloc));
+    let stream = Chopped::new(bytes, 5);
+    let done = run_on(alloc, alloc, job, stream, Narrow::wide(alloc));
+    expect_bytes_of(rt, side.out.as_slice(), done.out.as_slice(), &role);
+    expect_bytes_of(rt, side.err.as_slice(), done.err.as_slice(), &role);
+    expect_equal_of(rt, &side.status, &done.status, &role);
+}
+
+#[test]
+fn each_command_answers_as_on_the_sides_bytes(rt: HostRuntime) {
+    let alloc = rt.alloc();
+    for (role, bytes) in [(Role::Client, BOTH_CLIENT), (Role::Server, BOTH_SERVER)] {
+        expect_as_on_bytes(
+            &rt,
+            alloc,
+            &Job::Judge(role, greatest(), Format::Text),
+            role,
+            bytes,
+        );
+        expect_as_on_bytes(
+            &rt,
+            alloc,
+            &Job::Frames(role, greatest(), Format::Text),
+            role,
+            bytes,
+        );
+        expect_as_on_bytes(&rt, alloc, &Job::Normal(role, greatest()), role, bytes);
+        expect_as_on_bytes(&rt, alloc, &Job::Redact(role, greatest()), role, bytes);
+        expect_as_on_bytes(&rt, alloc, &Job::Plan(role, greatest()), role, bytes);
+    }
+}
+
+#[test]
+fn a_side_is_recut_by_size(rt: HostRuntime) {
+    let alloc = rt.alloc();
+    let how = How::by_size(Role::Server, 1, false, None).expect(&rt, "a size");
+    let job = Job::Recut(Role::Server, greatest(), how);
+    let text = b"S 8102\nC 00\nS 4869";
+    expect_on_side(&rt, alloc, &job, text, 0, b"\x01\x01H\x80\x01i", "");
+    expect_on_side(&rt, alloc, &job, FAULTY, 2, b"", "line 4: bad-form");
+}
+
+#[test]
+fn what_was_printed_before_a_faulty_line_stays(rt: HostRuntime) {
+    let alloc = rt.alloc();
+    let line = "line 4: bad-form";
+    let judge = Job::Judge(Role::Server, greatest(), Format::Text);
+    expect_on_side(&rt, alloc, &judge, FAULTY, 2, b"", line);
+    let frames = Job::Frames(Role::Server, greatest(), Format::Text);
+    let heads = b"0 fin ping - 0\n2 fin text - 2\n";
+    expect_on_side(&rt, alloc, &frames, FAULTY, 2, heads, line);
+    let normal = Job::Normal(Role::Server, greatest());
+    expect_on_side(&rt, alloc, &normal, FAULTY, 2, b"\x89\x00", line);
+    let plan = Job::Plan(Role::Server, greatest());
+    expect_on_side(&rt, alloc, &plan, FAULTY, 2, b"", line);
+}
+
+/// A text, and the line that is reported of it.
+static FAULTS: [(&str, &str); 6] = [
+    ("X", "line 1: bad-form"),
+    ("# C\n\nS 8\n", "line 3: bad-hex"),
+    ("C 8g\nS 8900", "line 1: bad-hex"),
+    ("S 8900\nS.\nS 8900\n", "line 3: after-end"),
+    ("C.\nC.", "line 2: after-end"),
+    ("S 8900\nC.\nS.\nC 00\r\n", "line 4: after-end"),
+];
+
+#[test]
+fn bad_form_bad_hex_and_after_end_are_reported(rt: HostRuntime) {
+    let alloc = rt.alloc();
+    let judge = Job::Judge(Role::Server, greatest(), Format::Text);
+    for (text, line) in FAULTS.iter() {
+        expect_on_side(&rt, alloc, &judge, text.as_bytes(), 2, b"", line);
+    }
+}
+
+#[test]
+fn too_long_and_too_many_lines_are_reported(rt: HostRuntime) {
+    let alloc = rt.alloc();
+    let judge = Job::Judge(Role::Server, greatest(), Format::Text);
+    let long = filled(alloc, b"#\n#", b'#', 8_194).expect(&rt, "memory");
+    expect_on_side(
+        &rt,
+        alloc,
+        &judge,
+        long.as_slice(),
+        2,
+        b"",
+        "line 2: too-long",
+    );
+    let many = filled(alloc, b"", b'\n', 1_000_001).expect(&rt, "memory");
+    let text = Chopped::new(many.as_slice(), usize::MAX);
+    let done = run_on_side_on(
+        alloc,
+        alloc,
+        &judge,
+        Role::Server,
+        text,
+        Narrow::wide(alloc),
+    );
+    expect_run(&rt, &done, 2, b"", "line 1000001: too-many-lines");
+}
+
+#[test]
+fn a_refusal_before_a_faulty_line_is_the_answer(rt: HostRuntime) {
+    let alloc = rt.alloc();
+    let text = b"C 00\nS 89\nS 00c1\nX\n";
+    let judge = Job::Judge(Role::Server, greatest(), Format::Text);
+    let verdict = b"refused 2 reserved-bits 1002\n";
+    expect_on_side(&rt, alloc, &judge, text, 1, verdict, "");
+    let plan = Job::Plan(Role::Server, greatest());
+    expect_on_side(
+        &rt,
+        alloc,
+        &plan,
+        text,
+        1,
+        b"",
+        "refused 2 reserved-bits 1002",
+    );
+}
+
+#[test]
+fn a_failed_read_of_the_text_is_reported_as_such(rt: HostRuntime) {
+    let alloc = rt.alloc();
+    let frames = Job::Frames(Role::Server, greatest(), Format::Text);
+    for left in [FAULTY.len(), 10, 9, 8] {
+        let text = Chopped::stumbling(FAULTY, 4, left, ErrorKind::Interrupted);
+        let done = run_on_side_on(
+            alloc,
+            alloc,
+            &frames,
+            Role::Server,
+            text,
+            Narrow::wide(alloc),
+        );
+        expect_equal_of(&rt, &done.status, &2, &left);
+        expect_bytes_of(&rt, done.err.as_slice(), b"read failed\n", &left);
+    }
+}
+
+#[test]
+fn a_failed_write_before_a_faulty_line_is_reported(rt: HostRuntime) {
+    let alloc = rt.alloc();
+    let frames = Job::Frames(Role::Server, greatest(), Format::Text);
+    for full in FULL {
+        let text = Chopped::new(FAULTY, 3);
+        let writer = Narrow::new(alloc, 1, 4, full);
+        let done = run_on_side_on(alloc, alloc, &frames, Role::Server, text, writer);
+        expect_run(&rt, &done, 2, b"0 fi", "write failed");
+    }
+}
+
+/// Two captures, and the exit status, the line on standard output, and the line on standard error.
+static PAIRS: [(&str, &str, u8, &str, &str); 7] = [
+    (
+        "S 8102\nS 4869",
+        "# x\nS 0101\nS 488001\nC 00\nS 69",
+        0,
+        "equal\n",
+        "",
+    ),
+    ("S 8900", "S 8a00", 1, "different 0\n", ""),
+    ("S 89", "S 8900", 1, "first cut 1\n", ""),
+    ("S 8900\nX", "S 8900\n", 2, "", "line 2: bad-form"),
+    ("S 8900\n", "S 8900\n\nS 8", 2, "", "line 3: bad-hex"),
+    ("X", "\nX", 2, "", "line 1: bad-form"),
+    ("S 8900\nX", "X", 2, "", "line 1: bad-form"),
+];
+
+#[test]
+fn sides_of_captures_are_compared(rt: HostRuntime) {
+    let alloc = rt.alloc();
+    for (first, second, status, out, line) in PAIRS.iter() {
+        let done = run_same_on_sides_on(
+            alloc,
+            greatest(),
+            Chopped::new(first.as_bytes(), 3),
+            Chopped::new(second.as_bytes(), 4),
+            Narrow::wide(alloc),
+        );
+        expect_run(&rt, &done, *status, out.as_bytes(), line);
+    }
+}
+
+#[test]
+fn a_failed_read_of_either_text_is_reported_as_such(rt: HostRuntime) {
+    let alloc = rt.alloc();
+    for (first, second) in [
+        (
+            Chopped::breaking(b"S 8900\n", 3),
+            Chopped::new(b"S 8900\nX", 3),
+        ),
+        (
+            Chopped::new(b"S 8900\n", 3),
+            Chopped::breaking(b"S 8900\n", 3),
+        ),
+    ] {
+        let writer = Narrow::wide(alloc);
+        let done = run_same_on_sides_on(alloc, greatest(), first, second, writer);
+        expect_run(&rt, &done, 2, b"", "read failed");
+    }
+}

@@ -1,0 +1,18 @@
+use Rattle.std.proofs.Common.{◌≡◌, ◌++◌, length, take, length-append, length-take, length-take-le, refl, arith}
+use Rattle.std.proofs.KnownBytes.{Consumes-trans}
+use Rattle.wsn_rules.proofs.AllOfList.{all_append}
+use Rattle.wsn_hint.specs.Hints.{IsTextByte}
+use Rattle.wsn_hint.proofs.sent_text.read_text.Goals as goal
+
+pub loop-left-preserved : goal.loop-left-preserved
+loop-left-preserved g c =
+    let loop = c.loop-left.invariant in
+    let read = c.in-Some.ensures in
+    let came = take c.in-Some.read c.read.new.into in
+    let few = c.min.ensures in
+    let size : length came ≡ c.in-Some.read = length-take-le c.in-Some.read c.read.new.into read.within in (
+      loop.0 ++ came,
+      Consumes-trans c.args.input.now.remaining c.loop-left.input.remaining c.read.new.self.remaining loop.0 came loop.1 read.bytes,
+      all_append IsTextByte loop.0 came loop.2 (c.if-not-is_text.ensures.0 refl),
+      omega (arith, loop.3, size, few, read.within, length-append loop.0 came, c.read.auto.into, length-take c.min.result c.loop-left.chunk),
+    )

@@ -1,0 +1,135 @@
+ghost use Rattle.std.specs.Prelude.{◌≡◌, ℕ, List, true, false, Some, IfSome, length, drop};
+ghost use Rattle.std.specs.Io.KnownBytes.{Consumes};
+ghost use Rattle.wsn_wire.specs.Frame.{IsKey};
+ghost use Rattle.wsn_rules.specs.BadCharacter.{payload_offset};
+ghost use Rattle.wsn_capture.specs.SideTexts.{sent_in};
+ghost use Rattle.wsn_hint.specs.SideHints.{BeginsInAscii, HasHead, IsSentAsText};
+
+use crate::streams::is_text;
+use std::io::Read;
+use wsn_capture::SideReader;
+use wsn_rules::{HeadInfo, Limits};
+use wsn_scan::{FrameReader, Part};
+use wsn_wire::{Form, Input, Role};
+
+/// The number of bytes of a side that are read at once.
+const CHUNK: usize = 512;
+
+/// Whether the frame with this offset in its payload has a key that isn't zero, and its payload is a text in ASCII as it
+/// was sent, as far as it is within the lines of these bytes (RFC 6455 section 5.3).
+pub fn is_sent_as_text(first: &[u8], role: Role, limits: Limits, place: u64) -> bool
+    ensures { result ≡ true → IsSentAsText role limits (sent_in role first.now) place }
+{
+    let Some((head, start)) = head_before(first, role, limits, place) else {
+        return false;
+    };
+    match head.key {
+        Some(key) if key != [0; 4] => {
+            let len = text_len(first, role, start, head.len);
+            start <= place && place - start < len
+        }
+        _ => false,
+    }
+}
+
+/// The head of the frame that isn't whole and has this offset in its payload, by the lines of these bytes, and the offset
+/// at which its payload begins.
+fn head_before(first: &[u8], role: Role, limits: Limits, place: u64) -> Option<(HeadInfo, u64)>
+    ensures head { IfSome result (λ found. HasHead role limits (sent_in role first.now) found.0) }
+    ensures start { IfSome result (λ found. found.1 ≡ payload_offset found.0) }
+{
+    let mut side = Input::new(SideReader::new(first, role));
+    let mut reader = FrameReader::new(role, limits);
+    let mut part = Part::new();
+    loop {
+        match reader.next(&mut side, &mut part) {
+            Ok(None) => {
+                if let Some(start) = start_before(&part, place) {
+                    return Some((part.head, start));
+                }
+            }
+            Ok(Some(_)) | Err(_) => return None,
+        }
+    }
+}
+
+/// The offset at which the payload begins of the frame that this is a part of, if the frame isn't whole and its payload
+/// has the byte at this offset.
+fn start_before(part: &Part, place: u64) -> Option<u64>
+    ensures unfinished { IfSome result (λ _. part.now.ends ≡ false) }
+    ensures start { IfSome part.now.head.key IsKey → IfSome result (λ start. start ≡ payload_offset part.now.head) }
+{
+    let start = payload_start(&part.head)?;
+    if part.ends || place < start || place - start >= part.head.len {
+        return None;
+    }
+    Some(start)
+}
+
+/// The offset of the first byte after a head.
+fn payload_start(head: &HeadInfo) -> Option<u64>
+    ensures { IfSome head.now.key IsKey → IfSome result (λ start. start ≡ payload_offset head.now) }
+{
+    let length = match head.form {
+        Form::Two => 2,
+        Form::Eight => 8,
+        Form::Shortest if head.len < 126 => 0,
+        Form::Shortest if head.len < 65536 => 2,
+        Form::Shortest => 8,
+    };
+    let key = if head.key.is_some() { 4 } else { 0 };
+    head.place.checked_add(2 + length + key)
+}
+
+/// The number of bytes, at most this many, that the endpoint sent from this offset on, by the lines of these bytes, if all
+/// of them are of a text in ASCII; otherwise 0.
+fn text_len(first: &[u8], role: Role, start: u64, most: u64) -> u64
+    ensures { BeginsInAscii most result (drop start (sent_in role first.now)) }
+{
+    let mut side = Input::new(SideReader::new(first, role));
+    if !skip(&mut side, start) {
+        return 0;
+    }
+    match read_text(&mut side, most) {
+        Some(len) => len,
+        None => 0,
+    }
+}
+
+/// Reads this number of bytes. `false` if there are fewer.
+fn skip<R: Read>(input: &mut Input<R>, count: u64) -> bool
+    ensures { result ≡ true → (passed : List ℕ) × (length passed ≡ count)
+        × Consumes input.old.remaining input.new.remaining passed }
+{
+    let mut chunk = [0; CHUNK];
+    let mut left = count;
+    while left > 0 {
+        let piece = &mut chunk[..left.min(CHUNK as u64) as usize];
+        match input.read(piece) {
+            Some(read) if read > 0 => left -= read as u64,
+            _ => return false,
+        }
+    }
+    true
+}
+
+/// Reads bytes, at most this many, and returns how many came. `None` if one isn't of a text in ASCII.
+fn read_text<R: Read>(input: &mut Input<R>, most: u64) -> Option<u64>
+    ensures { IfSome result (λ count. (bytes : List ℕ) → input.old.remaining ≡ Some bytes →
+        BeginsInAscii most count bytes) }
+{
+    let mut chunk = [0; CHUNK];
+    let mut left = most;
+    while left > 0 {
+        let piece = &mut chunk[..left.min(CHUNK as u64) as usize];
+        let read = match input.read(piece) {
+            Some(read) if read > 0 => read,
+            _ => return Some(most - left),
+        };
+        if !is_text(&piece[..read]) {
+            return None;
+        }
+        left -= read as u64;
+    }
+    Some(most)
+}

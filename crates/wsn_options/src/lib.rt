@@ -1,0 +1,13 @@
+//! The commands and options of the program, as clap is told of them, and the help texts.
+//!
+//! [`program`] describes all commands. [`SHARED`] follows the help of each. What words of a command line ask for is in
+//! `wsn_cli`.
+#![tactic(auto)]
+
+mod commands;
+mod help;
+mod options;
+mod recut_options;
+
+pub use commands::program;
+pub use help::SHARED;

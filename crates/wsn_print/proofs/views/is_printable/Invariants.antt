@@ -1,7 +1,0 @@
-use Rattle.std.proofs.Common.{◌≡◌, drop}
-use Rattle.wsn_print.specs.ShownText.{is_printable}
-use Rattle.wsn_print.proofs.views.is_printable.Given as goal
-
--- The bytes so far are printable.
-abbrev pub invariant-loop-b : goal.invariant-loop-b
-invariant-loop-b l = is_printable (drop l.b-index l.bytes) ≡ is_printable l.bytes

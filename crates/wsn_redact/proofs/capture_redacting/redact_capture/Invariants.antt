@@ -1,0 +1,19 @@
+use Rattle.std.proofs.Common.{◌≡◌, ◌≤◌, ◌<◌, false, length}
+use Rattle.wsn_capture.specs.CaptureLines.{count_of}
+use Rattle.wsn_redact.specs.PassedRedactions.{bytes_ahead}
+use Rattle.wsn_redact.proofs.RedactedCaptureInputs.{HasRedactedOn}
+use Rattle.wsn_redact.proofs.capture_redacting.redact_capture.Given as goal
+
+-- all bytes that came are redacted, and no read and no write has failed
+abbrev pub invariant-loop-count : goal.invariant-loop-count
+invariant-loop-count g l = record {
+  read : HasRedactedOn l.fn.limits l.fn.input l.input l.fn.output l.redactor l.lines l.output;
+  unfailed : l.input.failed ≡ false;
+  writable : l.output.failed ≡ false;
+  few : count_of l.redactor.lines ≤ 1000000;
+  short : length l.lines < 8196;
+  size : length l.piece ≡ 4096;
+}
+
+abbrev pub decreases-loop-count : goal.decreases-loop-count
+decreases-loop-count g l = bytes_ahead l.redactor l.lines

@@ -1,0 +1,93 @@
+-- The redaction of a capture: both streams redacted, cut at the same places, in as many lines. Of comments only times,
+-- who reset the connection, and the names of extensions are left.
+use Rattle.std.specs.Prelude.{◌≡◌, ◌≢◌, ℕ, ◌⊎◌, ◌==◌, ◌||◌, ◌&&◌, not, Bool, true, false, List, [], ◌∷◌, ◌++◌, length, drop, codes, if◌then◌else◌}
+use Rattle.hex.specs.Hex.{encode_lower}
+use Rattle.wsn_wire.specs.declared.endpoint.Role.{Role}
+use Rattle.wsn_wire.specs.declared.endpoint.Role.TheVariants.{Client, Server}
+use Rattle.wsn_rules.specs.Limits.{Limits}
+use Rattle.wsn_rules.specs.Entries.{Entry, without_cr, bytes_prefix}
+use Rattle.wsn_rules.specs.Entries.Entry.{Nothing, Bytes, Mark}
+use Rattle.wsn_rules.specs.Sides.{sent}
+use Rattle.wsn_rules.specs.ShownCapture.{GivesTime}
+use Rattle.wsn_capture.specs.LineFaults.{AreAcceptedLines}
+use Rattle.wsn_show.specs.EndedBy.{reset_comment}
+use Rattle.wsn_redact.specs.Redaction.{IsRedaction}
+
+-- ---- comments
+
+-- [9.1] Whether a byte of a list of extensions is left out: it is in a parameter's value, a token, and isn't the `;` or
+-- `,` that ends it.
+abbrev pub is_left_out : Bool → ℕ → Bool
+is_left_out in_value b = in_value && not ((b == 59) || (b == 44))
+
+-- [9.1] A list of extensions without the values of their parameters: what follows `=`, up to `;`, `,` or the end, is left
+-- out. At first, whether the list begins in a value.
+abbrev pub without_values : Bool → List ℕ → List ℕ
+without_values in_value [] = []
+without_values in_value (b ∷ list) =
+    if is_left_out in_value b then without_values true list else b ∷ without_values (b == 61) list
+
+-- How the comment begins that has the extensions of a handshake's answer.
+abbrev pub extensions_prefix : List ℕ
+extensions_prefix = codes "# extensions: "
+
+-- A comment that says that an endpoint reset the connection.
+abbrev pub IsReset : List ℕ → Type 0
+IsReset text = (text ≡ reset_comment Client) ⊎ (text ≡ reset_comment Server)
+
+-- A comment that stays as it is: one that gives a time, or that an endpoint reset the connection.
+abbrev pub Stays : List ℕ → Type 0
+Stays text = ((seconds : List ℕ) × GivesTime text seconds) ⊎ IsReset text
+
+-- A comment with extensions, given the list of them.
+abbrev pub HasExtensions : List ℕ → List ℕ → Type 0
+HasExtensions text list = text ≡ extensions_prefix ++ list
+
+-- A comment that says anything else.
+abbrev pub SaysElse : List ℕ → Type 0
+SaysElse text = (text ≢ []) × (Stays text → ⊥) × ((list : List ℕ) → HasExtensions text list → ⊥)
+
+-- What becomes of the text of a line that gives nothing, without its CR: an empty one stays, and a comment stays, is left
+-- without the values of extensions, or becomes `#`.
+abbrev pub IsRedactedNothing : List ℕ → List ℕ → Type 0
+IsRedactedNothing text redacted =
+    (((text ≡ []) ⊎ Stays text) × (redacted ≡ text))
+    ⊎ ((list : List ℕ) × HasExtensions text list × (redacted ≡ extensions_prefix ++ without_values false list))
+    ⊎ (SaysElse text × (redacted ≡ codes "#"))
+
+-- ---- lines
+
+-- What becomes of the text of a line with this entry, without its CR, if the redacted line is to have the other entry:
+-- as many bytes of the same endpoint, in lower case; an end mark stays.
+abbrev pub IsRedactedText : List ℕ → Entry → Entry → List ℕ → Type 0
+IsRedactedText text Nothing Nothing redacted = IsRedactedNothing text redacted
+IsRedactedText text (Bytes role bytes) (Bytes other others) redacted =
+    (other ≡ role) × (length others ≡ length bytes) × (redacted ≡ bytes_prefix role ++ encode_lower others)
+IsRedactedText text (Mark role) (Mark other) redacted = (other ≡ role) × (redacted ≡ text)
+IsRedactedText text entry other redacted = ⊥
+
+-- The CR at the end of a line, if there is one.
+abbrev pub cr_of : List ℕ → List ℕ
+cr_of line = drop (length (without_cr line)) line
+
+-- What becomes of a line; its CR stays.
+abbrev pub IsRedactedLine : List ℕ → Entry → Entry → List ℕ → Type 0
+IsRedactedLine line entry other redacted =
+    (text : List ℕ) × IsRedactedText (without_cr line) entry other text × (redacted ≡ text ++ cr_of line)
+
+-- What becomes of lines with these entries, one for each, if the redacted lines are to have the others.
+abbrev pub AreRedactedLines : List (List ℕ) → List Entry → List Entry → List (List ℕ) → Type 0
+AreRedactedLines [] [] [] [] = Unit {0}
+AreRedactedLines (line ∷ lines) (entry ∷ entries) (other ∷ others) (r ∷ redacted) =
+    IsRedactedLine line entry other r × AreRedactedLines lines entries others redacted
+AreRedactedLines lines entries others redacted = ⊥
+
+-- ---- captures
+
+-- The redacted lines of a capture with these lines: each endpoint's bytes in them are the redaction of its bytes.
+pub record IsRedactedCapture (limits : Limits) (lines redacted : List (List ℕ)) : Type 0 where
+  pub entries : List Entry
+  pub taken : AreAcceptedLines limits lines entries
+  pub others : List Entry
+  pub each : AreRedactedLines lines entries others redacted
+  pub streams : (role : Role) → IsRedaction role limits (sent role entries) (sent role others)

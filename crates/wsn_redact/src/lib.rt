@@ -1,0 +1,27 @@
+//! Redacts one endpoint's stream: what was said becomes stand-ins and zeros, each byte in its place, and all framing and
+//! the verdict stay as they were (RFC 6455 sections 5 and 7).
+//!
+//! [`redact`] writes it as its bytes come and holds none of them. `specs/StandIns.antt` defines what takes the place of a
+//! text, `specs/Redaction.antt` the redaction of a stream, and `specs/Redacting.antt` what is answered and written.
+//!
+//! [`redact_capture`] writes a capture with both streams redacted, cut into the same lines, and of its comments only times,
+//! who reset the connection and the names of extensions. A [`CaptureRedactor`] does so line by line.
+//! `specs/RedactedCaptures.antt` defines what becomes of the lines, and `specs/RedactingCaptures.antt` what is answered and
+//! written.
+#![tactic(auto)]
+
+pub mod capture_examples;
+pub mod capture_laws;
+mod capture_redacting;
+mod capture_redactor;
+mod due;
+pub mod examples;
+pub mod laws;
+mod redacted_line;
+mod redacting;
+mod redactor;
+
+pub use capture_redacting::{RedactStop, redact_capture};
+pub use capture_redactor::CaptureRedactor;
+pub use redacted_line::{LINE_ROOM, redact_line};
+pub use redacting::redact;

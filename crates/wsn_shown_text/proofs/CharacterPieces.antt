@@ -1,0 +1,86 @@
+-- The pieces of what is shown of a bad character.
+use Rattle.std.proofs.Common.{◌≡◌, ◌≢◌, ℕ, ◌+◌, Bool, nat_lt, ◌==◌, ◌||◌, if◌then◌else◌, List, [], ◌∷◌, ◌++◌, length, take, codes, decimal, refl, sym, ap, ◌∙◌, append_assoc, arith}
+use Rattle.std.specs.Prelude.{flat_map}
+use Rattle.std.specs.Str.{chars, IsUtf8}
+use Rattle.std.specs.Str.Lossy.{utf8_valid_len}
+use Rattle.std.proofs.lemmas.List.{take-append-le, take_all}
+use Rattle.hex.specs.Hex.{encode_lower}
+use Rattle.wsn_rules.specs.BadCharacter.{BadCharacter}
+use Rattle.wsn_print.specs.Json.{field, number_field}
+use Rattle.wsn_print.specs.EscapedText.{quoted_character, quoted}
+use Rattle.wsn_shown_text.specs.ShownObjects.{hex_field, truncated_field}
+use Rattle.wsn_shown_text.specs.CharacterText.{whole_characters, from_character, bytes_before, text_before, byte_escape, character_text, character_view, shown_bytes, truncated_text, character_object}
+use Rattle.wsn_shown_text.proofs.HeldViews.{not_zero}
+use Rattle.wsn_shown_text.proofs.TextFronts.{whole_is_utf8}
+
+-- ---- the text before it
+
+-- The text at the front of bytes that is as long as their whole characters.
+pub first_text : (bytes text rest : List ℕ) → bytes ≡ text ++ rest → length text ≡ utf8_valid_len bytes → text ≡ whole_characters bytes
+first_text bytes text rest is size =
+    sym (ap (λ (n : ℕ). take n bytes) (sym size) ∙ ap (take (length text)) is ∙ take-append-le (length text) text rest (omega arith) ∙ take_all (length text) text (omega arith))
+
+pub no_text : (bytes : List ℕ) → length bytes ≡ 0 → [] ≡ whole_characters bytes
+unfolding utf8_valid_len
+no_text [] none = refl
+no_text (b ∷ bytes) none = absurd (omega (arith, none))
+
+pub before_is_utf8 : (n : ℕ) (all shown : List ℕ) (character : BadCharacter) → shown ≡ text_before n all character → IsUtf8 shown
+before_is_utf8 n all shown character is =
+    rw is (whole_is_utf8 (from_character (bytes_before n all character)))
+
+-- ---- its line
+
+text_whole : (dots quote before bytes end : List ℕ) → dots ++ (quote ++ (before ++ (bytes ++ end))) ≡ dots ++ (quote ++ before ++ bytes ++ end)
+text_whole dots quote before bytes end = simp append_assoc
+
+pub text_is : (n size : ℕ) (all before : List ℕ) (character : BadCharacter) → size ≡ length all → before ≡ text_before n all character
+    → (if nat_lt (length before + length character.bytes) size then codes ".." else [])
+    ++ (codes "\"" ++ (flat_map quoted_character (chars before) ++ (flat_map byte_escape character.bytes ++ codes "\""))) ≡ character_text n all character
+text_is n size all before character is_size is =
+    let escapes : List ℕ = flat_map byte_escape character.bytes ++ codes "\"" in
+    let text : List ℕ = text_before n all character in
+    ap (λ (b : List ℕ). (if nat_lt (length b + length character.bytes) size then codes ".." else []) ++ (codes "\"" ++ (flat_map quoted_character (chars b) ++ escapes))) is
+    ∙ ap (λ (k : ℕ). (if nat_lt (length text + length character.bytes) k then codes ".." else []) ++ (codes "\"" ++ (flat_map quoted_character (chars text) ++ escapes))) is_size
+    ∙ text_whole (if nat_lt (length text + length character.bytes) (length all) then codes ".." else []) (codes "\"") (flat_map quoted_character (chars text)) (flat_map byte_escape character.bytes) (codes "\"")
+
+pub view_is : (n : ℕ) (all : List ℕ) (character : BadCharacter) → n ≢ 0
+    → encode_lower character.bytes ++ (codes " " ++ character_text n all character) ≡ character_view n all character
+view_is n all character some =
+    sym (append_assoc (encode_lower character.bytes) (codes " ") (character_text n all character))
+    ∙ sym (ap (λ (none : Bool). if none then codes "- -" else encode_lower character.bytes ++ codes " " ++ character_text n all character) (not_zero n some))
+
+pub view_unseen : (n : ℕ) (all : List ℕ) (character : BadCharacter) → n ≡ 0 → codes "- -" ≡ character_view n all character
+view_unseen n all character none = ap (λ (k : ℕ). character_view k all character) (sym none)
+
+pub line_is : (front word place space view end : List ℕ) → front ++ ((word ++ place ++ space) ++ (view ++ end)) ≡ front ++ word ++ place ++ space ++ view ++ end
+line_is front word place space view end = simp append_assoc
+
+-- ---- its object
+
+object_whole : (offset place hex before truncated end : List ℕ) → (offset ++ place) ++ (hex ++ ((before ++ truncated) ++ end)) ≡ offset ++ place ++ hex ++ before ++ truncated ++ end
+object_whole offset place hex before truncated end = simp append_assoc
+
+pub object_is : (n : ℕ) (all : List ℕ) (character : BadCharacter)
+    → (codes ",\"character\":{\"offset\":" ++ decimal character.offset ++ number_field (codes "in_payload") character.in_payload)
+    ++ (hex_field (shown_bytes n character) ++ ((field (codes "before") (quoted (text_before n all character)) ++ truncated_text n all character) ++ codes "}"))
+    ≡ field (codes "character") (character_object n all character)
+object_is n all character =
+    ap (λ (bytes : List ℕ). codes ",\"character\":{\"offset\":" ++ bytes)
+    (object_whole (decimal character.offset) (number_field (codes "in_payload") character.in_payload) (hex_field (shown_bytes n character)) (field (codes "before") (quoted (text_before n all character))) (truncated_text n all character) (codes "}"))
+
+pub truncated_unseen : (n shown all : ℕ) → n ≡ 0 → codes ",\"truncated\":true" ≡ (if n == 0 || nat_lt shown all then codes ",\"truncated\":true" else [])
+truncated_unseen n shown all none = ap (λ (k : ℕ). if k == 0 || nat_lt shown all then codes ",\"truncated\":true" else []) (sym none)
+
+pub truncated_seen : (n shown all : ℕ) → n ≢ 0 → truncated_field shown all ≡ (if n == 0 || nat_lt shown all then codes ",\"truncated\":true" else [])
+truncated_seen n shown all some =
+    sym (ap (λ (none : Bool). if none || nat_lt shown all then codes ",\"truncated\":true" else []) (not_zero n some))
+
+pub before_is : (n size : ℕ) (all shown before : List ℕ) (character : BadCharacter) → size ≡ length all → shown ≡ text_before n all character → before ≡ text_before n all character
+    → codes ",\"before\":" ++ (quoted shown ++ (if n == 0 || nat_lt (length before + length character.bytes) size then codes ",\"truncated\":true" else []))
+    ≡ field (codes "before") (quoted (text_before n all character)) ++ truncated_text n all character
+before_is n size all shown before character is_size is_shown is =
+    let text : List ℕ = text_before n all character in
+    ap (λ (b : List ℕ). field (codes "before") (quoted b) ++ (if n == 0 || nat_lt (length before + length character.bytes) size then codes ",\"truncated\":true" else [])) is_shown
+    ∙ ap (λ (b : List ℕ). field (codes "before") (quoted text) ++ (if n == 0 || nat_lt (length b + length character.bytes) size then codes ",\"truncated\":true" else [])) is
+    ∙ ap (λ (k : ℕ). field (codes "before") (quoted text) ++ (if n == 0 || nat_lt (length text + length character.bytes) k then codes ",\"truncated\":true" else [])) is_size

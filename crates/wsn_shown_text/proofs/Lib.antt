@@ -1,0 +1,10 @@
+pub mod CharacterPieces
+pub mod HeldViews
+pub mod JsonTexts
+pub mod VisibleTexts
+pub mod TextFronts
+pub mod VisibleLines
+pub mod CommentLines
+pub mod ObjectPieces
+pub mod PlacedItems
+pub mod DifferingParts

@@ -1,0 +1,47 @@
+-- Bytes that begin a text, and the characters of them that are shown.
+use Rattle.std.proofs.Common.{◌≡◌, ℕ, ◌≤◌, true, List, [], ◌∷◌, length, take, sym, ◌∙◌, subst, arith}
+use Rattle.std.proofs.lemmas.Bool.{and_parts}
+use Rattle.std.proofs.lemmas.Bool.Decides.{nat_tests}
+use Rattle.std.proofs.lemmas.List.{length-take, take-take}
+use Rattle.std.proofs.lemmas.Str.{IsUtf8-from_ascii, utf8_valid_len_le}
+use Rattle.std.proofs.lemmas.Str.Ascii.{IsAscii-nil, IsAscii-cons}
+use Rattle.std.specs.Str.{IsUtf8, IsAscii}
+use Rattle.std.specs.Str.Lossy.{utf8_valid_len}
+use Rattle.wsn_text.specs.Utf8.{BeginsText}
+use Rattle.wsn_text.proofs.Prefixes.{begins_take, text_begins}
+use Rattle.wsn_text.proofs.Scalars.{text_is_utf8}
+use Rattle.wsn_print.specs.EscapedText.{is_from}
+use Rattle.wsn_shown_text.specs.ShownText.{is_printable}
+use Rattle.wsn_print.specs.ShownParts.{text_part, HoldsFirst}
+use Rattle.wsn_shown_text.specs.CharacterText.{whole_characters}
+use Rattle.wsn_shown_text.proofs.HeldViews.{take_held}
+use Rattle.wsn_shown_text.proofs.VisibleTexts.{front_is_utf8}
+
+utf8_begins : (bytes : List ℕ) → IsUtf8 bytes → BeginsText bytes
+utf8_begins bytes utf8 = text_begins bytes ((text_is_utf8 bytes).1 utf8)
+
+printable_ascii : (bytes : List ℕ) → is_printable bytes ≡ true → IsAscii bytes
+printable_ascii [] printable = IsAscii-nil
+printable_ascii (b ∷ bytes) printable =
+    let parts = and_parts (is_from 0x20 0x7e b) (is_printable bytes) printable in
+    IsAscii-cons b bytes (grind (arith, nat_tests, parts.0)) (printable_ascii bytes parts.1)
+
+pub printable_begins : (bytes : List ℕ) → is_printable bytes ≡ true → BeginsText bytes
+printable_begins bytes printable = utf8_begins bytes (IsUtf8-from_ascii bytes (printable_ascii bytes printable))
+
+-- The first bytes of those that are held.
+pub front_is_begun : (n : ℕ) (all held front : List ℕ) → front ≡ take n held → HoldsFirst n all held → BeginsText all → BeginsText front
+front_is_begun n all held front is holds begins = subst BeginsText (sym (is ∙ take_held n all held holds)) (begins_take n all begins)
+
+pub part_is_utf8 : (n : ℕ) (text : List ℕ) → IsUtf8 (take (text_part n text) text)
+unfolding utf8_valid_len
+part_is_utf8 n text =
+    let few : utf8_valid_len (take n text) ≤ n = omega (arith, utf8_valid_len_le (take n text), length-take n text) in
+    subst IsUtf8 (take-take (utf8_valid_len (take n text)) n text few) (front_is_utf8 (take n text) (length (take n text)))
+
+pub shown_is_utf8 : (n : ℕ) (all shown : List ℕ) → shown ≡ take (text_part n all) all → IsUtf8 shown
+shown_is_utf8 n all shown is = subst IsUtf8 (sym is) (part_is_utf8 n all)
+
+pub whole_is_utf8 : (bytes : List ℕ) → IsUtf8 (whole_characters bytes)
+unfolding utf8_valid_len
+whole_is_utf8 bytes = front_is_utf8 bytes (length bytes)

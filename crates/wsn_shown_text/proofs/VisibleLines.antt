@@ -1,0 +1,293 @@
+-- Nothing of a line of `show` is hidden but the LF at its end.
+use Rattle.std.proofs.Common.{◌≡◌, ℕ, zero, suc, ◌+◌, ◌*◌, ◌-◌, ◌/◌, ◌%◌, ◌<◌, Bool, true, false, nat_lt, ◌==◌, ◌&&◌, if◌then◌else◌, Option, None, Some, List, [], ◌∷◌, ◌++◌, length, take, drop, codes, decimal, refl, sym, inl, inr, append_assoc, arith}
+use Rattle.std.specs.Prelude.{flat_map}
+use Rattle.std.specs.Fmt.{digits, digits_onto, digit_glyph}
+use Rattle.std.specs.List.{AllByRecursion}
+use Rattle.std.specs.Option.{IfSome}
+use Rattle.std.specs.Str.{IsUtf8, chars}
+use Rattle.std.proofs.lemmas.Bool.{cases_Bool, and_parts}
+use Rattle.std.proofs.lemmas.Bool.Decides.{nat_tests}
+use Rattle.hex.specs.Hex.{encode_lower}
+use Rattle.wsn_wire.specs.declared.endpoint.Role.{Role}
+use Rattle.wsn_wire.specs.declared.endpoint.Role.TheVariants.{Client, Server}
+use Rattle.wsn_wire.specs.declared.opcode.Kind.TheVariants as kinds
+use Rattle.wsn_wire.specs.declared.opcode.Op.{Op}
+use Rattle.wsn_wire.specs.declared.opcode.Op.TheVariants as ops
+use Rattle.wsn_wire.specs.declared.refusal.Reason.{Reason}
+use Rattle.wsn_wire.specs.declared.refusal.Reason.TheVariants as reasons
+use Rattle.wsn_wire.specs.declared.length_forms.Form.{Form}
+use Rattle.wsn_wire.specs.declared.length_forms.Form.TheVariants as forms
+use Rattle.wsn_wire.specs.Frame.{IsBytes, key_bytes}
+use Rattle.wsn_wire.specs.Refusal.{word_of, code_of}
+use Rattle.wsn_rules.specs.declared.head_info.HeadInfo.{HeadInfo}
+use Rattle.wsn_rules.specs.declared.verdict.Refusal.{Refusal}
+use Rattle.wsn_rules.specs.BadCharacter.{BadCharacter}
+use Rattle.wsn_rules.specs.Meaning.{MeantEvent, Message, Control}
+use Rattle.wsn_rules.specs.ShownStream.{Item}
+use Rattle.wsn_rules.specs.ShownStream.Item.{Event, Head, Unfinished, UnfinishedHead, RefusedFrame, Unread, Tail}
+use Rattle.wsn_print.specs.Fields.{number_text, refusal_text, fin_word, op_word, key_text, form_text}
+use Rattle.wsn_print.specs.HeadText.{head_fields}
+use Rattle.wsn_print.specs.EscapedText.{is_from, quoted_character, quoted, comment_line, comment_text}
+use Rattle.wsn_shown_text.specs.ShownText.{left_out, text_view, hex_text, hex_view, end_view, is_printable, body_view, reason_text, close_view, event_view, unfinished_view, event_word, event_size, event_text, role_letter, time_text, front_text, offset_of, item_text, item_line, end_line}
+use Rattle.wsn_print.specs.ShownParts.{text_part, HasTextReason, payload_in}
+use Rattle.wsn_shown_text.specs.CharacterText.{from_character, bytes_before, text_before, leaves_out, byte_escape, character_text, character_view, character_line}
+use Rattle.wsn_shown_text.specs.QuotedTexts.{IsAllVisible, bytes_in, ShowsTextReason, IsVisibleLine}
+use Rattle.wsn_shown_text.proofs.TextFronts.{part_is_utf8, whole_is_utf8}
+use Rattle.wsn_shown_text.proofs.VisibleTexts.{IsPrintable, visible_append, visible_ascii, digits_printable, quoted_characters_visible, quoted_text_visible, comment_visible}
+
+-- A text of which nothing is hidden.
+record Seen (bytes : List ℕ) : Type 0 where
+  is : IsAllVisible bytes
+
+infixl 40 ◌⊕◌
+◌⊕◌ : {xs ys : List ℕ} → Seen xs → Seen ys → Seen (xs ++ ys)
+◌⊕◌ {xs} {ys} one two = record { is = visible_append xs ys one.is two.is }
+
+from_test : (b : ℕ) → is_from 0x20 0x7e b ≡ true → IsPrintable b
+from_test b test = (grind (arith, nat_tests), grind (arith, nat_tests))
+
+all_from_test : (bytes : List ℕ) → is_printable bytes ≡ true → AllByRecursion IsPrintable bytes
+all_from_test [] test = tt
+all_from_test (b ∷ bytes) test =
+    let parts = and_parts (is_from 0x20 0x7e b) (is_printable bytes) test in
+    (from_test b parts.0, all_from_test bytes parts.1)
+
+seen_ascii : (bytes : List ℕ) → AllByRecursion IsPrintable bytes → Seen bytes
+seen_ascii bytes each = record { is = visible_ascii bytes each }
+
+word : (bytes : List ℕ) → is_printable bytes ≡ true → Seen bytes
+word bytes test = seen_ascii bytes (all_from_test bytes test)
+
+seen_if : (b : Bool) (xs ys : List ℕ) → Seen xs → Seen ys → Seen (if b then xs else ys)
+seen_if true xs ys one two = one
+seen_if false xs ys one two = two
+
+-- ---- numbers
+
+glyph : (d : ℕ) → d < 10 → IsPrintable (digit_glyph false d)
+glyph d small = (grind (arith, nat_tests), grind (arith, nat_tests))
+
+digits_seen : (k n : ℕ) (acc : List ℕ) → AllByRecursion IsPrintable acc → AllByRecursion IsPrintable (digits_onto k 10 false n acc)
+digits_seen zero n acc each = each
+digits_seen (suc k) n acc each =
+    let last : IsPrintable (digit_glyph false (n % 10)) = glyph (n % 10) (omega arith) in
+    elim (cases_Bool (n / 10 == 0)) [
+      | inl end ↦ rw end (last, each)
+      | inr more ↦ rw more (digits_seen k (n / 10) (digit_glyph false (n % 10) ∷ acc) (last, each))
+    ]
+
+number : (n : ℕ) → Seen (decimal n)
+unfolding digits
+number n = seen_ascii (decimal n) (digits_seen 64 n [] tt)
+
+number_or_dash : (n : Option ℕ) → Seen (number_text n)
+number_or_dash None = word (codes "-") refl
+number_or_dash (Some n) = number n
+
+-- ---- words
+
+reason_word : (reason : Reason) → is_printable (word_of reason) ≡ true
+reason_word reasons.ReservedBits = refl
+reason_word reasons.ReservedOpcode = refl
+reason_word reasons.ControlNotFinal = refl
+reason_word reasons.NothingToContinue = refl
+reason_word reasons.MessageOpen = refl
+reason_word reasons.MaskMissing = refl
+reason_word reasons.MaskPresent = refl
+reason_word reasons.ControlTooLong = refl
+reason_word reasons.CloseOneByte = refl
+reason_word reasons.LengthTopBit = refl
+reason_word reasons.LengthNotMinimal = refl
+reason_word reasons.MessageTooBig = refl
+reason_word reasons.CloseCode = refl
+reason_word reasons.CloseReason = refl
+reason_word reasons.TextBad = refl
+reason_word reasons.TextCut = refl
+reason_word reasons.TooManyFrames = refl
+
+opcode_word : (op : Op) → is_printable (op_word op) ≡ true
+opcode_word ops.Continue = refl
+opcode_word ops.Text = refl
+opcode_word ops.Binary = refl
+opcode_word ops.Close = refl
+opcode_word ops.Ping = refl
+opcode_word ops.Pong = refl
+
+seen_word : (event : MeantEvent) → Seen (event_word event)
+seen_word (Message kinds.Text payload) = word (codes "text") refl
+seen_word (Message kinds.Binary payload) = word (codes "binary") refl
+seen_word (Control op body) = word (op_word op) (opcode_word op)
+
+letter : (role : Role) → Seen (role_letter role)
+letter Client = word (codes "C") refl
+letter Server = word (codes "S") refl
+
+space : Seen (codes " ")
+space = word (codes " ") refl
+
+seconds : (time : Option (List ℕ)) → IfSome time IsAllVisible → Seen (time_text time)
+seconds None visible = word (codes "-") refl
+seconds (Some text) visible = record { is = visible }
+
+front : (role : Role) (time : Option (List ℕ)) (offset : ℕ) → IfSome time IsAllVisible → Seen (front_text role time offset)
+front role time offset visible = letter role ⊕ space ⊕ seconds time visible ⊕ space ⊕ number offset ⊕ space
+
+verdict : (refusal : Refusal) → Seen (refusal_text refusal)
+verdict refusal =
+    word (codes "refused ") refl ⊕ number refusal.place ⊕ space ⊕ word (word_of refusal.reason) (reason_word refusal.reason)
+    ⊕ space ⊕ number (code_of refusal.reason)
+
+-- ---- views
+
+take_bytes : (n : ℕ) (bytes : List ℕ) → IsBytes bytes → IsBytes (take n bytes)
+take_bytes zero bytes fits = tt
+take_bytes (suc n) [] fits = tt
+take_bytes (suc n) (b ∷ bytes) fits = (fits.0, take_bytes n bytes fits.1)
+
+drop_bytes : (n : ℕ) (bytes : List ℕ) → IsBytes bytes → IsBytes (drop n bytes)
+drop_bytes zero bytes fits = fits
+drop_bytes (suc n) [] fits = tt
+drop_bytes (suc n) (b ∷ bytes) fits = drop_bytes n bytes fits.1
+
+hex : (bytes : List ℕ) → IsBytes bytes → Seen (encode_lower bytes)
+hex bytes fits = seen_ascii (encode_lower bytes) (digits_printable bytes fits)
+
+hex_or_dash : (bytes : List ℕ) → IsBytes bytes → Seen (hex_text bytes)
+hex_or_dash [] fits = word (codes "-") refl
+hex_or_dash (b ∷ bytes) fits = hex (b ∷ bytes) fits
+
+more : (shown all : ℕ) → Seen (left_out shown all)
+more shown all = seen_if (nat_lt shown all) (codes " ..") [] (word (codes " ..") refl) (word [] refl)
+
+in_quotes : (text : List ℕ) → IsUtf8 text → Seen (quoted text)
+in_quotes text utf8 = record { is = quoted_text_visible text utf8 }
+
+text_seen : (n : ℕ) (text : List ℕ) → Seen (text_view n text)
+text_seen n text =
+    seen_if (n == 0 && nat_lt 0 (length text)) (codes "-") (quoted (take (text_part n text) text) ++ left_out (text_part n text) (length text)) (word (codes "-") refl)
+    (in_quotes (take (text_part n text) text) (part_is_utf8 n text) ⊕ more (text_part n text) (length text))
+
+hex_seen : (n : ℕ) (bytes : List ℕ) → IsBytes bytes → Seen (hex_view n bytes)
+hex_seen n bytes fits =
+    seen_if (n == 0) (codes "-") (hex_text (take (n / 2) bytes) ++ left_out (n / 2) (length bytes)) (word (codes "-") refl)
+    (hex_or_dash (take (n / 2) bytes) (take_bytes (n / 2) bytes fits) ⊕ more (n / 2) (length bytes))
+
+end_seen : (n : ℕ) (bytes : List ℕ) → IsBytes bytes → Seen (end_view n bytes)
+end_seen n bytes fits =
+    seen_if (n == 0) (codes "-") ((if nat_lt (n / 2) (length bytes) then codes ".." else []) ++ encode_lower (drop (length bytes - n / 2) bytes)) (word (codes "-") refl)
+    (seen_if (nat_lt (n / 2) (length bytes)) (codes "..") [] (word (codes "..") refl) (word [] refl)
+    ⊕ hex (drop (length bytes - n / 2) bytes) (drop_bytes (length bytes - n / 2) bytes fits))
+
+body_seen : (n : ℕ) (body : List ℕ) → IsBytes body → Seen (body_view n body)
+body_seen n body fits = seen_if (is_printable body) (text_view n body) (hex_view n body) (text_seen n body) (hex_seen n body fits)
+
+reason_seen : (reason : List ℕ) → IsUtf8 reason → Seen (reason_text reason)
+reason_seen [] utf8 = word [] refl
+reason_seen (b ∷ reason) utf8 = space ⊕ in_quotes (b ∷ reason) utf8
+
+close_seen : (n : ℕ) (body : List ℕ) → IsUtf8 (drop 2 body) → Seen (close_view n body)
+close_seen n [] utf8 = word (codes "-") refl
+close_seen n (high ∷ []) utf8 = word (codes "-") refl
+close_seen n (high ∷ low ∷ reason) utf8 =
+    seen_if (n == 0) (codes "-") (decimal (high * 256 + low) ++ reason_text reason) (word (codes "-") refl)
+    (number (high * 256 + low) ⊕ reason_seen reason utf8)
+
+event_seen : (n : ℕ) (event : MeantEvent) → IsBytes (payload_in event) → HasTextReason event → Seen (event_view n event)
+event_seen n (Message kinds.Text payload) fits reason = text_seen n payload
+event_seen n (Message kinds.Binary payload) fits reason = hex_seen n payload fits
+event_seen n (Control ops.Close body) fits reason = close_seen n body reason
+event_seen n (Control ops.Continue body) fits reason = body_seen n body fits
+event_seen n (Control ops.Text body) fits reason = body_seen n body fits
+event_seen n (Control ops.Binary body) fits reason = body_seen n body fits
+event_seen n (Control ops.Ping body) fits reason = body_seen n body fits
+event_seen n (Control ops.Pong body) fits reason = body_seen n body fits
+
+unfinished_seen : (n : ℕ) (event : MeantEvent) → IsBytes (payload_in event) → Seen (unfinished_view n event)
+unfinished_seen n (Message kinds.Text payload) fits = text_seen n payload
+unfinished_seen n (Message kinds.Binary payload) fits = hex_seen n payload fits
+unfinished_seen n (Control op body) fits = hex_seen n body fits
+
+-- ---- lines
+
+fields : (event : MeantEvent) (frames : ℕ) → Seen (event_text event frames)
+fields event frames = seen_word event ⊕ space ⊕ number (event_size event) ⊕ space ⊕ number frames
+
+last_or_not : (fin : Bool) → Seen (fin_word fin)
+last_or_not true = word (codes "fin") refl
+last_or_not false = word (codes "more") refl
+
+key_seen : (key : Option (List ℕ)) → IsBytes (key_bytes key) → Seen (key_text key)
+key_seen None fits = word (codes "-") refl
+key_seen (Some key) fits = hex key fits
+
+form_seen : (form : Form) → Seen (form_text form)
+form_seen forms.Shortest = word [] refl
+form_seen forms.Two = word (codes " two") refl
+form_seen forms.Eight = word (codes " eight") refl
+
+head : (info : HeadInfo) → IsBytes (key_bytes info.key) → Seen (head_fields info)
+head info fits =
+    last_or_not info.fin ⊕ space ⊕ word (op_word info.op) (opcode_word info.op) ⊕ space ⊕ key_seen info.key fits ⊕ space ⊕ number info.len
+    ⊕ form_seen info.form
+
+item : (n : ℕ) (item : Item) → IsBytes (bytes_in item) → ShowsTextReason item → Seen (item_text n item)
+item n (Event offset event frames) fits reason = fields event frames ⊕ space ⊕ event_seen n event fits reason
+item n (Head info) fits reason = head info fits
+item n (Unfinished offset event frames lacks) fits reason =
+    word (codes "unfinished ") refl ⊕ fields event frames ⊕ word (codes " lacks ") refl ⊕ number_or_dash lacks ⊕ space
+    ⊕ unfinished_seen n event fits
+item n (UnfinishedHead offset) fits reason = word (codes "unfinished head 0 0 lacks - -") refl
+item n (RefusedFrame offset refusal evidence character) fits reason = verdict refusal ⊕ space ⊕ end_seen n evidence fits
+item n (Unread offset bytes) fits reason =
+    word (codes "unread") refl ⊕ space ⊕ number (length bytes) ⊕ space ⊕ hex_seen n bytes fits
+item n (Tail offset bytes) fits reason =
+    word (codes "tail") refl ⊕ space ⊕ number (length bytes) ⊕ space ⊕ hex_seen n bytes fits
+
+pub item_line_visible : (n : ℕ) (role : Role) (time : Option (List ℕ)) (shown : Item) → IfSome time IsAllVisible → IsBytes (bytes_in shown) → ShowsTextReason shown
+    → IsVisibleLine (item_line n role time shown)
+item_line_visible n role time shown visible fits reason =
+    let line = front role time (offset_of shown) visible ⊕ item n shown fits reason in
+    (front_text role time (offset_of shown) ++ item_text n shown, refl, line.is)
+
+-- ---- bad characters
+
+escapes : (bytes : List ℕ) → IsBytes bytes → Seen (flat_map byte_escape bytes)
+escapes [] fits = word [] refl
+escapes (b ∷ bytes) fits = word (codes "\\x") refl ⊕ hex (b ∷ []) (fits.0, tt) ⊕ escapes bytes fits.1
+
+before : (n : ℕ) (evidence : List ℕ) (character : BadCharacter) → Seen (flat_map quoted_character (chars (text_before n evidence character)))
+before n evidence character = record {
+  is = quoted_characters_visible (text_before n evidence character) (whole_is_utf8 (from_character (bytes_before n evidence character)));
+}
+
+up_to_it : (n : ℕ) (evidence : List ℕ) (character : BadCharacter) → IsBytes character.bytes → Seen (character_text n evidence character)
+up_to_it n evidence character fits =
+    seen_if (leaves_out n evidence character) (codes "..") [] (word (codes "..") refl) (word [] refl)
+    ⊕ (word (codes "\"") refl ⊕ before n evidence character ⊕ escapes character.bytes fits ⊕ word (codes "\"") refl)
+
+character_seen : (n : ℕ) (evidence : List ℕ) (character : BadCharacter) → IsBytes character.bytes → Seen (character_view n evidence character)
+character_seen n evidence character fits =
+    seen_if (n == 0) (codes "- -") (encode_lower character.bytes ++ codes " " ++ character_text n evidence character) (word (codes "- -") refl)
+    (hex character.bytes fits ⊕ space ⊕ up_to_it n evidence character fits)
+
+pub character_line_visible : (n : ℕ) (role : Role) (time : Option (List ℕ)) (evidence : List ℕ) (character : BadCharacter) → IfSome time IsAllVisible
+    → IsBytes character.bytes → IsVisibleLine (character_line n role time evidence character)
+character_line_visible n role time evidence character visible fits =
+    let line =
+    front role time character.offset visible ⊕ word (codes "bad-character ") refl ⊕ number character.in_payload ⊕ space
+    ⊕ character_seen n evidence character fits in (
+      front_text role time character.offset ++ codes "bad-character " ++ decimal character.in_payload ++ codes " "
+          ++ character_view n evidence character,
+      refl,
+      line.is,
+    )
+
+-- ---- end marks and comments
+
+pub end_line_visible : (role : Role) (time : Option (List ℕ)) (sent : ℕ) → IfSome time IsAllVisible → IsVisibleLine (end_line role time sent)
+end_line_visible role time sent visible =
+    let line = front role time sent visible ⊕ word (codes "end") refl in
+    (front_text role time sent ++ codes "end", sym (append_assoc (front_text role time sent) (codes "end") (codes "\n")), line.is)
+
+pub comment_line_visible : (text : List ℕ) → IsBytes text → IsVisibleLine (comment_line text)
+comment_line_visible text fits = (comment_text text, refl, comment_visible text fits)

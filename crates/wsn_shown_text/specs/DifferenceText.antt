@@ -1,0 +1,45 @@
+-- What is printed of two streams that differ, with the first event of each that does: lines, or a JSON object in one
+-- line, each with its LF.
+use Rattle.std.specs.Prelude.{ℕ, Option, None, Some, List, ◌++◌, codes}
+use Rattle.wsn_wire.specs.declared.endpoint.Role.{Role}
+use Rattle.wsn_rules.specs.declared.compared.Compared.TheVariants.{Different}
+use Rattle.wsn_rules.specs.ShownStream.{Item}
+use Rattle.wsn_print.specs.declared.format.Format.{Format}
+use Rattle.wsn_print.specs.declared.format.Format.TheVariants.{Text, Json}
+use Rattle.wsn_print.specs.ComparisonText.{comparison_line}
+use Rattle.wsn_shown_text.specs.DifferingText.{differ_line, differ_field}
+use Rattle.wsn_print.specs.Json.{field, string_field, number_field}
+use Rattle.wsn_shown_text.specs.ShownText.{offset_of, item_line}
+use Rattle.wsn_shown_text.specs.ShownObjects.{object_front, item_type, item_fields}
+use Rattle.wsn_print.specs.ShownParts.Position.{InStream}
+
+-- An event of one of the streams; a dash if it has no more events.
+abbrev pub event_line : ℕ → Role → Option Item → List ℕ
+event_line n role None = codes "-\n"
+event_line n role (Some item) = item_line n role None item
+
+-- The answer's line, a line for each stream's event, and where the payloads differ.
+abbrev pub difference_lines : ℕ → Role → ℕ → Option Item → Option Item → List ℕ
+difference_lines n role k one other =
+    comparison_line (Different k) ++ (codes "first " ++ event_line n role one)
+    ++ (codes "second " ++ event_line n role other) ++ differ_line n one other
+
+-- The object of an event of one of the streams, without its LF; null if it has no more events.
+abbrev pub event_value : ℕ → Role → Option Item → List ℕ
+event_value n role None = codes "null"
+event_value n role (Some item) =
+    (object_front (item_type item) role InStream ++ number_field (codes "offset") (offset_of item) ++ item_fields n item)
+    ++ codes "}"
+
+-- The answer's members, one for each stream's event, and where the payloads differ.
+abbrev pub difference_object : ℕ → Role → ℕ → Option Item → Option Item → List ℕ
+difference_object n role k one other =
+    (codes "{\"type\":\"comparison\"" ++ string_field (codes "answer") (codes "different")
+    ++ number_field (codes "event") k)
+    ++ field (codes "first") (event_value n role one) ++ field (codes "second") (event_value n role other)
+    ++ differ_field n one other ++ codes "}\n"
+
+-- In a format.
+abbrev pub difference_text : Format → ℕ → Role → ℕ → Option Item → Option Item → List ℕ
+difference_text Text n role k one other = difference_lines n role k one other
+difference_text Json n role k one other = difference_object n role k one other
