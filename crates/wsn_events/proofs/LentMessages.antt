@@ -18,7 +18,7 @@ use Rattle.wsn_rules.specs.Limits.{Limits}
 use Rattle.wsn_rules.specs.Meaning.{MeantEvent, Message, Control, event_at, meaning}
 use Rattle.wsn_rules.specs.NormalForm.{op_of}
 use Rattle.wsn_rules.specs.ShownStream.{open_offset, event_offset, event_frames}
-use Rattle.wsn_rules.proofs.Groups.{meaning_push, data_kind, group_of_lawful, unfinished_final}
+use Rattle.wsn_rules.proofs.Groups.{meaning_push, group_of_lawful, unfinished_final}
 use Rattle.wsn_rules.proofs.LawfulLists.{law_at_split}
 use Rattle.wsn_rules.proofs.LawfulMeaning.{lawful_event, event_of_data, event_of_control}
 use Rattle.wsn_rules.proofs.OpenOffsets.{offset_of_none}
@@ -38,10 +38,10 @@ use Rattle.wsn_events.specs.declared.source.Next.TheVariants as nexts
 use Rattle.wsn_events.specs.EventsMeant.{meant}
 use Rattle.wsn_events.specs.EventReaders.{HasGiven, IsGiven, IsNextEvent, answered, held_of, offset_of, frames_of}
 use Rattle.wsn_events.specs.LentMessages.{LendsMessage, lent_message}
-use Rattle.wsn_events.specs.Reassembly.{HasBegun, IsReassembled, IsBetweenFrames, IsInFrame, IsPlacedAt, offset_given, frames_given}
+use Rattle.wsn_events.specs.Reassembly.{IsReassembled, IsBetweenFrames, IsInFrame, IsPlacedAt, offset_given, frames_given}
 use Rattle.wsn_events.specs.TakenEvents.{held_bytes}
 use Rattle.wsn_events.proofs.GivenSoFar.{all_came, given_first}
-use Rattle.wsn_events.proofs.ReassembledFrames.{message_ended, reassembled_alike}
+use Rattle.wsn_events.proofs.ReassembledFrames.{given_of_frame, message_ended, reassembled_alike}
 use Rattle.wsn_events.proofs.TakenParts.{ended_by, data_of_frame, before_frame}
 
 -- At most a chunk came after the frames.
@@ -84,7 +84,7 @@ none_open fs op continues other = by (unfinished fs) refl
 
 module _ {A : Type 0} (role : Role) (limits : Limits) (reading : EventReader A) (reader : FrameReader) (g : Reassembly A) (kind : Kind) (came : List ℕ) (given : List MeantEvent) (fs : List Frame) (frame : Frame)
     (events : given ≡ meaning fs) (going : reading.answer ≡ None) (has_taken : HasTaken role limits reader came (fs ++ frame ∷ []) BetweenFrames) (taken : IsTakenOf role limits came (fs ++ frame ∷ []) BetweenFrames)
-    (final : frame.fin ≡ true) (op_is : frame.op ≡ op_of kind) (within : IsInFrame g fs frame.op []) (payload_is : held_payload reader ≡ frame.payload)
+    (final : frame.fin ≡ true) (op_is : frame.op ≡ op_of kind) (op_now : g.op ≡ op_of kind) (place_now : g.place ≡ length (stream fs)) (message_now : g.message.items ≡ payload_of (unfinished fs)) (payload_is : held_payload reader ≡ frame.payload)
     (soon : length came ≤ length (stream (fs ++ frame ∷ [])) + chunk_size) where
   abbrev new : EventReader A
   new = record { reader = reader; reassembly = g; answer = reading.answer }
@@ -104,9 +104,6 @@ module _ {A : Type 0} (role : Role) (limits : Limits) (reading : EventReader A) 
       by Text is = sym (ap kind_at is)
       by Binary is = sym (ap kind_at is)
 
-  begun : HasBegun g (length (stream fs)) 1
-  begun = within.first (data_kind frame.op (ap not of_data) (of_op kind frame.op op_is).1)
-
   event_is : lent_message new kind ≡ event_at fs frame
   event_is =
       (λ i. Message (kind_is i) (payload_is i))
@@ -120,19 +117,19 @@ module _ {A : Type 0} (role : Role) (limits : Limits) (reading : EventReader A) 
       ∙ ap (λ (b : Bool). meaning fs ++ cond b (event_at fs frame ∷ []) []) (sym final) ∙ sym (meaning_push fs frame)
 
   between : IsBetweenFrames g (fs ++ frame ∷ [])
-  between = message_ended g fs frame of_data final (within.message of_data ∙ append-nil (payload_of (unfinished fs)) ∙ ap payload_of none_before)
+  between = message_ended g fs frame of_data final (message_now ∙ ap payload_of none_before)
 
-  own : is_control g.op ≡ false
-  own = ap is_control within.op ∙ of_data
+  begins : g.op ≡ Continue → ⊥
+  begins = (of_op kind g.op op_now).1
 
   offset_is : offset_of new ≡ event_offset fs frame
   offset_is =
-      cond-false (is_control g.op) g.place g.start own ∙ begun.offset_is ∙ sym (offset_of_none fs none_before)
+      given_of_frame g.op g.start g.place begins ∙ place_now ∙ sym (offset_of_none fs none_before)
       ∙ sym (cond-false (is_control frame.op) (length (stream fs)) (open_offset fs) of_data)
 
   count_is : frames_of new ≡ event_frames fs frame
   count_is =
-      cond-false (is_control g.op) 1 g.frames own ∙ begun.count_is ∙ ap (λ (gs : List Frame). length (gs ++ frame ∷ [])) (sym none_before)
+      given_of_frame g.op g.frames 1 begins ∙ ap (λ (gs : List Frame). length (gs ++ frame ∷ [])) (sym none_before)
       ∙ sym (cond-false (is_control frame.op) 1 (length (unfinished fs ++ frame ∷ [])) of_data)
 
   lends_frame : LendsMessage role limits new came given kind
@@ -157,9 +154,9 @@ module _ {A : Type 0} (role : Role) (limits : Limits) (reading : EventReader A) 
 
 -- the part that came last is a whole message
 pub lends_part : {A : Type 0} (role : Role) (limits : Limits) (reading : EventReader A) (reader : FrameReader) (part : Part) (now came : List ℕ) (given : List MeantEvent) (has : HasGiven role limits reading came given)
-    (takes : TakesPart role limits reader part now has.frames has.position) → IsTakenOf role limits now takes.frames takes.position → (g : Reassembly A) (kind : Kind) → IsWholeMessage part kind → IsInFrame g has.frames part.head.op takes.is_part.before
+    (takes : TakesPart role limits reader part now has.frames has.position) → IsTakenOf role limits now takes.frames takes.position → (g : Reassembly A) (kind : Kind) → IsWholeMessage part kind → g.op ≡ op_of kind → g.place ≡ length (stream has.frames) → g.message.items ≡ payload_of (unfinished has.frames)
     → LendsMessage role limits (record { reader = reader; reassembly = g; answer = reading.answer }) now given kind
-lends_part role limits reading reader part now came given has takes taken g kind whole within =
+lends_part role limits reading reader part now came given has takes taken g kind whole op_now place_now message_now =
     let fs = has.frames in
     let payload = held_payload reader in
     let e = ended_by role limits now fs has.position part payload takes.frames takes.position takes.is_part taken whole.ends in
@@ -168,9 +165,19 @@ lends_part role limits reading reader part now came given has takes taken g kind
     let has_taken = subst (λ (at : Position). HasTaken role limits reader now (fs ++ e.frame ∷ []) at) e.position_is (subst (λ (gs : List Frame). HasTaken role limits reader now gs takes.position) e.frames_are takes.has_taken) in
     lends_frame role limits reading reader g kind now given fs e.frame has.events has.going has_taken e.taken
     (sym (ap (λ (h : HeadInfo). h.fin) e.head_is) ∙ whole.final) (sym op ∙ whole.op)
-    (subst (λ (bs : List ℕ). IsInFrame g fs e.frame.op bs) none (subst (λ (o : Op). IsInFrame g fs o takes.is_part.before) op within))
+    op_now place_now message_now
     (sym (e.payload_is ∙ ap (λ (bs : List ℕ). bs ++ payload) none))
     (subst (λ (gs : List Frame). length now ≤ length (stream gs) + chunk_size) e.frames_are (takes.soon whole.ends))
+
+-- the same after the part's frame has begun
+pub lends_begun : {A : Type 0} (role : Role) (limits : Limits) (reading : EventReader A) (reader : FrameReader) (part : Part) (now came : List ℕ) (given : List MeantEvent) (has : HasGiven role limits reading came given)
+    (takes : TakesPart role limits reader part now has.frames has.position) → IsTakenOf role limits now takes.frames takes.position → (g : Reassembly A) (kind : Kind) → IsWholeMessage part kind → IsInFrame g has.frames part.head.op takes.is_part.before
+    → LendsMessage role limits (record { reader = reader; reassembly = g; answer = reading.answer }) now given kind
+lends_begun role limits reading reader part now came given has takes taken g kind whole within =
+    let fs = has.frames in
+    let none : takes.is_part.before ≡ [] = (begins_at has.position part takes.is_part.before takes.is_part.is_at whole.begins).1 in
+    lends_part role limits reading reader part now came given has takes taken g kind whole (within.op ∙ whole.op) within.place
+    (within.message (of_op kind part.head.op whole.op).0 ∙ ap (λ (bs : List ℕ). payload_of (unfinished fs) ++ bs) none ∙ append-nil (payload_of (unfinished fs)))
 
 -- ---- a message that is lent becomes an event of its own
 

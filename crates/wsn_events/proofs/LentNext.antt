@@ -1,11 +1,8 @@
 -- A message that a source lends right after what it has given, without reading on.
-use Rattle.std.proofs.Common.{◌≡◌, ℕ, ◌+◌, ◌<◌, ◌^◌, List, [], length, take, sym, ap, ◌∙◌, subst, arith, length-append}
-use Rattle.std.proofs.lemmas.List.{length-take}
+use Rattle.std.proofs.Common.{◌≡◌, ℕ, List, length, sym, ap, ◌∙◌, subst}
 use Rattle.wsn_wire.specs.declared.endpoint.Role.{Role}
 use Rattle.wsn_wire.specs.declared.opcode.Kind.{Kind}
-use Rattle.wsn_wire.specs.declared.opcode.Op.{Op}
-use Rattle.wsn_wire.specs.Frame.{Frame, stream}
-use Rattle.wsn_rules.specs.Group.{unfinished}
+use Rattle.wsn_wire.specs.Frame.{stream}
 use Rattle.wsn_rules.specs.Limits.{Limits}
 use Rattle.wsn_rules.specs.Meaning.{MeantEvent}
 use Rattle.wsn_rules.specs.NormalForm.{op_of}
@@ -14,25 +11,18 @@ use Rattle.wsn_scan.specs.FrameReaders.{held_payload}
 use Rattle.wsn_scan.specs.Positions.{IsTakenOf}
 use Rattle.wsn_scan.specs.ReadParts.{TakesMessage}
 use Rattle.wsn_scan.proofs.FollowedScans.{begins_at}
-use Rattle.wsn_scan.proofs.FrameEnds.{unfinished_few}
 use Rattle.wsn_scan.proofs.ReaderReports.{reported_of}
 use Rattle.wsn_events.specs.declared.event_reader.EventReader.{EventReader}
 use Rattle.wsn_events.specs.declared.reassembly.Reassembly.{Reassembly}
 use Rattle.wsn_events.specs.EventReaders.{HasGiven}
 use Rattle.wsn_events.specs.LentMessages.{LendsMessage}
-use Rattle.wsn_events.specs.Reassembly.{IsReassembled, IsBetweenFrames, IsInFrame}
+use Rattle.wsn_events.specs.Reassembly.{IsReassembled, IsBetweenFrames}
 use Rattle.wsn_events.proofs.LentMessages.{lends_part}
 use Rattle.wsn_events.proofs.TakenParts.{place_of}
 
 module _ {A : Type 0} (role : Role) (limits : Limits) (reading : EventReader A) (came : List ℕ) (given : List MeantEvent) (has : HasGiven role limits reading came given) (reader : FrameReader) (kind : Kind) (place : ℕ)
     (message : TakesMessage role limits reader kind place came has.frames has.position) (g : Reassembly A)
-    (begin : (fs : List Frame) → length (unfinished fs) + 1 < 2 ^ 64 → place ≡ length (stream fs) → IsBetweenFrames reading.reassembly fs → IsInFrame g fs (op_of kind) []) where
-  few : length (unfinished has.frames) + 1 < 2 ^ 64
-  few =
-      let was = reported_of role limits reading.reader came has.frames has.position has.has_taken in
-      let size : length (take limits.input came) ≡ length (stream has.frames) + length was.rest = ap (λ (bs : List ℕ). length bs) was.whole ∙ length-append (stream has.frames) was.rest in
-      omega (arith, unfinished_few has.frames, size, length-take limits.input came, was.in_range.input)
-
+    (passed : g ≡ record reading.reassembly { op = op_of kind; place = place }) where
   pub lends_next : LendsMessage role limits (record { reader = reader; reassembly = g; answer = reading.answer }) came given kind
   lends_next =
       let part = message.part in
@@ -42,6 +32,5 @@ module _ {A : Type 0} (role : Role) (limits : Limits) (reading : EventReader A) 
       let begins = begins_at has.position part takes.is_part.before takes.is_part.is_at message.whole.begins in
       let at : place ≡ length (stream fs) = sym message.place_is ∙ place_of role limits came fs has.position part (held_payload reader) takes.frames takes.position takes.is_part taken in
       let between : IsBetweenFrames reading.reassembly fs = subst (IsReassembled reading.reassembly fs) begins.0 has.reassembly in
-      let within : IsInFrame g fs part.head.op takes.is_part.before =
-      subst (λ (bs : List ℕ). IsInFrame g fs part.head.op bs) (sym begins.1) (subst (λ (op : Op). IsInFrame g fs op []) (sym message.whole.op) (begin fs few at between)) in
-      lends_part role limits reading reader part came came given has takes taken g kind message.whole within
+      lends_part role limits reading reader part came came given has takes taken g kind message.whole
+      (ap (λ (r : Reassembly A). r.op) passed) (ap (λ (r : Reassembly A). r.place) passed ∙ at) (ap (λ (r : Reassembly A). r.message.items) passed ∙ between.message)

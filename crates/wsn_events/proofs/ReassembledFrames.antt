@@ -20,9 +20,27 @@ use Rattle.wsn_rules.specs.LawfulEvents.{IsLawfulControl}
 use Rattle.wsn_scan.specs.declared.part.Part.{Part}
 use Rattle.wsn_scan.specs.Parts.{IsPartAt}
 use Rattle.wsn_scan.specs.Positions.{Position, BetweenFrames, InFrame}
-use Rattle.wsn_events.specs.Reassembly.{HasBegun, IsBetweenFrames, IsInFrame, IsPlacedAt, IsReassembled}
+use Rattle.wsn_events.specs.Reassembly.{HasBegun, IsBetweenFrames, IsInFrame, IsPlacedAt, IsReassembled, given_by}
 use Rattle.wsn_rules.proofs.LawfulMeaning.{event_of_control, event_of_data}
 use Rattle.wsn_scan.proofs.FollowedScans.{begins_at, goes_on_at}
+
+-- ---- what is known of an event by the opcode of its last frame
+
+pub given_of_frame : (op : Op) (message frame : ℕ) → (op ≡ Continue → ⊥) → given_by op message frame ≡ frame
+given_of_frame Continue message frame other = absurd (other refl)
+given_of_frame Text message frame other = refl
+given_of_frame Binary message frame other = refl
+given_of_frame Close message frame other = refl
+given_of_frame Ping message frame other = refl
+given_of_frame Pong message frame other = refl
+
+given_alike : (op : Op) (message frame : ℕ) → ((op ≡ Continue → ⊥) → frame ≡ message) → given_by op message frame ≡ message
+given_alike Continue message frame same = refl
+given_alike Text message frame same = same (λ is. cc)
+given_alike Binary message frame same = same (λ is. cc)
+given_alike Close message frame same = same (λ is. cc)
+given_alike Ping message frame same = same (λ is. cc)
+given_alike Pong message frame same = same (λ is. cc)
 
 -- ---- a part of a frame, which begins there or has begun before
 
@@ -85,18 +103,20 @@ module _ {A : Type 0} (role : Role) (limits : Limits) (g : Reassembly A) (fs : L
   pub placed : IsPlacedAt g fs f
   placed = elim (cases_Bool (is_control f.op)) [
     | inl control ↦
-        let own = ap is_control within.op ∙ control in
+        let other : g.op ≡ Continue → ⊥ = λ is. let both = ap is_control (sym is ∙ within.op) ∙ control in cc in
         record {
-          offset = cond-true (is_control g.op) g.place g.start own ∙ within.place ∙ sym (cond-true (is_control f.op) (length (stream fs)) (open_offset fs) control);
-          count = cond-true (is_control g.op) 1 g.frames own ∙ sym (cond-true (is_control f.op) 1 (length (unfinished fs ++ f ∷ [])) control);
+          offset = given_of_frame g.op g.start g.place other ∙ within.place ∙ sym (cond-true (is_control f.op) (length (stream fs)) (open_offset fs) control);
+          count = given_of_frame g.op g.frames 1 other ∙ sym (cond-true (is_control f.op) 1 (length (unfinished fs ++ f ∷ [])) control);
         }
     | inr other ↦
-        let own = ap is_control within.op ∙ other in
         let has = begun other in
+        let first : (g.op ≡ Continue → ⊥) → HasBegun g (length (stream fs)) 1 = λ begins. within.first (data_kind f.op (ap not other) (λ is. begins (within.op ∙ is))) in
         record {
-          offset = cond-false (is_control g.op) g.place g.start own ∙ has.offset_is ∙ sym (cond-false (is_control f.op) (length (stream fs)) (open_offset fs) other);
+          offset =
+              given_alike g.op g.start g.place (λ begins. within.place ∙ sym (first begins).offset_is) ∙ has.offset_is
+              ∙ sym (cond-false (is_control f.op) (length (stream fs)) (open_offset fs) other);
           count =
-              cond-false (is_control g.op) 1 g.frames own ∙ has.count_is ∙ sym (length-append (unfinished fs) (f ∷ []))
+              given_alike g.op g.frames 1 (λ begins. sym (first begins).count_is) ∙ has.count_is ∙ sym (length-append (unfinished fs) (f ∷ []))
               ∙ sym (cond-false (is_control f.op) 1 (length (unfinished fs ++ f ∷ [])) other);
         }
   ]

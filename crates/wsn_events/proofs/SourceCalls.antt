@@ -40,7 +40,7 @@ use Rattle.wsn_events.specs.Turns.{IsNextTurn, TakesTurn, GivesEvent}
 use Rattle.wsn_events.specs.Reassembly.{IsReassembled, IsBetweenFrames, IsInFrame, IsEventOf, IsPlacedAt}
 use Rattle.wsn_events.specs.Sources.{IsHalted}
 use Rattle.wsn_events.proofs.GivenSoFar.{begun_sound}
-use Rattle.wsn_events.proofs.LentMessages.{lends_part, given_event}
+use Rattle.wsn_events.proofs.LentMessages.{lends_begun, given_event}
 use Rattle.wsn_events.proofs.TakenParts.{EndsPart, place_of, ended_by, data_of_part, first_of_part}
 use Rattle.wsn_events.proofs.ReassembledFrames.{lawful_body}
 
@@ -129,7 +129,7 @@ module _ {A : Type 0} (role : Role) (limits : Limits) (old : Incoming) (came : L
         in_frame = begin fs read.has.position takes.is_part.before few (place_of role limits now fs read.has.position part (held_payload reader) takes.frames takes.position takes.is_part taken) takes.is_part.is_at read.has.reassembly
 
         pub lends : (kind : Kind) → IsWholeMessage part kind → TakesTurn role limits old new (moved begun) came given (Ok (Lent kind))
-        lends kind whole = answers (moved begun) (Ok (Lent kind)) (lends_part role limits reading reader part now (came ++ read.more) given read.has takes taken begun kind whole in_frame, unfailed)
+        lends kind whole = answers (moved begun) (Ok (Lent kind)) (lends_begun role limits reading reader part now (came ++ read.more) given read.has takes taken begun kind whole in_frame, unfailed)
 
         -- an allocation failed for payload of a data frame
         pub no_memory : (is_control begun.op ≡ false) × (held_payload reader ≢ []) → (last : EventReader A) → answered last ≡ Some (Err stops.Memory) → held_of last ≡ 0 → TakesTurn role limits old new last came given (Err stops.Memory)

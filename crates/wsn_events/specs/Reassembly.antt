@@ -1,5 +1,5 @@
 -- What an event source keeps: the open message so far, and the frame that has begun.
-use Rattle.std.specs.Prelude.{◌≡◌, ◌≢◌, ℕ, ◌+◌, ◌≤◌, ◌⊎◌, true, false, Option, None, Some, List, [], ◌++◌, length, if◌then◌else◌}
+use Rattle.std.specs.Prelude.{◌≡◌, ◌≢◌, ℕ, ◌+◌, ◌≤◌, ◌⊎◌, true, false, Option, None, Some, List, [], ◌++◌, length}
 use Rattle.wsn_wire.specs.declared.opcode.Op.{Op}
 use Rattle.wsn_wire.specs.declared.opcode.Op.TheVariants as ops
 use Rattle.wsn_wire.specs.declared.opcode.Kind.{Kind}
@@ -53,13 +53,19 @@ abbrev pub IsEventOf : {A : Type 0} → List Frame → Frame → Option (Event A
 IsEventOf fs f None = f.fin ≡ false
 IsEventOf fs f (Some event) = (f.fin ≡ true) × (meant event ≡ event_at fs f)
 
+-- What is known of the event that a frame with this opcode ends: what is of the whole message if the frame goes on with
+-- one, and else what is of the frame.
+abbrev pub given_by : Op → ℕ → ℕ → ℕ
+given_by ops.Continue message frame = message
+given_by op message frame = frame
+
 -- The offset of the first frame of the event that ended last.
 abbrev pub offset_given : {A : Type 0} → Reassembly A → ℕ
-offset_given g = if is_control g.op then g.place else g.start
+offset_given g = given_by g.op g.start g.place
 
 -- The number of its frames.
 abbrev pub frames_given : {A : Type 0} → Reassembly A → ℕ
-frames_given g = if is_control g.op then 1 else g.frames
+frames_given g = given_by g.op g.frames 1
 
 -- If the frame ends an event after the frames fs, its first frame is at this offset, and it has this many frames.
 pub record IsPlacedAt {A : Type 0} (g : Reassembly A) (fs : List Frame) (f : Frame) : Type 0 where

@@ -132,7 +132,7 @@ impl<A: Allocator + Copy> EventReader<A> {
         ensures falls { IfSome result (λ _. readings_left self.new < readings_left self.old) }
     {
         let (kind, place) = self.reader.next_message()?;
-        self.reassembly.begin_lent(kind, place);
+        self.reassembly.pass_over(kind, place);
         Some(kind)
     }
 

@@ -53,10 +53,9 @@ impl<A: Allocator + Copy> Reassembly<A> {
     pub fn offset(&self) -> u64
         ensures { result ≡ offset_given self.now }
     {
-        if self.op.is_control() {
-            self.place
-        } else {
-            self.start
+        match self.op {
+            Op::Continue => self.start,
+            _ => self.place,
         }
     }
 
@@ -64,7 +63,10 @@ impl<A: Allocator + Copy> Reassembly<A> {
     pub fn frames(&self) -> u64
         ensures { result ≡ frames_given self.now }
     {
-        if self.op.is_control() { 1 } else { self.frames }
+        match self.op {
+            Op::Continue => self.frames,
+            _ => 1,
+        }
     }
 
     /// Frees the open message.
@@ -117,13 +119,13 @@ impl<A: Allocator + Copy> Reassembly<A> {
         }
     }
 
-    /// Begins a message of this kind with a frame at this offset.
+    /// Passes over a message of this kind, of one frame at this offset, whose payload its reader holds.
     #[inline(always)]
-    pub fn begin_lent(&mut self, kind: Kind, place: u64)
-        ensures { (fs : List Frame) → length (unfinished fs) + 1 < 2 ^ 64 → place ≡ length (stream fs) →
-            IsBetweenFrames self.old fs → IsInFrame self.new fs (op_of kind) [] }
+    pub fn pass_over(&mut self, kind: Kind, place: u64)
+        ensures { self.new ≡ record self.old { op = op_of kind; place = place } }
     {
-        self.begin_frame(op_of(kind), place);
+        self.op = op_of(kind);
+        self.place = place;
     }
 
     /// Begins a message with the frame that has begun.
