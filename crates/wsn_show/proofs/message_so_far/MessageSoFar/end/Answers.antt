@@ -5,7 +5,7 @@ use Rattle.wsn_show.proofs.message_so_far.MessageSoFar.end.Goals as goal
 
 pub returns-then-final_frame : goal.returns-then-final_frame
 returns-then-final_frame c fs f data_frame final last small kept joined =
-    kept_after_final (record c.args.self.now { frames = 0; bytes = 0; payload = c.clear.new.self; earlier = c.clear-2.new.self }) fs f data_frame (final ∙ c.if-final_frame.true) refl refl c.clear-2.ensures c.clear.ensures
+    kept_after_final (record c.args.self.now { frames = 0; bytes = 0; payload = c.clear.new.self; earlier = c.clear-then-final_frame.new.self }) fs f data_frame (final ∙ c.if-final_frame.true) refl refl c.clear-then-final_frame.ensures c.clear.ensures
 
 pub returns-else-final_frame : goal.returns-else-final_frame
 returns-else-final_frame c fs f data_frame final last small kept joined =

@@ -42,9 +42,9 @@ returns-clause-character c fs at rest wrong keeps = by at wrong keeps
         let parts = length-append (payload_of (unfinished fs)) (payload ++ bytes) in
         let own = length-append payload bytes in
         let front = length-append (payload_of (unfinished fs)) payload in
-        let counted : c.count-count.result ≡ length (payload_of (unfinished fs) ++ payload) =
-        c.count-count.ensures ∙ keeps.message.payload.count ∙ ap (λ (bs : List ℕ). length (payload_of (unfinished fs) ++ bs)) (part_of_data head payload wrong.data_frame) in
-        let sum = c.saturating_add.ensures in
+        let counted : c.count.result ≡ length (payload_of (unfinished fs) ++ payload) =
+        c.count.ensures ∙ keeps.message.payload.count ∙ ap (λ (bs : List ℕ). length (payload_of (unfinished fs) ++ bs)) (part_of_data head payload wrong.data_frame) in
+        let sum = c.saturating_add-count.ensures in
         let few = wrong.few_bytes in
         let ends = bad.1 in
         let earlier : c.end.result ≡ earlier_end fs = c.end.ensures ∙ keeps.message.earlier in
