@@ -178,7 +178,8 @@ class BadCharacter:
 
     offset: of its first byte in that side's stream; an earlier frame of the message may have it. in_payload: the place of
     that byte in the message's payload, from 0. hex: its bytes up to the offending one, one to four. before: the text before
-    it in the refused frame, at most what the view has. truncated: whether some of that frame's payload is left out.
+    it, at most what the view has; of frames before the refused one 48 bytes at most. truncated: whether some of the message
+    before it is left out.
     """
 
     offset: int

@@ -156,19 +156,20 @@ def bad_character(message, part, seen, view):
     data, places = (message.data, message.places) if message else (b"", [])
     data, places = data + seen, [*places, *range(part.payload_at, part.payload_at + len(seen))]
     count = whole_characters(data)
-    bad = data[count:]
-    return f"{places[count]} bad-character {count} {character_view(bad, seen, view)}"
+    kept = data[:len(data) - len(seen)][-48:] + seen
+    return f"{places[count]} bad-character {count} {character_view(data[count:], kept, count, view)}"
 
 
-def character_view(bad, seen, view):
-    """The bytes of a bad character, and the end of what the frame has before it, from the first byte of a character on."""
+def character_view(bad, kept, count, view):
+    """The bytes of a bad character, and the end of what is kept of the message before it, from the first byte of a character
+    on. Before it the message has so many bytes."""
     if view == 0:
         return "- -"
-    before = seen[max(0, len(seen) - view // 2):max(0, len(seen) - len(bad))]
+    before = kept[max(0, len(kept) - view // 2):max(0, len(kept) - len(bad))]
     while before and 0x80 <= before[0] <= 0xbf:
         before = before[1:]
     before = before[:whole_characters(before)]
-    more = ".." if len(before) + len(bad) < len(seen) else ""
+    more = ".." if len(before) < count else ""
     return f"{bad.hex()} {more}{quoted(before)[:-1]}" + "".join(f"\\x{byte:02x}" for byte in bad) + '"'
 
 

@@ -252,7 +252,7 @@ completes, as the lines come; then closing's report:
             the bad character of a text that is refused: it begins at OFFSET,
             byte IN_PAYLOAD of the message's payload, from 0; its bytes, the
             offending one last; the text with them at its end, as \\x and two
-            digits, after .. if some of the frame's payload is left out
+            digits, after .. if some of the message before is left out
   SIDE TIME OFFSET unfinished KIND BYTES FRAMES lacks N VIEW
             what has begun where the stream ends or where a Close or a refusal
             interrupts it: its bytes so far; its last frame lacks N bytes, or -

@@ -133,7 +133,12 @@ StandsFor n placed item = ⊥
 
 -- The bad character for which this stands.
 abbrev pub character_of : ShownCharacter → BadCharacter
-character_of shown = record { offset = shown.offset; in_payload = shown.in_payload; bytes = shown.bytes.now }
+character_of shown = record {
+  offset = shown.offset;
+  in_payload = shown.in_payload;
+  bytes = shown.bytes.now;
+  earlier = shown.earlier.now;
+}
 
 -- The bad character for which this stands, if there is one.
 abbrev pub character_in : Option ShownCharacter → Option BadCharacter

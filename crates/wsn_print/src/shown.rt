@@ -190,6 +190,8 @@ pub struct ShownCharacter<'a> {
     pub in_payload: u64,
     /// Its bytes up to the offending one.
     pub bytes: &'a [u8],
+    /// The end of the payload of the message in frames before the refused one.
+    pub earlier: &'a [u8],
 }
 
 /// What bytes are that belong to no frame.

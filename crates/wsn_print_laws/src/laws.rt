@@ -175,7 +175,7 @@ pub fn law_item_objects()
         (role ≡ other_role) × (position ≡ other_position) × LookAlike n item other }
     ensures unseen { (role : Role) (position : Position) →
         item_object 0 role position (RefusedFrame 0 (record { place = 2; reason = TextBad }) (0xfc ∷ [])
-        (Some (record { offset = 2; in_payload = 0; bytes = 0xfc ∷ [] })))
+        (Some (record { offset = 2; in_payload = 0; bytes = 0xfc ∷ []; earlier = [] })))
         ≡ item_object 0 role position (RefusedFrame 0 (record { place = 2; reason = TextBad }) (0xff ∷ [])
-        (Some (record { offset = 2; in_payload = 0; bytes = 0xff ∷ [] }))) }
+        (Some (record { offset = 2; in_payload = 0; bytes = 0xff ∷ []; earlier = [] }))) }
 {}

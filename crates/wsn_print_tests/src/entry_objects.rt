@@ -195,6 +195,7 @@ fn expect_bad_character(
         offset: 18,
         in_payload: 12,
         bytes: b"\xe9 ",
+        earlier: b"",
     };
     let put = put_refused_object(
         &mut Output::new(&mut line),

@@ -1,5 +1,5 @@
 -- The character with which a text goes wrong: which of the payload's bytes it is, and where they are.
-use Rattle.std.proofs.Common.{◌≡◌, ℕ, ◌+◌, ◌-◌, ◌<◌, ◌≤◌, false, Option, None, Some, List, [], ◌∷◌, ◌++◌, length, take, drop, refl, sym, ap, ◌∙◌, subst, inl, inr, append_assoc, append-nil, length-append, take-append-drop, arith}
+use Rattle.std.proofs.Common.{◌≡◌, ℕ, ◌+◌, ◌-◌, ◌<◌, ◌≤◌, false, Option, None, Some, List, [], ◌∷◌, ◌++◌, length, take, drop, refl, sym, ap, ◌∙◌, subst, inl, inr, append_assoc, append-nil, length-append, length-drop, take-append-drop, arith}
 use Rattle.std.specs.Prelude.{is_some}
 use Rattle.std.specs.Str.Lossy.{utf8_valid_len}
 use Rattle.std.proofs.lemmas.List.{take_at, drop_at, map-append, length-take-le}
@@ -27,7 +27,7 @@ use Rattle.wsn_rules.specs.Group.{unfinished, payload_of}
 use Rattle.wsn_rules.specs.Heads.{BeginsWithHead}
 use Rattle.wsn_rules.specs.Verdict.{IsRefused}
 use Rattle.wsn_rules.specs.PlacedByte.{PlacedByte, placed}
-use Rattle.wsn_rules.specs.BadCharacter.{BadCharacter, GoesWrongWith, IsPayloadByte, payload_offset, open_payload, message_payload, first_offset, bytes_of, bad_character, character_of}
+use Rattle.wsn_rules.specs.BadCharacter.{BadCharacter, GoesWrongWith, IsPayloadByte, IsEarlierEnd, payload_offset, last_of, open_payload, message_payload, first_offset, bytes_of, earlier_end, bad_character, character_of}
 use Rattle.wsn_rules.specs.ShownStream.{Item, Shown, shown_after, interrupted, IsShownEvidence, IsShownRefusal}
 use Rattle.wsn_rules.specs.ShownStream.Item.{RefusedFrame}
 use Rattle.wsn_rules.proofs.Groups.{IsGroup, group_of_lawful}
@@ -57,8 +57,8 @@ longest_at text front rest is is_text =
       | inr le ↦ omega (arith, le, size)
     ]
 
-goes_wrong_at : (payload : List PlacedByte) (front : List ℕ) (b : ℕ) → bytes_of payload ≡ front ++ b ∷ [] → BeginsText front → ¬ (BeginsText (front ++ b ∷ [])) → GoesWrongWith (front ++ b ∷ []) (bad_character payload)
-goes_wrong_at payload front b is begins ends =
+goes_wrong_at : (earlier : List ℕ) (payload : List PlacedByte) (front : List ℕ) (b : ℕ) → bytes_of payload ≡ front ++ b ∷ [] → BeginsText front → ¬ (BeginsText (front ++ b ∷ [])) → GoesWrongWith (front ++ b ∷ []) (bad_character earlier payload)
+goes_wrong_at earlier payload front b is begins ends =
     let text = front ++ b ∷ [] in
     let s = split front b begins ends in
     let n = utf8_valid_len (bytes_of payload) in
@@ -82,14 +82,29 @@ goes_wrong_at payload front b is begins ends =
       few = omega (arith, size, few);
     }
 
-goes_wrong : (payload : List PlacedByte) (text : List ℕ) → bytes_of payload ≡ text → EndsBad text → GoesWrongWith text (bad_character payload)
-goes_wrong payload text is (i, last, bad) = by text is last bad (last_apart text (omega (arith, last)))
+goes_wrong : (earlier : List ℕ) (payload : List PlacedByte) (text : List ℕ) → bytes_of payload ≡ text → EndsBad text → GoesWrongWith text (bad_character earlier payload)
+goes_wrong earlier payload text is (i, last, bad) = by text is last bad (last_apart text (omega (arith, last)))
   where
-    by : (text : List ℕ) → bytes_of payload ≡ text → i + 1 ≡ length text → IsFirstBad text i → (front : List ℕ) × (b : ℕ) × (text ≡ front ++ b ∷ []) → GoesWrongWith text (bad_character payload)
+    by : (text : List ℕ) → bytes_of payload ≡ text → i + 1 ≡ length text → IsFirstBad text i → (front : List ℕ) × (b : ℕ) × (text ≡ front ++ b ∷ []) → GoesWrongWith text (bad_character earlier payload)
     by text is last bad (front, b, parts) =
         let moved : IsFirstBad (front ++ b ∷ []) i = subst (λ (bs : List ℕ). IsFirstBad bs i) parts bad in
         let begins : BeginsText front = before_bad front b i moved (last ∙ ap (λ (bs : List ℕ). length bs) parts) in
-        subst (λ (bs : List ℕ). GoesWrongWith bs (bad_character payload)) (sym parts) (goes_wrong_at payload front b (is ∙ parts) begins (bad_ends (front ++ b ∷ []) i moved))
+        subst (λ (bs : List ℕ). GoesWrongWith bs (bad_character earlier payload)) (sym parts) (goes_wrong_at earlier payload front b (is ∙ parts) begins (bad_ends (front ++ b ∷ []) i moved))
+
+-- The end of the payload in earlier frames.
+end_of_earlier : (payload : List ℕ) → IsEarlierEnd payload (last_of 48 payload)
+end_of_earlier payload =
+    let n = length payload - 48 in
+    let size : length (drop n payload) ≡ length payload - n = length-drop n payload in
+    record {
+      front = take n payload;
+      is = sym (take-append-drop n payload);
+      few = omega (arith, size);
+      enough = λ some. elim (less_or_not 48 (length payload)) [
+        | inl more ↦ omega (arith, size, more)
+        | inr all ↦ absurd (some (ap (λ (k : ℕ). take k payload) (let none : n ≡ 0 = omega (arith, all) in none)))
+      ];
+    }
 
 -- The payload determines it.
 pub one_character : (payload : List ℕ) (c d : BadCharacter) → GoesWrongWith payload c → GoesWrongWith payload d → (c.in_payload ≡ d.in_payload) × (c.bytes ≡ d.bytes)
@@ -103,11 +118,11 @@ one_character payload c d wrong other =
 -- ---- its offset
 
 -- If the last bytes of the payload are in this part, the last of them is its last byte.
-pub offset_is : (fs : List Frame) (info : HeadInfo) (part : List ℕ) → GoesWrongWith (payload_of (unfinished fs) ++ part) (bad_character (message_payload fs info part))
-    → length ((bad_character (message_payload fs info part)).bytes) ≤ length part
-    → (bad_character (message_payload fs info part)).offset + length ((bad_character (message_payload fs info part)).bytes) ≡ payload_offset info + length part
+pub offset_is : (fs : List Frame) (info : HeadInfo) (part : List ℕ) → GoesWrongWith (payload_of (unfinished fs) ++ part) (bad_character (earlier_end fs) (message_payload fs info part))
+    → length ((bad_character (earlier_end fs) (message_payload fs info part)).bytes) ≤ length part
+    → (bad_character (earlier_end fs) (message_payload fs info part)).offset + length ((bad_character (earlier_end fs) (message_payload fs info part)).bytes) ≡ payload_offset info + length part
 offset_is fs info part wrong fits =
-    let c = bad_character (message_payload fs info part) in
+    let c = bad_character (earlier_end fs) (message_payload fs info part) in
     let held = open_payload fs in
     let n = c.in_payload in
     let held_size = length-open fs in
@@ -122,11 +137,11 @@ offset_is fs info part wrong fits =
     omega (arith, offset, held_size, both, at, past)
 
 -- If some of them are in an earlier part, so is the first.
-pub earlier_is : (fs : List Frame) (info : HeadInfo) (part : List ℕ) → GoesWrongWith (payload_of (unfinished fs) ++ part) (bad_character (message_payload fs info part))
-    → length part < length ((bad_character (message_payload fs info part)).bytes)
-    → IsPayloadByte fs ((bad_character (message_payload fs info part)).in_payload) ((bad_character (message_payload fs info part)).offset)
+pub earlier_is : (fs : List Frame) (info : HeadInfo) (part : List ℕ) → GoesWrongWith (payload_of (unfinished fs) ++ part) (bad_character (earlier_end fs) (message_payload fs info part))
+    → length part < length ((bad_character (earlier_end fs) (message_payload fs info part)).bytes)
+    → IsPayloadByte fs ((bad_character (earlier_end fs) (message_payload fs info part)).in_payload) ((bad_character (earlier_end fs) (message_payload fs info part)).offset)
 earlier_is fs info part wrong long =
-    let c = bad_character (message_payload fs info part) in
+    let c = bad_character (earlier_end fs) (message_payload fs info part) in
     let held = open_payload fs in
     let held_size = length-open fs in
     let both : length (payload_of (unfinished fs)) + length part ≡ length wrong.whole + length c.bytes =
@@ -270,6 +285,7 @@ module _ (role : Role) (limits : Limits) where
       pub of : BadCharacter
       pub is : character ≡ Some of
       pub wrong : GoesWrongWith (payload_of (unfinished fs) ++ evidence) of
+      pub ends : IsEarlierEnd (payload_of (unfinished fs)) of.earlier
       pub offset : length of.bytes ≤ length evidence → of.offset + length of.bytes ≡ place + 1
       pub earlier : length evidence < length of.bytes → IsPayloadByte fs of.in_payload of.offset
 
@@ -289,12 +305,13 @@ module _ (role : Role) (limits : Limits) where
         by (inl (info, b, p, part, is_character)) =
             let payload = message_payload fs info evidence in
             let bad : EndsBad (payload_of (unfinished fs) ++ evidence) = subst (λ (bs : List ℕ). EndsBad (payload_of (unfinished fs) ++ bs)) (sym part) (ends_bad info b) in
-            let wrong = goes_wrong payload (payload_of (unfinished fs) ++ evidence) (payload_so_far fs info evidence) bad in
+            let wrong = goes_wrong (earlier_end fs) payload (payload_of (unfinished fs) ++ evidence) (payload_so_far fs info evidence) bad in
             let end : payload_offset info + length evidence ≡ place + 1 = ap (λ (bs : List ℕ). payload_offset info + length bs) part ∙ end_is info b in
             record {
-              of = bad_character payload;
+              of = bad_character (earlier_end fs) payload;
               is = is_character;
               wrong = wrong;
+              ends = end_of_earlier (payload_of (unfinished fs));
               offset = λ fits. offset_is fs info evidence wrong fits ∙ end;
               earlier = earlier_is fs info evidence wrong;
             }
@@ -315,7 +332,7 @@ module _ (detail : Detail) (role : Role) (limits : Limits) (bytes : List ℕ) (f
 
   pub text_bad_shown : IsBytes bytes → IsRefused role limits bytes fs refusal.place refusal.reason → refusal.reason ≡ TextBad → (earlier : List Shown) × (evidence : List ℕ) × (character : BadCharacter)
       × (shown ≡ earlier ++ record { after = refusal.place + 1; item = RefusedFrame (length (stream fs)) refusal evidence (Some character) } ∷ [])
-      × GoesWrongWith (payload_of (unfinished fs) ++ evidence) character
+      × GoesWrongWith (payload_of (unfinished fs) ++ evidence) character × IsEarlierEnd (payload_of (unfinished fs)) character.earlier
       × (length character.bytes ≤ length evidence → character.offset + length character.bytes ≡ refusal.place + 1)
       × (length evidence < length character.bytes → IsPayloadByte fs character.in_payload character.offset)
   text_bad_shown in_bytes refused reason =
@@ -323,7 +340,7 @@ module _ (detail : Detail) (role : Role) (limits : Limits) (bytes : List ℕ) (f
       let bad = subst (λ (r : Reason). IsRefused role limits bytes fs refusal.place r) reason refused in
       let c = has_character role limits bytes fs refusal.place in_bytes bad is.evidence is.character
       (subst (λ (r : Reason). IsShownEvidence role limits fs r seen is.evidence is.character) reason is.is_evidence) in
-      (shown_after (refusal.place + 1) (interrupted detail fs), is.evidence, c.of, last_is (Some c.of) c.is, c.wrong, c.offset, c.earlier)
+      (shown_after (refusal.place + 1) (interrupted detail fs), is.evidence, c.of, last_is (Some c.of) c.is, c.wrong, c.ends, c.offset, c.earlier)
 
   pub other_shown : ¬ (refusal.reason ≡ TextBad) → (earlier : List Shown) × (evidence : List ℕ)
       × (shown ≡ earlier ++ record { after = refusal.place + 1; item = RefusedFrame (length (stream fs)) refusal evidence None } ∷ [])

@@ -1,6 +1,6 @@
 -- The character with which a text goes wrong: its bytes up to the offending one, and where they are. They may be in
 -- more than one frame. RFC 6455 sections 5.6 and 8.1.
-use Rattle.std.specs.Prelude.{◌≡◌, ℕ, ◌+◌, ◌-◌, ◌<◌, ◌≤◌, true, false, Option, None, Some, List, [], ◌∷◌, ◌++◌, length, drop, map, if◌then◌else◌}
+use Rattle.std.specs.Prelude.{◌≡◌, ◌≢◌, ℕ, ◌+◌, ◌-◌, ◌<◌, ◌≤◌, true, false, Option, None, Some, List, [], ◌∷◌, ◌++◌, length, drop, map, if◌then◌else◌}
 use Rattle.std.specs.List.{AllByRecursion}
 use Rattle.std.specs.Str.Lossy.{utf8_valid_len}
 use Rattle.wsn_wire.specs.declared.refusal.Reason.{Reason}
@@ -13,12 +13,13 @@ use Rattle.wsn_rules.specs.Heads.{info_of}
 use Rattle.wsn_rules.specs.Summary.{ends_message}
 use Rattle.wsn_rules.specs.PlacedByte.{PlacedByte, placed}
 
--- The offset of its first byte in the stream, the place of that byte in the payload of the message, from 0, and its
--- bytes up to the offending one.
+-- The offset of its first byte in the stream, the place of that byte in the payload of the message, from 0, its bytes up
+-- to the offending one, and the end of the payload of the message in frames before the refused one.
 pub record BadCharacter : Type 0 where
   pub offset : ℕ
   pub in_payload : ℕ
   pub bytes : List ℕ
+  pub earlier : List ℕ
 
 -- ---- the payload of the message, with offsets
 
@@ -57,18 +58,24 @@ first_offset (b ∷ bytes) = b.place
 abbrev pub bytes_of : List PlacedByte → List ℕ
 bytes_of = map (λ b. b.byte)
 
--- What follows the whole characters with which this payload begins.
-abbrev pub bad_character : List PlacedByte → BadCharacter
-bad_character payload = record {
+-- The end of the payload of the message that is open after the frames fs: its last 48 bytes.
+abbrev pub earlier_end : List Frame → List ℕ
+earlier_end fs = last_of 48 (payload_of (unfinished fs))
+
+-- What follows the whole characters with which this payload begins. In frames before the refused one the payload ends
+-- with `earlier`.
+abbrev pub bad_character : List ℕ → List PlacedByte → BadCharacter
+bad_character earlier payload = record {
   offset = first_offset (drop (utf8_valid_len (bytes_of payload)) payload);
   in_payload = utf8_valid_len (bytes_of payload);
   bytes = bytes_of (drop (utf8_valid_len (bytes_of payload)) payload);
+  earlier = earlier;
 }
 
 -- The bad character, if the refusal is for one, of a frame that is refused after the frames fs, with this head and this
 -- part of its payload up to the offending byte.
 abbrev pub character_of : Reason → List Frame → HeadInfo → List ℕ → Option BadCharacter
-character_of TextBad fs info part = Some (bad_character (message_payload fs info part))
+character_of TextBad fs info part = Some (bad_character (earlier_end fs) (message_payload fs info part))
 character_of reason fs info part = None
 
 -- ---- for the law
@@ -87,6 +94,13 @@ pub record GoesWrongWith (payload : List ℕ) (character : BadCharacter) : Type 
   pub begins : BeginsText begun
   pub bad : ¬ (BeginsText character.bytes)
   pub few : length character.bytes ≤ 4
+
+-- This is the end of the payload: 48 bytes, or all of it.
+pub record IsEarlierEnd (payload earlier : List ℕ) : Type 0 where
+  pub front : List ℕ
+  pub is : payload ≡ front ++ earlier
+  pub few : length earlier ≤ 48
+  pub enough : front ≢ [] → length earlier ≡ 48
 
 -- A byte of the payload of the message that is open after the frames fs, by its index there, from 0: it is byte k of the
 -- payload of one of the frames, and at this offset in the stream.

@@ -10,13 +10,14 @@ ghost use Rattle.wsn_rules.specs.declared.head_info.HeadInfo.{HeadInfo};
 ghost use Rattle.wsn_rules.specs.declared.verdict.Refusal.{Refusal};
 ghost use Rattle.wsn_rules.specs.Group.{unfinished, payload_of};
 ghost use Rattle.wsn_rules.specs.Verdict.{IsRefused};
-ghost use Rattle.wsn_rules.specs.BadCharacter.{BadCharacter, GoesWrongWith, IsPayloadByte, bytes_of, message_payload};
+ghost use Rattle.wsn_rules.specs.BadCharacter.{BadCharacter, GoesWrongWith, IsPayloadByte, IsEarlierEnd, bytes_of, message_payload};
 ghost use Rattle.wsn_rules.specs.ShownStream.{Shown, IsShownRefusal};
 ghost use Rattle.wsn_rules.specs.ShownStream.Item.{RefusedFrame};
 
 /// A text that is refused for a bad byte is shown with the character with which it goes wrong: the payload of the
 /// message so far is whole characters and then the bytes of this one, the last of which is the offending byte. Its
-/// offset is that of its first byte, in the refused frame or an earlier one. Any other refusal is shown without one.
+/// offset is that of its first byte, in the refused frame or an earlier one. With it comes the end of the payload of the
+/// message in earlier frames. Any other refusal is shown without one.
 ///
 /// The payload determines the character's bytes, and the frames its offset. Without offsets, the payload so far is that
 /// of the open message and then the part of this frame's.
@@ -31,6 +32,7 @@ pub fn law_bad_character()
           item = RefusedFrame (length (stream fs)) refusal evidence (Some character);
         } ∷ [])
         × GoesWrongWith (payload_of (unfinished fs) ++ evidence) character
+        × IsEarlierEnd (payload_of (unfinished fs)) character.earlier
         × (length character.bytes ≤ length evidence →
         character.offset + length character.bytes ≡ refusal.place + 1)
         × (length evidence < length character.bytes → IsPayloadByte fs character.in_payload character.offset) }

@@ -72,7 +72,7 @@ module _ (last : LastPayload) (fs : List Frame) (f : Frame) where
 
 -- ---- the character
 
-module _ (came : List PlacedByte) (len : ℕ) (is : utf8_valid_len (bytes_of came) + len ≡ length came) (held : List PlacedByte) (few : len ≤ length held) (last : held ≡ last_of 4 came) where
+module _ (earlier : List ℕ) (came : List PlacedByte) (len : ℕ) (is : utf8_valid_len (bytes_of came) + len ≡ length came) (held : List PlacedByte) (few : len ≤ length held) (last : held ≡ last_of 4 came) where
   abbrev whole : ℕ
   whole = utf8_valid_len (bytes_of came)
 
@@ -82,11 +82,11 @@ module _ (came : List PlacedByte) (len : ℕ) (is : utf8_valid_len (bytes_of cam
       let at : (length came - 4) + (length held - len) ≡ whole = omega (arith, size, is, few) in
       ap (λ (bs : List PlacedByte). drop (length held - len) bs) last ∙ drop-drop (length held - len) (length came - 4) came ∙ ap (λ (k : ℕ). drop k came) at
 
-  pub character_is : record { offset = first_offset (drop (length held - len) held); in_payload = length came - len; bytes = drop (length held - len) (bytes_of held) } ≡ bad_character came
+  pub character_is : record { offset = first_offset (drop (length held - len) held); in_payload = length came - len; bytes = drop (length held - len) (bytes_of held); earlier = earlier } ≡ bad_character earlier came
   character_is =
       let place : length came - len ≡ whole = omega (arith, is) in
       let bytes : drop (length held - len) (bytes_of held) ≡ bytes_of (drop whole came) = drop-map (λ (b : PlacedByte). b.byte) (length held - len) held ∙ ap bytes_of held_end in
-      (λ i. record { offset = first_offset (held_end i); in_payload = place i; bytes = bytes i })
+      (λ i. record { offset = first_offset (held_end i); in_payload = place i; bytes = bytes i; earlier = earlier })
 
 -- ---- more bytes
 

@@ -23,7 +23,12 @@ HasLastPayload last came = placed_bytes last.held.items ≡ last_of 4 came
 
 -- The bad character, as it is held.
 abbrev pub character_held : HeldCharacter → BadCharacter
-character_held held = record { offset = held.offset; in_payload = held.in_payload; bytes = held.bytes }
+character_held held = record {
+  offset = held.offset;
+  in_payload = held.in_payload;
+  bytes = held.bytes;
+  earlier = held.earlier;
+}
 
 -- The same, if there is one.
 abbrev pub character_held_in : Option HeldCharacter → Option BadCharacter

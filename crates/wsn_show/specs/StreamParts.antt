@@ -11,16 +11,17 @@ use Rattle.wsn_scan.specs.Positions.{Position, BetweenFrames, InFrame}
 use Rattle.wsn_show.specs.declared.message_so_far.MessageSoFar.{MessageSoFar}
 use Rattle.wsn_show.specs.declared.frame_so_far.FrameSoFar.{FrameSoFar}
 use Rattle.wsn_show.specs.declared.stream_parts.StreamParts.{StreamParts}
-use Rattle.wsn_show.specs.HeldParts.{HasFirst, HasLast}
+use Rattle.wsn_show.specs.HeldParts.{HasFirst, HasLast, HasEarlier}
 use Rattle.wsn_show.specs.LastPayloads.{HasLastPayload, payload_at}
 
 -- ---- the open message
 
--- After the frames fs, this is kept of the open message: the number of its frames and of their payload bytes, the first
--- bytes of their payload and of `part`, and if there is one its first frame's opcode and offset.
+-- After the frames fs, this is kept of the open message: the number of its frames and of their payload bytes, the last of
+-- these bytes, the first bytes of their payload and of `part`, and if there is one its first frame's opcode and offset.
 pub record KeepsMessage (message : MessageSoFar) (fs : List Frame) (part : List ℕ) : Type 0 where
   pub frames : message.frames ≡ length (unfinished fs)
   pub bytes : message.bytes ≡ length (payload_of (unfinished fs))
+  pub earlier : HasEarlier message.earlier (payload_of (unfinished fs))
   pub payload : HasFirst message.payload (payload_of (unfinished fs) ++ part)
   pub op : unfinished fs ≢ [] → message.op ≡ first_op (unfinished fs)
   pub offset : unfinished fs ≢ [] → message.offset ≡ open_offset fs

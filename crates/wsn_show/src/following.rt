@@ -196,10 +196,11 @@ impl StreamParts {
             return None;
         }
         self.last.add(bytes, self.frame.end_so_far());
-        let count = self.message.payload.count();
-        Some(
-            self.last
-                .bad_character(count.saturating_add(bytes.len() as u64)),
-        )
+        let count = self
+            .message
+            .payload
+            .count()
+            .saturating_add(bytes.len() as u64);
+        Some(self.last.bad_character(count, self.message.earlier.end()))
     }
 }

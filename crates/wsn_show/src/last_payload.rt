@@ -5,6 +5,7 @@ ghost use Rattle.wsn_rules.specs.PlacedByte.{PlacedByte, placed};
 ghost use Rattle.wsn_print.specs.ShownParts.{character_of, character_in};
 ghost use Rattle.wsn_show.specs.LastPayloads.{placed_bytes, HasLastPayload, character_held, character_held_in};
 
+use crate::earlier_payload::EARLIER_MAX;
 use arrayvec::ArrayVec;
 use wsn_print::{KeptBytes, ShownCharacter};
 use wsn_text::bad_character_len;
@@ -80,11 +81,12 @@ impl LastPayload {
         }
     }
 
-    /// The bad character of a message whose payload, of so many bytes, ends with its first bad byte.
+    /// The bad character of a message whose payload, of so many bytes, ends with its first bad byte, and in earlier frames
+    /// with `earlier`.
     #[tactic(none)]
-    pub fn bad_character(&self, count: u64) -> HeldCharacter
+    pub fn bad_character(&self, count: u64, earlier: KeptBytes<EARLIER_MAX>) -> HeldCharacter
         ensures { (came : List PlacedByte) (i : ℕ) → HasLastPayload self.now came → length came ≡ count →
-            IsFirstBad (bytes_of came) i → i + 1 ≡ length came → character_held result ≡ bad_character came }
+            IsFirstBad (bytes_of came) i → i + 1 ≡ length came → character_held result ≡ bad_character earlier came }
     {
         let mut bytes = self.bytes();
         let len = bad_character_len(bytes.as_slice());
@@ -94,6 +96,7 @@ impl LastPayload {
             offset: self.place_at(first),
             in_payload: count.saturating_sub(len as u64),
             bytes,
+            earlier,
         }
     }
 
@@ -130,6 +133,8 @@ pub struct HeldCharacter {
     in_payload: u64,
     /// Its bytes up to the offending one.
     bytes: KeptBytes<CHARACTER_MAX>,
+    /// The end of the payload of the message in frames before the refused one.
+    earlier: KeptBytes<EARLIER_MAX>,
 }
 
 /// As it is printed, if there is one.
@@ -153,6 +158,7 @@ impl HeldCharacter {
             offset: self.offset,
             in_payload: self.in_payload,
             bytes: self.bytes.as_slice(),
+            earlier: self.earlier.as_slice(),
         }
     }
 }

@@ -5,8 +5,9 @@
 //! [`show`] reads a capture and prints what each of its lines completes, and then the report. A [`CaptureView`] does so
 //! line by line. [`show_stream`] shows the stream of one endpoint, a [`StreamView`] its bytes as they come. A [`Style`]
 //! says whether events or frames are shown, and how much of a payload. Nothing is allocated: at most one line is held,
-//! and of each stream the first bytes of its open message and of the frame that has begun, and the last four bytes of the
-//! message's payload, which may belong to a bad character.
+//! and of each stream the first bytes of its open message and of the frame that has begun, the last four bytes of the
+//! message's payload, which may belong to a bad character, and the last of its payload in complete frames, which is the
+//! text before that.
 //!
 //! `wsn_rules/specs/ShownStream.antt` defines what is shown of a stream and what is left over, `ShownCapture.antt` what
 //! is shown of a capture, and `wsn_shown_text/specs/ShownText.antt` how it is printed. Here, `specs/Showing.antt` defines
@@ -17,6 +18,7 @@
 #![tactic(auto)]
 
 mod capture_view;
+mod earlier_payload;
 mod end_notes;
 mod ended_by;
 mod entry_context;

@@ -1,5 +1,6 @@
 ghost use Rattle.std.specs.Prelude.{◌≡◌};
 
+use crate::earlier_payload::EarlierPayload;
 use crate::first_bytes::FirstBytes;
 use wsn_print::ShownEvent;
 use wsn_wire::Op;
@@ -17,12 +18,15 @@ pub struct MessageSoFar {
     pub bytes: u64,
     /// Their payloads, joined, and then that of the data frame that has begun.
     pub payload: FirstBytes,
+    /// The end of their payloads, joined.
+    pub earlier: EarlierPayload,
 }
 
 impl MessageSoFar {
     ghost use Rattle.std.specs.Prelude.{ℕ, ◌+◌, ◌<◌, ◌^◌, List, [], ◌∷◌, ◌++◌, length, take, min, true};
     ghost use Rattle.wsn_wire.specs.Frame.{Frame, stream};
     ghost use Rattle.wsn_rules.specs.declared.head_info.HeadInfo.{HeadInfo};
+    ghost use Rattle.wsn_rules.specs.BadCharacter.{last_of};
     ghost use Rattle.wsn_rules.specs.Group.{unfinished, payload_of, is_data};
     ghost use Rattle.wsn_rules.specs.ShownStream.{frame_so_far};
     ghost use Rattle.wsn_show.specs.StreamParts.{KeepsMessage, HasJoined};
@@ -37,6 +41,7 @@ impl MessageSoFar {
             frames: 0,
             bytes: 0,
             payload: FirstBytes::new(),
+            earlier: EarlierPayload::new(),
         }
     }
 
@@ -96,17 +101,20 @@ impl MessageSoFar {
         }
     }
 
-    /// The data frame that has begun ends.
-    pub fn end(&mut self, final_frame: bool)
+    /// The data frame that has begun ends, with these last bytes of its payload.
+    #[tactic(none)]
+    pub fn end(&mut self, final_frame: bool, last: &[u8])
         ensures { (fs : List Frame) (f : Frame) → is_data f ≡ true → f.fin ≡ final_frame →
-            length (unfinished fs) + 1 < 2 ^ 64 → KeepsMessage self.old fs f.payload → HasJoined self.old fs f →
-            KeepsMessage self.new (fs ++ f ∷ []) [] }
+            last_of 48 last.now ≡ last_of 48 f.payload → length (unfinished fs) + 1 < 2 ^ 64 →
+            KeepsMessage self.old fs f.payload → HasJoined self.old fs f → KeepsMessage self.new (fs ++ f ∷ []) [] }
     {
         if final_frame {
             self.frames = 0;
             self.bytes = 0;
             self.payload.clear();
+            self.earlier.clear();
         } else {
+            self.earlier.add(last);
             self.frames = self.frames.saturating_add(1);
             self.bytes = self.payload.count();
         }

@@ -15,8 +15,8 @@ pub struct StreamParts {
 }
 
 impl StreamParts {
-    ghost use Rattle.std.specs.Prelude.{ℕ, ◌+◌, ◌<◌, ◌^◌, List, [], ◌∷◌, ◌++◌, length};
-    ghost use Rattle.wsn_wire.specs.Frame.{Frame, stream};
+    ghost use Rattle.std.specs.Prelude.{ℕ, ◌+◌, ◌<◌, ◌^◌, List, [], ◌∷◌, ◌++◌, length, false};
+    ghost use Rattle.wsn_wire.specs.Frame.{Frame, stream, is_control};
     ghost use Rattle.wsn_rules.specs.BadCharacter.{payload_offset};
     ghost use Rattle.wsn_rules.specs.Group.{unfinished, payload_of};
     ghost use Rattle.wsn_rules.specs.Heads.{info_of};
@@ -81,13 +81,26 @@ impl StreamParts {
             Keeps self.old fs (InFrame (info_of (length (stream fs)) f) f.payload) rest →
             Keeps self.new (fs ++ f ∷ []) BetweenFrames [] }
     {
-        let is_data = self.frame.is_data();
+        if self.frame.is_data() {
+            self.end_data(final_frame);
+        } else {
+            self.frame.end(0);
+        }
+    }
+
+    /// The data frame ends.
+    #[tactic(none)]
+    fn end_data(&mut self, final_frame: bool)
+        ensures { (fs : List Frame) (f : Frame) (rest : List ℕ) → f.fin ≡ final_frame → is_control f.op ≡ false →
+            length (stream (fs ++ f ∷ [])) ≡ length (stream fs) + length rest →
+            length (stream (fs ++ f ∷ [])) < 2 ^ 64 → length (unfinished fs) + 1 < 2 ^ 64 →
+            Keeps self.old fs (InFrame (info_of (length (stream fs)) f) f.payload) rest →
+            Keeps self.new (fs ++ f ∷ []) BetweenFrames [] }
+    {
+        self.message.end(final_frame, self.frame.last.end().held);
         self.frame.end(0);
-        if is_data {
-            self.message.end(final_frame);
-            if final_frame {
-                self.last.clear();
-            }
+        if final_frame {
+            self.last.clear();
         }
     }
 }

@@ -412,7 +412,7 @@ pub static BAD_CHARACTERS: [Row; 9] = [
     Row {
         text: b"# 0.5\nS 010361e282\n# 1.5\nS 8900\n# 2.5\nS 800120\nS ff\n",
         view: 48,
-        shown: "S 1.5 5 ping 0 1 \"\"\nS 2.5 0 unfinished text 3 1 lacks 0 \"a\" ..\nS 2.5 7 refused 9 text-bad 1007 20\nS 2.5 3 bad-character 1 e28220 \"\\xe2\\x82\\x20\"\nS 2.5 10 unread 1 ff\n",
+        shown: "S 1.5 5 ping 0 1 \"\"\nS 2.5 0 unfinished text 3 1 lacks 0 \"a\" ..\nS 2.5 7 refused 9 text-bad 1007 20\nS 2.5 3 bad-character 1 e28220 \"a\\xe2\\x82\\x20\"\nS 2.5 10 unread 1 ff\n",
         report: BAD_AT_9,
     },
     Row {
@@ -1038,7 +1038,7 @@ pub static FRAMES: [Row; 7] = [
     Row {
         text: b"S 010361e282\nS 8900800120\n",
         view: 48,
-        shown: "S - 0 more text - 3\nS - 5 fin ping - 0\nS - 7 fin cont - 1\nS - 7 refused 9 text-bad 1007 20\nS - 3 bad-character 1 e28220 \"\\xe2\\x82\\x20\"\n",
+        shown: "S - 0 more text - 3\nS - 5 fin ping - 0\nS - 7 fin cont - 1\nS - 7 refused 9 text-bad 1007 20\nS - 3 bad-character 1 e28220 \"a\\xe2\\x82\\x20\"\n",
         report: BAD_AT_9,
     },
 ];

@@ -34,15 +34,14 @@ before_is_utf8 n all shown character is =
 text_whole : (dots quote before bytes end : List ℕ) → dots ++ (quote ++ (before ++ (bytes ++ end))) ≡ dots ++ (quote ++ before ++ bytes ++ end)
 text_whole dots quote before bytes end = simp append_assoc
 
-pub text_is : (n size : ℕ) (all before : List ℕ) (character : BadCharacter) → size ≡ length all → before ≡ text_before n all character
-    → (if nat_lt (length before + length character.bytes) size then codes ".." else [])
+pub text_is : (n : ℕ) (all before : List ℕ) (character : BadCharacter) → before ≡ text_before n all character
+    → (if nat_lt (length before) character.in_payload then codes ".." else [])
     ++ (codes "\"" ++ (flat_map quoted_character (chars before) ++ (flat_map byte_escape character.bytes ++ codes "\""))) ≡ character_text n all character
-text_is n size all before character is_size is =
+text_is n all before character is =
     let escapes : List ℕ = flat_map byte_escape character.bytes ++ codes "\"" in
     let text : List ℕ = text_before n all character in
-    ap (λ (b : List ℕ). (if nat_lt (length b + length character.bytes) size then codes ".." else []) ++ (codes "\"" ++ (flat_map quoted_character (chars b) ++ escapes))) is
-    ∙ ap (λ (k : ℕ). (if nat_lt (length text + length character.bytes) k then codes ".." else []) ++ (codes "\"" ++ (flat_map quoted_character (chars text) ++ escapes))) is_size
-    ∙ text_whole (if nat_lt (length text + length character.bytes) (length all) then codes ".." else []) (codes "\"") (flat_map quoted_character (chars text)) (flat_map byte_escape character.bytes) (codes "\"")
+    ap (λ (b : List ℕ). (if nat_lt (length b) character.in_payload then codes ".." else []) ++ (codes "\"" ++ (flat_map quoted_character (chars b) ++ escapes))) is
+    ∙ text_whole (if nat_lt (length text) character.in_payload then codes ".." else []) (codes "\"") (flat_map quoted_character (chars text)) (flat_map byte_escape character.bytes) (codes "\"")
 
 pub view_is : (n : ℕ) (all : List ℕ) (character : BadCharacter) → n ≢ 0
     → encode_lower character.bytes ++ (codes " " ++ character_text n all character) ≡ character_view n all character
@@ -76,11 +75,10 @@ pub truncated_seen : (n shown all : ℕ) → n ≢ 0 → truncated_field shown a
 truncated_seen n shown all some =
     sym (ap (λ (none : Bool). if none || nat_lt shown all then codes ",\"truncated\":true" else []) (not_zero n some))
 
-pub before_is : (n size : ℕ) (all shown before : List ℕ) (character : BadCharacter) → size ≡ length all → shown ≡ text_before n all character → before ≡ text_before n all character
-    → codes ",\"before\":" ++ (quoted shown ++ (if n == 0 || nat_lt (length before + length character.bytes) size then codes ",\"truncated\":true" else []))
+pub before_is : (n : ℕ) (all shown before : List ℕ) (character : BadCharacter) → shown ≡ text_before n all character → before ≡ text_before n all character
+    → codes ",\"before\":" ++ (quoted shown ++ (if n == 0 || nat_lt (length before) character.in_payload then codes ",\"truncated\":true" else []))
     ≡ field (codes "before") (quoted (text_before n all character)) ++ truncated_text n all character
-before_is n size all shown before character is_size is_shown is =
+before_is n all shown before character is_shown is =
     let text : List ℕ = text_before n all character in
-    ap (λ (b : List ℕ). field (codes "before") (quoted b) ++ (if n == 0 || nat_lt (length before + length character.bytes) size then codes ",\"truncated\":true" else [])) is_shown
-    ∙ ap (λ (b : List ℕ). field (codes "before") (quoted text) ++ (if n == 0 || nat_lt (length b + length character.bytes) size then codes ",\"truncated\":true" else [])) is
-    ∙ ap (λ (k : ℕ). field (codes "before") (quoted text) ++ (if n == 0 || nat_lt (length text + length character.bytes) k then codes ",\"truncated\":true" else [])) is_size
+    ap (λ (b : List ℕ). field (codes "before") (quoted b) ++ (if n == 0 || nat_lt (length before) character.in_payload then codes ",\"truncated\":true" else [])) is_shown
+    ∙ ap (λ (b : List ℕ). field (codes "before") (quoted text) ++ (if n == 0 || nat_lt (length b) character.in_payload then codes ",\"truncated\":true" else [])) is

@@ -1,6 +1,6 @@
 -- How a bad character of a text is shown: with a line of its own after that of the refusal, or as a member of the
 -- refusal's object.
-use Rattle.std.specs.Prelude.{ℕ, ◌+◌, ◌-◌, ◌/◌, ◌==◌, ◌||◌, nat_lt, Bool, if◌then◌else◌, Option, None, Some, List, [], ◌∷◌, ◌++◌, length, take, drop, flat_map, codes, decimal}
+use Rattle.std.specs.Prelude.{ℕ, ◌-◌, ◌/◌, ◌==◌, ◌||◌, nat_lt, Bool, if◌then◌else◌, Option, None, Some, List, [], ◌∷◌, ◌++◌, length, take, drop, flat_map, codes, decimal}
 use Rattle.std.specs.Str.{chars}
 use Rattle.std.specs.Str.Lossy.{utf8_valid_len}
 use Rattle.hex.specs.Hex.{encode_lower}
@@ -27,19 +27,23 @@ whole_characters bytes = take (utf8_valid_len bytes) bytes
 abbrev pub end_part : ℕ → List ℕ → List ℕ
 end_part n bytes = drop (length bytes - n / 2) bytes
 
--- The last n/2 bytes of the evidence, without those of the bad character at its end.
+-- The end of the message up to the offending byte: what is known of it in earlier frames, and then the evidence.
+abbrev pub known_text : List ℕ → BadCharacter → List ℕ
+known_text evidence character = character.earlier ++ evidence
+
+-- The last n/2 bytes of this text, without those of the bad character at its end.
 abbrev pub bytes_before : ℕ → List ℕ → BadCharacter → List ℕ
 bytes_before n evidence character =
-    take (length (end_part n evidence) - length character.bytes) (end_part n evidence)
+    take (length (end_part n (known_text evidence character)) - length character.bytes)
+    (end_part n (known_text evidence character))
 
 -- The characters before the bad one that are shown.
 abbrev pub text_before : ℕ → List ℕ → BadCharacter → List ℕ
 text_before n evidence character = whole_characters (from_character (bytes_before n evidence character))
 
--- Some of the evidence isn't shown.
+-- Some of the message before the bad character isn't shown.
 abbrev pub leaves_out : ℕ → List ℕ → BadCharacter → Bool
-leaves_out n evidence character =
-    nat_lt (length (text_before n evidence character) + length character.bytes) (length evidence)
+leaves_out n evidence character = nat_lt (length (text_before n evidence character)) character.in_payload
 
 -- ---- its line
 
@@ -47,7 +51,7 @@ leaves_out n evidence character =
 abbrev pub byte_escape : ℕ → List ℕ
 byte_escape b = codes "\\x" ++ encode_lower (b ∷ [])
 
--- The text up to the offending byte, quoted, with `..` in front if some of the evidence isn't shown.
+-- The text up to the offending byte, quoted, with `..` in front if some of the message before isn't shown.
 abbrev pub character_text : ℕ → List ℕ → BadCharacter → List ℕ
 character_text n evidence character =
     (if leaves_out n evidence character then codes ".." else [])
@@ -84,7 +88,7 @@ item_lines n role time item = item_line n role time item
 abbrev pub shown_bytes : ℕ → BadCharacter → List ℕ
 shown_bytes n character = if n == 0 then [] else character.bytes
 
--- A member follows if some of the evidence isn't shown.
+-- A member follows if some of the message before the bad character isn't shown.
 abbrev pub truncated_text : ℕ → List ℕ → BadCharacter → List ℕ
 truncated_text n evidence character =
     if n == 0 || leaves_out n evidence character then codes ",\"truncated\":true" else []

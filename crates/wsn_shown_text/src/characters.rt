@@ -4,7 +4,7 @@ ghost use Rattle.wsn_io.specs.Stops.{IsWrittenOrStops};
 ghost use Rattle.wsn_print.specs.Json.{number_field, field};
 ghost use Rattle.wsn_print.specs.EscapedText.{quoted};
 ghost use Rattle.wsn_print.specs.ShownParts.{IsEndOf, time_of, character_of, character_in};
-ghost use Rattle.wsn_shown_text.specs.CharacterText.{from_character, whole_characters, text_before, byte_escape, character_text, character_view, character_line, shown_bytes, truncated_text, character_object, character_fields};
+ghost use Rattle.wsn_shown_text.specs.CharacterText.{from_character, whole_characters, end_part, known_text, text_before, byte_escape, character_text, character_view, character_line, shown_bytes, truncated_text, character_object, character_fields};
 
 use crate::entries::put_front;
 use crate::object_views::{put_hex_field, put_truncated};
@@ -12,7 +12,7 @@ use crate::views::{end_of, front_of, put_hex, put_left_out_before};
 use std::io::Write;
 use wsn_io::{Output, Stop, put_line};
 use wsn_print::{
-    Front, HeldBytes, Line, ShownCharacter, ViewLimit, push_number_field, put_quoted,
+    Front, HeldBytes, KeptBytes, Line, ShownCharacter, ViewLimit, push_number_field, put_quoted,
     put_quoted_characters,
 };
 
@@ -22,12 +22,15 @@ const PLACE_MAX: usize = 35;
 /// The most bytes of a byte that is escaped: `\x` and two digits.
 const BYTE_MAX: usize = 4;
 
+/// The most bytes that are shown up to the offending one, half of the longest view.
+const TEXT_MAX: usize = 2_048;
+
 /// The space for the first members of the object in bytes, with two numbers of twenty digits.
 const PLACES_MAX: usize = 80;
 
 /// Writes the line of a bad character, such as `C - 18 bad-character 12 e920 .."Ren\xe9\x20"`: its front, with the
 /// character's offset, its place in the payload of the message, its bytes up to the offending one, and the text up to
-/// that byte, with `..` before it if some of the evidence isn't shown. The front's own offset isn't printed. `Stop::Write`
+/// that byte, with `..` before it if some of the message before isn't shown. The front's own offset isn't printed. `Stop::Write`
 /// if the writer fails: a prefix of the line was written.
 #[tactic(none)]
 pub fn put_bad_character<W: Write>(
@@ -97,25 +100,42 @@ fn put_character_text<W: Write>(
         IsWrittenOrStops to.old to.new (character_text view all (character_of character.now)) result }
     ensures unfailed { IfOk result (λ done. to.new.failed ≡ false) }
 {
-    let before = text_before(view, evidence, character);
-    put_left_out_before(to, before.len() + character.bytes.len(), evidence.bytes)?;
+    let end = end_of_text(view, evidence, character);
+    let before = text_before(end.as_slice(), character);
+    put_left_out_before(to, before.len(), character.in_payload)?;
     put_line(to, b"\"")?;
     put_quoted_characters(to, before)?;
     put_byte_escapes(to, character.bytes)?;
     put_line(to, b"\"")
 }
 
-/// The whole characters before a bad one that are shown.
+/// The last bytes up to the offending one that are shown: the end of what is known of earlier frames, and then that of the
+/// evidence.
 #[tactic(none)]
-fn text_before<'a>(
+fn end_of_text(
     view: ViewLimit,
-    evidence: &HeldBytes<'a>,
+    evidence: &HeldBytes<'_>,
     character: &ShownCharacter<'_>,
-) -> &'a str
+) -> KeptBytes<TEXT_MAX>
     ensures { (all : List ℕ) → IsEndOf (view / 2) all evidence.now →
-        result.now ≡ text_before view all (character_of character.now) }
+        result ≡ end_part view (known_text all (character_of character.now)) }
 {
-    let end = end_of(evidence.held, view.bytes() / 2);
+    let most = view.bytes() / 2;
+    let last = end_of(evidence.held, most);
+    let earlier = end_of(character.earlier, most - last.len());
+    let mut text = KeptBytes::new();
+    text.add(earlier);
+    text.add(last);
+    text
+}
+
+/// The whole characters that are shown before a bad one, the last of these bytes.
+#[tactic(none)]
+fn text_before<'a>(end: &'a [u8], character: &ShownCharacter<'_>) -> &'a str
+    ensures { (n : ℕ) (evidence : List ℕ) →
+        end.now ≡ end_part n (known_text evidence (character_of character.now)) →
+        result.now ≡ text_before n evidence (character_of character.now) }
+{
     let before = front_of(end, end.len().saturating_sub(character.bytes.len()));
     whole_characters(from_character(before))
 }
@@ -229,7 +249,7 @@ fn shown_bytes<'a>(view: ViewLimit, character: &ShownCharacter<'a>) -> &'a [u8]
     }
 }
 
-/// Writes the text before a bad character, and whether some of the evidence isn't shown.
+/// Writes the text before a bad character, and whether some of the message before isn't shown.
 #[tactic(none)]
 fn put_before_field<W: Write>(
     to: &mut Output<W>,
@@ -244,15 +264,11 @@ fn put_before_field<W: Write>(
         ++ truncated_text view all (character_of character.now)) result }
     ensures unfailed { IfOk result (λ done. to.new.failed ≡ false) }
 {
-    let before = text_before(view, evidence, character);
+    let end = end_of_text(view, evidence, character);
+    let before = text_before(end.as_slice(), character);
     put_line(to, b",\"before\":")?;
     put_quoted(to, before.as_bytes())?;
-    put_truncated_text(
-        to,
-        view,
-        before.len() + character.bytes.len(),
-        evidence.bytes,
-    )
+    put_truncated_text(to, view, before.len(), character.in_payload)
 }
 
 /// Writes whether a view is 0, or fewer bytes are shown than there are.

@@ -9,7 +9,8 @@ OFFSET bad-character IN_PAYLOAD BYTES TEXT, from 'wsn show': the bad character
 of the text that the line before refuses. It begins at OFFSET, perhaps in an
 earlier fragment; its first byte is byte IN_PAYLOAD of the message's payload,
 from 0. BYTES are its one to four bytes, the offending byte last. TEXT ends with
-them, and begins with .. if some of the refused frame's payload is left out.
+them, and begins with .. if some of the message before them is left out; of
+frames before the refused one the last 48 bytes are shown at most.
   C - 18 bad-character 12 e920 \"{\\\"name\\\":\\\"Ren\\xe9\\x20\"
 RFC 6455, 5.6 and 8.1: a text message is UTF-8, however its frames divide it.
 Next: 'wsn payload --role R --at START' writes what came of the message that

@@ -7,6 +7,9 @@ use Rattle.wsn_shown_text.proofs.CharacterPieces.{before_is, before_is_utf8}
 use Rattle.wsn_print.proofs.Pieces.{first_stops, second_stops, three_pieces}
 use Rattle.wsn_shown_text.proofs.characters.put_before_field.Goals as goal
 
+pub as_slice-requires : goal.as_slice-requires
+as_slice-requires g c = search rules
+
 pub put_line-requires : goal.put_line-requires
 put_line-requires g c = search rules
 
@@ -19,9 +22,6 @@ put_quoted-requires g c = search rules
 pub returns-in_err-put_quoted-clause-unfailed : goal.returns-in_err-put_quoted-clause-unfailed
 returns-in_err-put_quoted-clause-unfailed g c = search rules
 
-pub overflow_add-before : goal.overflow_add-before
-overflow_add-before g c = search rules
-
 pub put_truncated_text-requires : goal.put_truncated_text-requires
 put_truncated_text-requires g c = search rules
 
@@ -32,37 +32,34 @@ pub returns-in_err-put_line-clause-text : goal.returns-in_err-put_line-clause-te
 returns-in_err-put_line-clause-text g c = λ all holds.
     let n = c.args.view in
     let character = character_of c.args.character.now in
-    let size = c.args.evidence.now.bytes in
     let before = c.text_before-before.result.now in
     let shown = before in
-    let is = c.text_before-before.ensures all holds in
-    let truncated : List ℕ = if n == 0 || nat_lt (length before + length character.bytes) size then codes ",\"truncated\":true" else [] in
+    let is = c.text_before-before.ensures n all (c.as_slice.ensures.value ∙ c.end_of_text-end.ensures all holds) in
+    let truncated : List ℕ = if n == 0 || nat_lt (length before) character.in_payload then codes ",\"truncated\":true" else [] in
     let text : List ℕ = field (codes "before") (quoted (text_before n all character)) ++ truncated_text n all character in
-    let whole = before_is n size all shown before character holds.0 is is in
+    let whole = before_is n all shown before character is is in
     first_stops c.args.to.now c.put_line.new.to (codes ",\"before\":") (quoted shown ++ truncated) text c.in_err-put_line.field-0.0 c.from_residual.result whole c.in_err-put_line.ensures c.from_residual.ensures.1
 
 pub returns-in_err-put_quoted-clause-text : goal.returns-in_err-put_quoted-clause-text
 returns-in_err-put_quoted-clause-text g c = λ all holds.
     let n = c.args.view in
     let character = character_of c.args.character.now in
-    let size = c.args.evidence.now.bytes in
     let before = c.text_before-before.result.now in
     let shown = c.as_bytes.result.now in
-    let is = c.text_before-before.ensures all holds in
-    let truncated : List ℕ = if n == 0 || nat_lt (length before + length character.bytes) size then codes ",\"truncated\":true" else [] in
+    let is = c.text_before-before.ensures n all (c.as_slice.ensures.value ∙ c.end_of_text-end.ensures all holds) in
+    let truncated : List ℕ = if n == 0 || nat_lt (length before) character.in_payload then codes ",\"truncated\":true" else [] in
     let text : List ℕ = field (codes "before") (quoted (text_before n all character)) ++ truncated_text n all character in
-    let whole = before_is n size all shown before character holds.0 (c.as_bytes.ensures.value ∙ is) is in
+    let whole = before_is n all shown before character (c.as_bytes.ensures.value ∙ is) is in
     second_stops c.args.to.now c.put_line.new.to c.put_quoted.new.to (codes ",\"before\":") (quoted shown) truncated text c.in_err-put_quoted.field-0.0 c.from_residual-in_err-put_quoted.result whole c.in_ok-put_line.ensures (c.in_err-put_quoted.ensures.text (before_is_utf8 n all shown character (c.as_bytes.ensures.value ∙ is))) c.from_residual-in_err-put_quoted.ensures.1
 
 pub returns-clause-text : goal.returns-clause-text
 returns-clause-text g c = λ all holds.
     let n = c.args.view in
     let character = character_of c.args.character.now in
-    let size = c.args.evidence.now.bytes in
     let before = c.text_before-before.result.now in
     let shown = c.as_bytes.result.now in
-    let is = c.text_before-before.ensures all holds in
-    let truncated : List ℕ = if n == 0 || nat_lt (length before + length character.bytes) size then codes ",\"truncated\":true" else [] in
+    let is = c.text_before-before.ensures n all (c.as_slice.ensures.value ∙ c.end_of_text-end.ensures all holds) in
+    let truncated : List ℕ = if n == 0 || nat_lt (length before) character.in_payload then codes ",\"truncated\":true" else [] in
     let text : List ℕ = field (codes "before") (quoted (text_before n all character)) ++ truncated_text n all character in
-    let whole = before_is n size all shown before character holds.0 (c.as_bytes.ensures.value ∙ is) is in
+    let whole = before_is n all shown before character (c.as_bytes.ensures.value ∙ is) is in
     three_pieces c.args.to.now c.put_line.new.to c.put_quoted.new.to c.put_truncated_text.new.to (codes ",\"before\":") (quoted shown) truncated text c.put_truncated_text.result whole c.in_ok-put_line.ensures (c.in_ok-put_quoted.ensures.text (before_is_utf8 n all shown character (c.as_bytes.ensures.value ∙ is))) c.put_truncated_text.ensures

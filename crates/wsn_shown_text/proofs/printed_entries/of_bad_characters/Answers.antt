@@ -65,3 +65,15 @@ returns-clause-after_its_refusal c = refl
 pub returns-clause-without_one : goal.returns-clause-without_one
 unfolding digits encode_with utf8_valid_len is_utf8 chars encode_utf8
 returns-clause-without_one c = refl
+
+pub returns-clause-after_earlier_frames : goal.returns-clause-after_earlier_frames
+unfolding digits encode_with utf8_valid_len is_utf8 chars encode_utf8
+returns-clause-after_earlier_frames c = refl
+
+pub returns-clause-after_earlier_frames_at_8 : goal.returns-clause-after_earlier_frames_at_8
+unfolding digits encode_with utf8_valid_len is_utf8 chars encode_utf8
+returns-clause-after_earlier_frames_at_8 c = refl
+
+pub returns-clause-after_the_end_of_a_long_frame : goal.returns-clause-after_the_end_of_a_long_frame
+unfolding digits encode_with utf8_valid_len is_utf8 chars encode_utf8
+returns-clause-after_the_end_of_a_long_frame c = refl

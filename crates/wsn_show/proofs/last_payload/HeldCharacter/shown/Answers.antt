@@ -6,3 +6,6 @@ as_slice-requires c = search rules
 
 pub returns : goal.returns
 returns c = search rules
+
+pub as_slice-requires-2 : goal.as_slice-requires-2
+as_slice-requires-2 c = search rules

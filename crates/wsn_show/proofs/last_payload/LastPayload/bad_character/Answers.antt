@@ -29,7 +29,7 @@ returns c came i has size bad last =
     let less = c.saturating_sub.ensures in
     let place : c.saturating_sub.result ≡ length came - len = omega (arith, less, size) in
     let left : c.drop_front.new.self ≡ drop (length held - len) (bytes_of held) = c.drop_front.ensures ∙ (λ j. drop (first j) (bytes_is j)) in
-    (λ j. record { offset = offset j; in_payload = place j; bytes = left j }) ∙ character_is came len whole held few has
+    (λ j. record { offset = offset j; in_payload = place j; bytes = left j; earlier = c.args.earlier }) ∙ character_is c.args.earlier came len whole held few has
 
 pub as_slice-requires : goal.as_slice-requires
 as_slice-requires c = search rules

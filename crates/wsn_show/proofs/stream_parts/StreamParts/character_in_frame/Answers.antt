@@ -2,7 +2,7 @@ use Rattle.std.proofs.Common.{rules, ◌≡◌, ℕ, ◌+◌, ◌<◌, ◌^◌, 
 use Rattle.std.specs.Prelude.{is_some}
 use Rattle.std.proofs.lemmas.List.{length-map}
 use Rattle.wsn_wire.specs.declared.refusal.Reason.TheVariants.{TextBad}
-use Rattle.wsn_rules.specs.BadCharacter.{payload_offset, message_payload}
+use Rattle.wsn_rules.specs.BadCharacter.{payload_offset, message_payload, earlier_end, bad_character}
 use Rattle.wsn_rules.specs.Group.{unfinished, payload_of}
 use Rattle.wsn_rules.specs.PlacedByte.{PlacedByte, placed}
 use Rattle.wsn_rules.proofs.OpenPayloads.{payload_so_far}
@@ -42,13 +42,14 @@ returns-clause-character c fs at rest wrong keeps = by at wrong keeps
         let parts = length-append (payload_of (unfinished fs)) (payload ++ bytes) in
         let own = length-append payload bytes in
         let front = length-append (payload_of (unfinished fs)) payload in
-        let counted : c.count-count.result ≡ length (payload_of (unfinished fs) ++ payload) =
-        c.count-count.ensures ∙ keeps.message.payload.count ∙ ap (λ (bs : List ℕ). length (payload_of (unfinished fs) ++ bs)) (part_of_data head payload wrong.data_frame) in
-        let sum = c.saturating_add.ensures in
+        let counted : c.count.result ≡ length (payload_of (unfinished fs) ++ payload) =
+        c.count.ensures ∙ keeps.message.payload.count ∙ ap (λ (bs : List ℕ). length (payload_of (unfinished fs) ++ bs)) (part_of_data head payload wrong.data_frame) in
+        let sum = c.saturating_add-count.ensures in
         let few = wrong.few_bytes in
         let ends = bad.1 in
+        let earlier : c.end.result ≡ earlier_end fs = c.end.ensures ∙ keeps.message.earlier in
         ap Some (c.bad_character.ensures all bad.0 (subst (HasLastPayload c.add.new.self) is_all added) (omega (arith, text_size, parts, own, front, counted, sum, few))
-        (subst (λ (bs : List ℕ). IsFirstBad bs bad.0) (sym text) bad.2) (omega (arith, ends, text_size)))
+        (subst (λ (bs : List ℕ). IsFirstBad bs bad.0) (sym text) bad.2) (omega (arith, ends, text_size)) ∙ ap (λ (bs : List ℕ). bad_character bs all) earlier)
 
 pub returns-then-is_none-clause-character : goal.returns-then-is_none-clause-character
 returns-then-is_none-clause-character c = search rules

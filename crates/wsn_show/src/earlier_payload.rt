@@ -1,0 +1,72 @@
+ghost use Rattle.std.specs.Prelude.{◌≡◌, ℕ, ◌+◌, ◌≤◌, List, [], ◌++◌, length};
+ghost use Rattle.wsn_rules.specs.BadCharacter.{last_of};
+ghost use Rattle.wsn_show.specs.HeldParts.{HasEarlier};
+
+use wsn_print::KeptBytes;
+
+/// The most bytes of earlier frames with which a bad character is shown.
+pub(crate) const EARLIER_MAX: usize = 48;
+
+/// The space for them. They are moved to its front only when the next ones don't fit.
+const ROOM: usize = 128;
+
+/// The last 48 payload bytes of the open message's complete frames, after older ones.
+#[derive(Drop)]
+pub struct EarlierPayload {
+    held: KeptBytes<ROOM>,
+}
+
+impl EarlierPayload {
+    /// No frame is complete.
+    #[tactic(none)]
+    pub fn new() -> EarlierPayload
+        ensures { HasEarlier result [] }
+    {
+        EarlierPayload {
+            held: KeptBytes::new(),
+        }
+    }
+
+    /// Forgets the bytes that came.
+    #[tactic(none)]
+    pub fn clear(&mut self)
+        ensures { HasEarlier self.new [] }
+    {
+        self.held.clear();
+    }
+
+    /// A frame ends, whose payload ends with these bytes.
+    #[tactic(none)]
+    pub fn add(&mut self, bytes: &[u8])
+        ensures { (came payload : List ℕ) → last_of 48 bytes.now ≡ last_of 48 payload → HasEarlier self.old came →
+            HasEarlier self.new (came ++ payload) }
+    {
+        let last = &bytes[bytes.len().saturating_sub(EARLIER_MAX)..];
+        self.make_room(last.len());
+        self.held.add(last);
+    }
+
+    /// Drops all but the last 48 bytes if this many more don't fit.
+    #[tactic(none)]
+    fn make_room(&mut self, number: usize)
+        requires { number ≤ EARLIER_MAX }
+        ensures last { last_of 48 self.new.held ≡ last_of 48 self.old.held }
+        ensures fits { length self.new.held + number ≤ ROOM }
+    {
+        if !self.held.has_room(number) {
+            let older = self.held.len() - EARLIER_MAX;
+            self.held.drop_front(older);
+        }
+    }
+
+    /// The last 48 bytes.
+    #[tactic(none)]
+    pub fn end(&self) -> KeptBytes<EARLIER_MAX>
+        ensures { result ≡ last_of 48 self.now.held }
+    {
+        let held = self.held.as_slice();
+        let mut end = KeptBytes::new();
+        end.add(&held[held.len().saturating_sub(EARLIER_MAX)..]);
+        end
+    }
+}
