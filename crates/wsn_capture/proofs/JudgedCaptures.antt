@@ -6,12 +6,13 @@ use Rattle.wsn_io.specs.Transfer.{Incoming, IsConsumed, IsKept}
 use Rattle.wsn_io.proofs.Received.{consumed_none, consumed_on, consumed_end, consumed_kept, received_of}
 use Rattle.wsn_rules.specs.Limits.{Limits}
 use Rattle.wsn_rules.specs.declared.report.Report.{Report}
+use Rattle.wsn_capture.specs.declared.capture_report.CaptureReport.{CaptureReport}
 use Rattle.wsn_capture.specs.declared.capture_stop.CaptureStop.{CaptureStop}
 use Rattle.wsn_capture.specs.declared.capture_stop.CaptureStop.TheVariants.{Read, Line}
 use Rattle.wsn_capture.specs.declared.line_splitter.LineSplitter.{LineSplitter}
 use Rattle.wsn_capture.specs.CaptureLines.{count_of}
 use Rattle.wsn_capture.proofs.AcceptedLines.{accepted_count}
-use Rattle.wsn_capture.specs.CaptureAnswers.{IsFaulty, IsCaptureAnswerOf, IsCaptureAnswer, IsCaptureJudged}
+use Rattle.wsn_capture.specs.CaptureAnswers.{IsFaulty, IsCaptureAnswerOf, IsCaptureAnswer, IsCaptureJudged, without_tails}
 use Rattle.wsn_capture.specs.LineSplitters.{HasSplit, IsStopWithin}
 use Rattle.wsn_capture.proofs.SplitLines.{unfaulted}
 
@@ -36,13 +37,13 @@ module _ (limits : Limits) (old mid new : Incoming) (splitter : LineSplitter) (r
     answer = (failed, unfaulted limits read.split.lines splitter.begun read.came read.split.passed);
   }
 
-  at_end : (result : Result Report CaptureStop) → IsAtEnd new.remaining → new.failed ≡ false → IsCaptureAnswerOf limits read.came result → IsCaptureAnswer limits new read.came result
+  at_end : (result : Result CaptureReport CaptureStop) → IsAtEnd new.remaining → new.failed ≡ false → IsCaptureAnswerOf limits read.came result → IsCaptureAnswer limits new read.came result
   at_end (Ok report) ends unfailed is = (is, ends, unfailed)
   at_end (Err (Line number fault)) ends unfailed is = (inr (is, unfaulted limits read.split.lines splitter.begun read.came read.split.passed, ends), unfailed)
   at_end (Err Read) ends unfailed is = absurd is
 
   -- the input ended
-  pub ended : (result : Result Report CaptureStop) → IsConsumed mid new [] → IsAtEnd new.remaining → new.failed ≡ false → IsCaptureAnswerOf limits read.came result → IsCaptureJudged limits old new result
+  pub ended : (result : Result CaptureReport CaptureStop) → IsConsumed mid new [] → IsAtEnd new.remaining → new.failed ≡ false → IsCaptureAnswerOf limits read.came result → IsCaptureJudged limits old new result
   ended result nothing ends unfailed is = record {
     came = read.came;
     received = received_of (1000001 * 8196 + 4095) old new read.came (consumed_end old mid new read.came read.consumed nothing) (omega (arith, bounded));
@@ -85,7 +86,7 @@ module _ (limits : Limits) (old mid new : Incoming) (splitter : LineSplitter) (r
 
 -- ---- what follows from an answer
 
-pub failed_by : (limits : Limits) (old new : Incoming) (result : Result Report CaptureStop) → IsCaptureJudged limits old new result → (result ≡ Err Read) ↔ (new.failed ≡ true)
+pub failed_by : (limits : Limits) (old new : Incoming) (result : Result CaptureReport CaptureStop) → IsCaptureJudged limits old new result → (result ≡ Err Read) ↔ (new.failed ≡ true)
 failed_by limits old new (Ok report) judged = ((λ is. cc is), (λ failed. let both : true ≡ false = sym failed ∙ judged.answer.2 in cc))
 failed_by limits old new (Err (Line number fault)) judged = ((λ is. cc is), (λ failed. let both : true ≡ false = sym failed ∙ judged.answer.1 in cc))
 failed_by limits old new (Err Read) judged = ((λ is. judged.answer.0), (λ failed. refl))
@@ -94,7 +95,7 @@ left_all : (came all : List ℕ) (left : Option (List ℕ)) → Consumes (Some a
 left_all came all None gone = absurd gone
 left_all came all (Some rest) is = (rest, refl, is)
 
-pub whole_answer : (limits : Limits) (old new : Incoming) (result : Result Report CaptureStop) (all : List ℕ) → old.remaining ≡ Some all → new.failed ≡ false → IsCaptureJudged limits old new result → IsCaptureAnswerOf limits all result
+pub whole_answer : (limits : Limits) (old new : Incoming) (result : Result CaptureReport CaptureStop) (all : List ℕ) → old.remaining ≡ Some all → new.failed ≡ false → IsCaptureJudged limits old new result → IsCaptureAnswerOf limits all result
 whole_answer limits old new result all known unfailed judged =
     let left = left_all judged.came all new.remaining (subst (λ (o : Option (List ℕ)). Consumes o new.remaining judged.came) known judged.received.consumed) in
     by_answer result left.0 left.1 left.2 judged.answer
@@ -102,7 +103,7 @@ whole_answer limits old new result all known unfailed judged =
     ended_there : (rest : List ℕ) → new.remaining ≡ Some rest → all ≡ judged.came ++ rest → IsAtEnd new.remaining → judged.came ≡ all
     ended_there rest left is ends = let none : rest ≡ [] = subst IsAtEnd left ends in sym (is ∙ ap (λ (bs : List ℕ). judged.came ++ bs) none ∙ append-nil judged.came)
 
-    by_answer : (result : Result Report CaptureStop) (rest : List ℕ) → new.remaining ≡ Some rest → all ≡ judged.came ++ rest → IsCaptureAnswer limits new judged.came result → IsCaptureAnswerOf limits all result
+    by_answer : (result : Result CaptureReport CaptureStop) (rest : List ℕ) → new.remaining ≡ Some rest → all ≡ judged.came ++ rest → IsCaptureAnswer limits new judged.came result → IsCaptureAnswerOf limits all result
     by_answer (Ok report) rest left is answer = subst (λ (bs : List ℕ). IsCaptureAnswerOf limits bs (Ok report)) (ended_there rest left is answer.1) answer.0
     by_answer (Err (Line number fault)) rest left is answer =
         elim answer.0 [
@@ -113,3 +114,9 @@ whole_answer limits old new result all known unfailed judged =
           | inr there ↦ subst (λ (bs : List ℕ). IsFaulty limits bs number fault) (ended_there rest left is there.2) there.0
         ]
     by_answer (Err Read) rest left is answer = let both : true ≡ false = sym answer.0 ∙ unfailed in cc
+
+-- ---- the report alone
+
+pub failed_alone : (limits : Limits) (old new : Incoming) (result : Result Report CaptureStop) (read : Result CaptureReport CaptureStop) → result ≡ without_tails read → (read ≡ Err Read) ↔ (new.failed ≡ true) → (result ≡ Err Read) ↔ (new.failed ≡ true)
+failed_alone limits old new result (Ok read) is failed = ((λ stopped. let both : Err Read ≡ Ok read.report = sym stopped ∙ is in absurd (cc both)), (λ was. let both : Ok read ≡ Err Read = failed.1 was in absurd (cc both)))
+failed_alone limits old new result (Err stop) is failed = ((λ stopped. failed.0 (let both : Err stop ≡ Err Read = sym is ∙ stopped in cc)), (λ was. let both : Err stop ≡ Err Read = failed.1 was in cc))

@@ -11,6 +11,7 @@ pub mod SplitLines
 pub mod PiecePrefixes
 pub mod JudgedCaptures
 pub mod EveryReport
+pub mod TailCounts
 pub mod OneAnswer
 pub mod SideEntries
 pub mod SideLaws

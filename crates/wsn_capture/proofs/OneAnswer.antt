@@ -8,14 +8,18 @@ use Rattle.wsn_capture.specs.declared.line_fault.LineFault.{LineFault}
 use Rattle.wsn_capture.specs.declared.capture_stop.CaptureStop.{CaptureStop}
 use Rattle.wsn_capture.specs.declared.capture_stop.CaptureStop.TheVariants.{Read, Line}
 use Rattle.wsn_rules.specs.declared.report.Report.{Report}
+use Rattle.wsn_capture.specs.declared.tails.Tails.{Tails}
+use Rattle.wsn_capture.specs.declared.capture_report.CaptureReport.{CaptureReport}
 use Rattle.wsn_rules.specs.Entries.{Entry}
 use Rattle.wsn_capture.specs.LineFaults.{IsFirstLineFault, IsAcceptedLine, AreAcceptedAfter, AreAcceptedLines, IsFaultAfter}
 use Rattle.wsn_rules.specs.Reports.{IsReport}
+use Rattle.wsn_capture.specs.Tails.{AreTails}
 use Rattle.wsn_capture.specs.CaptureAnswers.{IsReported, IsFaulty, IsCaptureAnswerOf}
 use Rattle.wsn_rules.proofs.OneEntry.{same_entries}
 use Rattle.wsn_capture.proofs.OneFault.{taken_or_faulty, one_first_fault}
 use Rattle.wsn_rules.proofs.OneReport.{one_report}
 use Rattle.wsn_capture.proofs.EveryReport.{has_report}
+use Rattle.wsn_capture.proofs.TailCounts.{has_tails, one_tails}
 use Rattle.wsn_capture.proofs.AcceptedTexts.{taken_given}
 
 -- ---- some answer
@@ -63,13 +67,17 @@ all_or_faulty limits given (line ∷ lines) =
       })
     ]
 
-pub has_answer : (limits : Limits) (text : List ℕ) → InRange limits → (answer : Result Report CaptureStop) × IsCaptureAnswerOf limits text answer
+pub has_answer : (limits : Limits) (text : List ℕ) → InRange limits → (answer : Result CaptureReport CaptureStop) × IsCaptureAnswerOf limits text answer
 has_answer limits text range =
     let found = has_lines text in
     elim (all_or_faulty limits [] found.0) [
       | inl all ↦
-          let report = has_report limits found.0 all.0 range (taken_given limits [] found.0 all.0 all.1) in
-          (Ok report.0, record { lines = found.0; are = found.1; given = all.0; taken = all.1; is = report.1 })
+          let are = taken_given limits [] found.0 all.0 all.1 in
+          let report = has_report limits found.0 all.0 range are in
+          let tails = has_tails limits found.0 all.0 range are in (
+            Ok (record { report = report.0; tails = tails.0 }),
+            record { lines = found.0; are = found.1; given = all.0; taken = all.1; is = report.1; tails = tails.1 },
+          )
       | inr faulty ↦ (
         Err (Line (length faulty.before + 1) faulty.fault),
         record {
@@ -127,18 +135,21 @@ one_faulty limits before others line other after following fault another same is
         let lines : line ≡ next = head_same _ _ _ _ rest in
         absurd (none_faulty limits before line more also.given fault (subst (λ (l : List ℕ). AreAcceptedLines limits (before ++ l ∷ more) also.given) (sym lines) (subst (λ (ls : List (List ℕ)). AreAcceptedLines limits ls also.given) longer also.taken)) is)
 
-reported_or_faulty : (limits : Limits) (text : List ℕ) (report : Report) (number : ℕ) (fault : LineFault) → IsReported limits text report → IsFaulty limits text number fault → ⊥
-reported_or_faulty limits text report number fault is also =
+reported_or_faulty : (limits : Limits) (text : List ℕ) (read : CaptureReport) (number : ℕ) (fault : LineFault) → IsReported limits text read → IsFaulty limits text number fault → ⊥
+reported_or_faulty limits text read number fault is also =
     let same = same_lines text is.lines (also.before ++ also.line ∷ also.after) is.are also.are in
     none_faulty limits also.before also.line also.after is.given fault (subst (λ (ls : List (List ℕ)). AreAcceptedLines limits ls is.given) same is.taken) also.is
 
-pub one_answer : (limits : Limits) (text : List ℕ) (answer other : Result Report CaptureStop) → IsCaptureAnswerOf limits text answer → IsCaptureAnswerOf limits text other → answer ≡ other
-one_answer limits text (Ok report) (Ok other) is also =
+pub one_answer : (limits : Limits) (text : List ℕ) (answer other : Result CaptureReport CaptureStop) → IsCaptureAnswerOf limits text answer → IsCaptureAnswerOf limits text other → answer ≡ other
+one_answer limits text (Ok read) (Ok other) is also =
     let same = same_lines text also.lines is.lines also.are is.are in
-    ap Ok (one_report limits is.lines report other is.is (subst (λ (ls : List (List ℕ)). IsReport limits ls other) same also.is))
-one_answer limits text (Ok report) (Err (Line number fault)) is also = absurd (reported_or_faulty limits text report number fault is also)
-one_answer limits text (Ok report) (Err Read) is also = absurd also
-one_answer limits text (Err (Line number fault)) (Ok report) is also = absurd (reported_or_faulty limits text report number fault also is)
+    let given : also.given ≡ is.given = same_taken limits is.lines also.given is.given (subst (λ (ls : List (List ℕ)). AreAcceptedLines limits ls also.given) same also.taken) is.taken in
+    let report : read.report ≡ other.report = one_report limits is.lines read.report other.report is.is (subst (λ (ls : List (List ℕ)). IsReport limits ls other.report) same also.is) in
+    let tails : read.tails ≡ other.tails = one_tails limits is.given read.tails other.tails is.tails (subst (λ (es : List Entry). AreTails limits es other.tails) given also.tails) in
+    ap (λ (r : Report). Ok (record { report = r; tails = read.tails })) report ∙ ap (λ (t : Tails). Ok (record { report = other.report; tails = t })) tails
+one_answer limits text (Ok read) (Err (Line number fault)) is also = absurd (reported_or_faulty limits text read number fault is also)
+one_answer limits text (Ok read) (Err Read) is also = absurd also
+one_answer limits text (Err (Line number fault)) (Ok read) is also = absurd (reported_or_faulty limits text read number fault also is)
 one_answer limits text (Err (Line number fault)) (Err (Line another other)) is also =
     let same = same_lines text (is.before ++ is.line ∷ is.after) (also.before ++ also.line ∷ also.after) is.are also.are in
     let one = one_faulty limits is.before also.before is.line also.line is.after also.after fault other same is.is also.is in

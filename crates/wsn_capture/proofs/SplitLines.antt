@@ -6,12 +6,13 @@ use Rattle.wsn_capture.specs.declared.line_fault.LineFault.{LineFault}
 use Rattle.wsn_capture.specs.declared.line_fault.LineFault.TheVariants.{TooManyLines, TooLong, BadForm, BadHex, AfterEnd, InputLimit}
 use Rattle.wsn_capture.specs.declared.capture_stop.CaptureStop.{CaptureStop}
 use Rattle.wsn_capture.specs.declared.capture_stop.CaptureStop.TheVariants.{Read, Line}
-use Rattle.wsn_rules.specs.declared.report.Report.{Report}
+use Rattle.wsn_capture.specs.declared.capture_report.CaptureReport.{CaptureReport}
 use Rattle.wsn_rules.specs.TextLines.{IsLine, ended, AreLines}
 use Rattle.wsn_rules.specs.Entries.{without_cr, Entry}
 use Rattle.wsn_capture.specs.LineFaults.{fault_order, HasFault, IsFirstLineFault, IsAcceptedLine, AreAcceptedAfter, AreAcceptedLines, IsFaultAfter}
 use Rattle.wsn_rules.specs.Reports.{IsReport}
 use Rattle.wsn_capture.specs.CaptureAnswers.{IsReported, IsFaulty, IsUnfaulted, IsCaptureAnswerOf}
+use Rattle.wsn_capture.specs.Tails.{AreTails}
 use Rattle.wsn_capture.specs.LineSplitters.{HasPassedOn, IsStopAt, IsStopBy, IsStopWithin}
 use Rattle.wsn_rules.proofs.TextLines.{has_lines, ended-push, each_join, lines_in_front, lines_at_end, first_line}
 
@@ -153,20 +154,21 @@ module _ (limits : Limits) (lines : List (List ℕ)) (begun came : List ℕ) (sp
 
   -- ---- the end of the text
 
-  pub reported_whole : (report : Report) → begun ≡ [] → IsReport limits lines report → IsReported limits came report
-  reported_whole report none is = record {
+  pub reported_whole : (given : List Entry) (read : CaptureReport) → begun ≡ [] → AreAcceptedLines limits lines given → IsReport limits lines read.report → AreTails limits given read.tails → IsReported limits came read
+  reported_whole given read none taken is tails = record {
     lines = lines;
     are = record { each = split.each; joined = inl (split.whole ∙ ap (λ (bs : List ℕ). ended lines ++ bs) none ∙ append-nil (ended lines)) };
-    given = split.given;
-    taken = split.taken;
+    given = given;
+    taken = taken;
     is = is;
+    tails = tails;
   }
 
   at_end : begun ≢ [] → AreLines came (lines ++ begun ∷ [])
   at_end some = subst (λ (bs : List ℕ). AreLines bs (lines ++ begun ∷ [])) (sym split.whole) (lines_at_end lines begun split.each split.in_line some)
 
-  pub reported_last : (given : List Entry) (report : Report) → begun ≢ [] → AreAcceptedLines limits (lines ++ begun ∷ []) given → IsReport limits (lines ++ begun ∷ []) report → IsReported limits came report
-  reported_last given report some taken is = record { lines = lines ++ begun ∷ []; are = at_end some; given = given; taken = taken; is = is }
+  pub reported_last : (given : List Entry) (read : CaptureReport) → begun ≢ [] → AreAcceptedLines limits (lines ++ begun ∷ []) given → IsReport limits (lines ++ begun ∷ []) read.report → AreTails limits given read.tails → IsReported limits came read
+  reported_last given read some taken is tails = record { lines = lines ++ begun ∷ []; are = at_end some; given = given; taken = taken; is = is; tails = tails }
 
   pub faulty_last : (number : ℕ) (fault : LineFault) → begun ≢ [] → IsStopAt limits lines begun (Line number fault) → IsFaulty limits came number fault
   faulty_last number fault some is = record { before = lines; line = begun; after = []; are = at_end some; at = is.0; is = is.1 }

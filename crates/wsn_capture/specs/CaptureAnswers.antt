@@ -1,4 +1,5 @@
--- The answer to a capture's text: the report of its lines, or its first line that isn't accepted.
+-- The answer to a capture's text: the report of its lines, with the bytes after both Closes; or its first line that isn't
+-- accepted.
 use Rattle.std.specs.Prelude.{◌≡◌, ℕ, suc, ◌+◌, ◌*◌, ◌<◌, ◌≤◌, ◌⊎◌, false, true, Result, Ok, Err, List, ◌∷◌, ◌++◌, length}
 use Rattle.std.specs.List.{AllByRecursion}
 use Rattle.std.specs.Io.KnownBytes.{IsAtEnd}
@@ -6,22 +7,25 @@ use Rattle.wsn_io.specs.Transfer.{Incoming, IsReceived}
 use Rattle.wsn_rules.specs.Limits.{Limits}
 use Rattle.wsn_capture.specs.declared.line_fault.LineFault.{LineFault}
 use Rattle.wsn_rules.specs.declared.report.Report.{Report}
+use Rattle.wsn_capture.specs.declared.capture_report.CaptureReport.{CaptureReport}
 use Rattle.wsn_capture.specs.declared.capture_stop.CaptureStop.{CaptureStop}
 use Rattle.wsn_capture.specs.declared.capture_stop.CaptureStop.TheVariants.{Read, Line}
 use Rattle.wsn_rules.specs.TextLines.{IsLine, ended, AreLines}
 use Rattle.wsn_rules.specs.Entries.{Entry}
 use Rattle.wsn_capture.specs.LineFaults.{AreAcceptedLines, IsFaultAfter}
 use Rattle.wsn_rules.specs.Reports.{IsReport}
+use Rattle.wsn_capture.specs.Tails.{AreTails}
 
 -- ---- the answer to a text
 
--- All lines of the text are accepted, and this is their report.
-pub record IsReported (limits : Limits) (text : List ℕ) (report : Report) : Type 0 where
+-- All lines of the text are accepted, and these are their report and the numbers of bytes after both Closes.
+pub record IsReported (limits : Limits) (text : List ℕ) (read : CaptureReport) : Type 0 where
   pub lines : List (List ℕ)
   pub are : AreLines text lines
   pub given : List Entry
   pub taken : AreAcceptedLines limits lines given
-  pub is : IsReport limits lines report
+  pub is : IsReport limits lines read.report
+  pub tails : AreTails limits given read.tails
 
 -- The line with this number, counted from 1, is the first that isn't accepted, and this is its first fault.
 pub record IsFaulty (limits : Limits) (text : List ℕ) (number : ℕ) (fault : LineFault) : Type 0 where
@@ -33,10 +37,15 @@ pub record IsFaulty (limits : Limits) (text : List ℕ) (number : ℕ) (fault : 
   pub is : IsFaultAfter limits before line fault
 
 -- The correct answer to a text, if no read fails.
-abbrev pub IsCaptureAnswerOf : Limits → List ℕ → Result Report CaptureStop → Type 0
-IsCaptureAnswerOf limits text (Ok report) = IsReported limits text report
+abbrev pub IsCaptureAnswerOf : Limits → List ℕ → Result CaptureReport CaptureStop → Type 0
+IsCaptureAnswerOf limits text (Ok read) = IsReported limits text read
 IsCaptureAnswerOf limits text (Err (Line number fault)) = IsFaulty limits text number fault
 IsCaptureAnswerOf limits text (Err Read) = ⊥
+
+-- the same answer, but of a report alone
+abbrev pub without_tails : Result CaptureReport CaptureStop → Result Report CaptureStop
+without_tails (Ok read) = Ok read.report
+without_tails (Err stop) = Err stop
 
 -- ---- the answer to an input
 
@@ -74,15 +83,15 @@ IsFaultReported limits new came number fault =
     ⊎ (IsFaulty limits came number fault × IsUnfaulted limits came × IsAtEnd new.remaining)
 
 -- The answer fits the bytes that came. A report comes only at the end of an input, and only if no read failed.
-abbrev pub IsCaptureAnswer : Limits → Incoming → List ℕ → Result Report CaptureStop → Type 0
-IsCaptureAnswer limits new came (Ok report) =
-    IsReported limits came report × IsAtEnd new.remaining × (new.failed ≡ false)
+abbrev pub IsCaptureAnswer : Limits → Incoming → List ℕ → Result CaptureReport CaptureStop → Type 0
+IsCaptureAnswer limits new came (Ok read) =
+    IsReported limits came read × IsAtEnd new.remaining × (new.failed ≡ false)
 IsCaptureAnswer limits new came (Err (Line number fault)) =
     IsFaultReported limits new came number fault × (new.failed ≡ false)
 IsCaptureAnswer limits new came (Err Read) = (new.failed ≡ true) × IsUnfaulted limits came
 
 -- These bytes came from the input, and the answer is the answer to them.
-pub record IsCaptureJudged (limits : Limits) (old new : Incoming) (result : Result Report CaptureStop) : Type 0 where
+pub record IsCaptureJudged (limits : Limits) (old new : Incoming) (result : Result CaptureReport CaptureStop) : Type 0 where
   pub came : List ℕ
   pub received : IsReceived (1000001 * begun_most + 4095) old new came
   pub answer : IsCaptureAnswer limits new came result

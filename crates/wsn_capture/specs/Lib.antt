@@ -1,5 +1,6 @@
 -- The files in reading order.
 pub mod LineFaults
+pub mod Tails
 pub mod CaptureAnswers
 pub mod SplitLines
 pub mod SideTexts

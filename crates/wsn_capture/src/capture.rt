@@ -9,6 +9,7 @@ ghost use Rattle.wsn_capture.specs.Captures.{HasStreamed};
 use crate::capture_lines::CaptureLines;
 use crate::line_fault::LineFault;
 use crate::line_form::{BYTES_MAX, LineEntry};
+use crate::tails::Tails;
 use std::fmt::{self, Debug, Formatter};
 use std::marker::Model;
 use wsn_rules::{Limits, Report, Verdict};
@@ -45,6 +46,7 @@ impl Capture {
     ghost use Rattle.wsn_capture.specs.LineFaults.{IsFaultAfter};
     ghost use Rattle.wsn_capture.specs.CaptureLines.{count_of};
     ghost use Rattle.wsn_capture.specs.Captures.{HasAcceptedLines};
+    ghost use Rattle.wsn_capture.specs.Tails.{AreTails};
 
     /// A capture that has accepted no line. The limits apply to each endpoint's stream separately.
     pub fn new(limits: Limits) -> Capture
@@ -114,6 +116,15 @@ impl Capture {
         let client = self.client.finish();
         let server = self.server.finish();
         self.lines.report(&client, &server)
+    }
+
+    /// The number of bytes that each endpoint sent after its Close, in the lines accepted so far.
+    #[tactic(none)]
+    pub fn tails(&self) -> Tails
+        ensures { (limits : Limits) (lines : List (List ℕ)) (has : HasAcceptedLines limits self.now lines) →
+            AreTails limits has.entries result }
+    {
+        Tails::of(&self.client.finish(), &self.server.finish())
     }
 }
 

@@ -1,6 +1,9 @@
-ghost use Rattle.std.specs.Prelude.{◌≡◌, ℕ, List, Some, Err, ◌↔◌, false, true};
-ghost use Rattle.wsn_capture.specs.CaptureAnswers.{IsCaptureAnswerOf, IsCaptureJudged};
+ghost use Rattle.std.specs.Prelude.{◌≡◌, ℕ, List, Result, Some, Err, ◌↔◌, false, true};
+ghost use Rattle.wsn_capture.specs.declared.capture_report.CaptureReport.{CaptureReport};
+ghost use Rattle.wsn_capture.specs.declared.capture_stop.CaptureStop.{CaptureStop};
+ghost use Rattle.wsn_capture.specs.CaptureAnswers.{IsCaptureAnswerOf, IsCaptureJudged, without_tails};
 
+use crate::capture_report::CaptureReport;
 use crate::capture_stop::CaptureStop;
 use crate::line_splitter::LineSplitter;
 use std::io::Read;
@@ -8,14 +11,34 @@ use wsn_rules::{Limits, Report};
 use wsn_scan::CHUNK;
 use wsn_wire::Input;
 
-/// Reads a capture's text to its end and returns the report of its lines. It reads chunks of at most [`CHUNK`] bytes.
-/// The limits apply to each endpoint's stream separately.
+/// Reads a capture's text to its end and returns the report of its lines, as [`read_capture`] does, without the number of
+/// bytes after each Close.
+#[tactic(none)]
+pub fn judge_capture<R: Read>(input: &mut Input<R>, limits: Limits) -> Result<Report, CaptureStop>
+    requires { input.old.failed ≡ false }
+    ensures judged { (read : Result CaptureReport CaptureStop) × (result ≡ without_tails read)
+        × IsCaptureJudged limits input.old input.new read }
+    ensures whole { (all : List ℕ) → input.old.remaining ≡ Some all → input.new.failed ≡ false →
+        (read : Result CaptureReport CaptureStop) × (result ≡ without_tails read) × IsCaptureAnswerOf limits all read }
+    ensures failed { (result ≡ Err CaptureStop.Read) ↔ (input.new.failed ≡ true) }
+{
+    match read_capture(input, limits) {
+        Ok(CaptureReport { report, tails: _ }) => Ok(report),
+        Err(stop) => Err(stop),
+    }
+}
+
+/// Reads a capture's text to its end and returns the report of its lines, and how many bytes each endpoint sent after its
+/// Close. It reads chunks of at most [`CHUNK`] bytes. The limits apply to each endpoint's stream separately.
 ///
 /// The error `Line` is the first line that isn't accepted. It is returned once the line has ended or is too long
 /// whatever follows, with at most 4,095 bytes read after that byte. `Read` is a read that failed; every line that was
 /// complete by then is accepted.
 #[tactic(none)]
-pub fn judge_capture<R: Read>(input: &mut Input<R>, limits: Limits) -> Result<Report, CaptureStop>
+pub fn read_capture<R: Read>(
+    input: &mut Input<R>,
+    limits: Limits,
+) -> Result<CaptureReport, CaptureStop>
     requires { input.old.failed ≡ false }
     ensures judged { IsCaptureJudged limits input.old input.new result }
     ensures whole { (all : List ℕ) → input.old.remaining ≡ Some all → input.new.failed ≡ false →

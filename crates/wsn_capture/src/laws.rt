@@ -8,7 +8,7 @@ ghost use Rattle.wsn_rules.specs.TextLines.{IsLine, ended, AreLines, lines_of};
 ghost use Rattle.wsn_capture.specs.CaptureAnswers.{IsFaulty};
 ghost use Rattle.wsn_capture.specs.LineFaults.{AreAcceptedLines, IsFaultAfter};
 ghost use Rattle.wsn_capture.specs.SideTexts.{lines_giving, entry_after, sentinel, sent_in_lines, side_most, sent_in};
-ghost use Rattle.wsn_capture.specs.Words.{Role, Limits, InRange, Entry, IsEntry, AreEntries, IsFirstLineFault, IsAcceptedLine, IsReport, SendAlike, LineFault, Report, CaptureStop, IsCaptureAnswerOf, sent};
+ghost use Rattle.wsn_capture.specs.Words.{Role, Limits, InRange, Entry, IsEntry, AreEntries, IsFirstLineFault, IsAcceptedLine, IsReport, SendAlike, LineFault, Report, CaptureReport, CaptureStop, IsCaptureAnswerOf, sent};
 
 /// A line has at most one entry, and lines have at most one list of entries.
 pub fn law_one_entry()
@@ -50,12 +50,12 @@ pub fn law_every_capture_is_shown()
         × IsShownCapture detail limits lines shown client server report }
 {}
 
-/// A text has exactly one correct answer: the report of its lines, or its first line that isn't accepted with that
+/// A text has exactly one correct answer: the report of its lines and the bytes after both Closes, or its first line that isn't accepted with that
 /// line's first fault.
 pub fn law_one_capture_answer()
     ensures some { (limits : Limits) (text : List ℕ) → InRange limits →
-        (answer : Result Report CaptureStop) × IsCaptureAnswerOf limits text answer }
-    ensures one { (limits : Limits) (text : List ℕ) (answer other : Result Report CaptureStop) →
+        (answer : Result CaptureReport CaptureStop) × IsCaptureAnswerOf limits text answer }
+    ensures one { (limits : Limits) (text : List ℕ) (answer other : Result CaptureReport CaptureStop) →
         IsCaptureAnswerOf limits text answer → IsCaptureAnswerOf limits text other → answer ≡ other }
 {}
 

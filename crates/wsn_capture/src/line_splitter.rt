@@ -1,7 +1,8 @@
 use crate::capture::Capture;
+use crate::capture_report::CaptureReport;
 use crate::capture_stop::CaptureStop;
 use crate::lines::{BEGUN_MAX, Lines};
-use wsn_rules::{Limits, Report};
+use wsn_rules::Limits;
 
 /// Splits the chunks of a text into lines and passes each to a capture. It holds the line that isn't finished.
 #[derive(Drop)]
@@ -12,7 +13,7 @@ pub struct LineSplitter {
 
 impl LineSplitter {
     ghost use Rattle.std.specs.Prelude.{◌≡◌, ◌+◌, ◌<◌, ◌≤◌, ◌≢◌, ℕ, List, [], ◌∷◌, ◌++◌, length, take, OnOk, IfOk, IfErr};
-    ghost use Rattle.wsn_capture.specs.Words.{Limits, IsLine, HasAcceptedLines, count_of, IsCaptureAnswerOf, HasSplit, IsStopAt, IsStopBy, IsStopWithin, bytes_left};
+    ghost use Rattle.wsn_capture.specs.Words.{Limits, IsLine, HasAcceptedLines, count_of, IsCaptureAnswerOf, IsReport, AreTails, HasSplit, IsStopAt, IsStopBy, IsStopWithin, bytes_left};
 
     /// A splitter of a text of no bytes.
     pub fn new(limits: Limits) -> LineSplitter
@@ -89,14 +90,27 @@ impl LineSplitter {
 
     /// The answer at the end of the text. The unfinished line is the last line, unless it is empty.
     #[tactic(none)]
-    pub fn finish(mut self) -> Result<Report, CaptureStop>
+    pub fn finish(mut self) -> Result<CaptureReport, CaptureStop>
         requires few { count_of self.capture.lines ≤ 1000000 }
         ensures { (limits : Limits) (came : List ℕ) → HasSplit limits self came → IsCaptureAnswerOf limits came result }
     {
         if self.begun.line().is_empty() {
-            return Ok(self.capture.report());
+            return Ok(self.report());
         }
         self.end_line()?;
-        Ok(self.capture.report())
+        Ok(self.report())
+    }
+
+    /// What is known of the lines that have ended.
+    fn report(&self) -> CaptureReport
+        ensures report { (limits : Limits) (lines : List (List ℕ)) → HasAcceptedLines limits self.now.capture lines →
+            IsReport limits lines result.report }
+        ensures tails { (limits : Limits) (lines : List (List ℕ)) (has : HasAcceptedLines limits self.now.capture lines) →
+            AreTails limits has.entries result.tails }
+    {
+        CaptureReport {
+            report: self.capture.report(),
+            tails: self.capture.tails(),
+        }
     }
 }

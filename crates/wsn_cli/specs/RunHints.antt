@@ -1,5 +1,5 @@
 -- Which hint a run over a capture has, by its answer.
-use Rattle.std.specs.Prelude.{◌≡◌, ◌≢◌, ◌⊎◌, ℕ, Option, None, Some, IfSome, List, ◌∷◌, [], take}
+use Rattle.std.specs.Prelude.{◌≡◌, ◌≢◌, ◌⊎◌, ℕ, Option, None, Some, List, ◌∷◌, [], take}
 use Rattle.wsn_wire.specs.declared.endpoint.Role.{Role}
 use Rattle.wsn_wire.specs.declared.endpoint.Role.TheVariants.{Client, Server}
 use Rattle.wsn_rules.specs.declared.verdict.Refusal.{Refusal}
@@ -13,10 +13,9 @@ use Rattle.wsn_command.specs.declared.answered.Answer.TheVariants.{Verdict, Repo
 use Rattle.wsn_hint.specs.declared.hint.Hint.{Hint}
 use Rattle.wsn_hint.specs.declared.hint.Hint.TheVariants.{WrongHandshake}
 use Rattle.wsn_hint.specs.declared.refused_sides.RefusedSides.{RefusedSides}
-use Rattle.wsn_rules.specs.Limits.{Limits}
 use Rattle.wsn_hint.specs.Hints.{Fits, IsFirstFit, capture_hints}
 use Rattle.wsn_hint.specs.Accusations.{IsAccusingHint}
-use Rattle.wsn_hint.specs.SideHints.{FitsHandshake, FitsTail, IsSidesHint}
+use Rattle.wsn_hint.specs.SideHints.{FitsHandshake, FitsTail, IsSidesHint, tail_hints}
 use Rattle.wsn_cli.specs.Requests.{job_limits}
 
 -- why a side of a report is refused, if it is
@@ -30,8 +29,8 @@ none_refused = record { client = None; server = None }
 
 -- why the sides are refused, of those that were read: by a report both, by a verdict the one that was read
 abbrev pub refused_sides : Option Role → Answer → RefusedSides
-refused_sides side (Report report) =
-    record { client = refused_side report.client; server = refused_side report.server }
+refused_sides side (Report read) =
+    record { client = refused_side read.report.client; server = refused_side read.report.server }
 refused_sides (Some Client) (Verdict (Refused refusal)) = record { client = Some refusal; server = None }
 refused_sides (Some Server) (Verdict (Refused refusal)) = record { client = None; server = Some refusal }
 refused_sides side answer = none_refused
@@ -47,26 +46,22 @@ abbrev pub IsOrElse : Option Hint → (Option Hint → Type 0) → Option Hint �
 IsOrElse (Some hint) later result = result ≡ Some hint
 IsOrElse None later result = later result
 
--- The hint on what a report says: on a Close that accuses the other endpoint.
-abbrev pub IsAnswerHint : Answer → Option Hint → Type 0
-IsAnswerHint (Report report) result = IsAccusingHint report result
-IsAnswerHint answer result = result ≡ None
-
--- The hint on a report but for its handshake: of bytes after a Close, if the command gives that hint; where there is none
--- of them, on what the report says.
-abbrev pub IsCloseHint : Limits → List ℕ → Answer → (Option Hint → Option Hint) → Option Hint → Type 0
-IsCloseHint limits text answer given result = (tail : Option Hint) × IfSome tail (FitsTail limits text)
-    × (((tail ≡ None) × IsAnswerHint answer result) ⊎ ((tail ≢ None) × (result ≡ given tail)))
+-- The hint on what a report says of a Close: at bytes after it, if the command gives that hint; where there are none, on a
+-- Close that accuses the other endpoint.
+abbrev pub IsCloseHint : Answer → (Option Hint → Option Hint) → Option Hint → Type 0
+IsCloseHint (Report read) given result = (tail : Option Hint) × IsFirstFit (FitsTail read.tails) tail_hints tail
+    × (((tail ≡ None) × IsAccusingHint read.report result) ⊎ ((tail ≢ None) × (result ≡ given tail)))
+IsCloseHint answer given result = result ≡ None
 
 -- The hint on a report without one on its sides: on the handshake, or on a Close. `show` lists the bytes after a Close, and
 -- has no hint at them.
 abbrev pub IsReportHint : {A : Type 0} → Job A → List ℕ → RefusedSides → Answer → Option Hint → Type 0
 IsReportHint (Show limits style) text refused answer result = (handshake : Option Hint)
     × IsHandshakeHint text refused handshake
-    × IsOrElse handshake (IsCloseHint limits text answer (λ tail. None)) result
+    × IsOrElse handshake (IsCloseHint answer (λ tail. None)) result
 IsReportHint (Closing limits format) text refused answer result = (handshake : Option Hint)
     × IsHandshakeHint text refused handshake
-    × IsOrElse handshake (IsCloseHint limits text answer (λ tail. tail)) result
+    × IsOrElse handshake (IsCloseHint answer (λ tail. tail)) result
 IsReportHint job text refused answer result = result ≡ None
 
 -- The hint on a capture whose lines are accepted: on its sides, or on the report.

@@ -1,11 +1,11 @@
-ghost use Rattle.std.specs.Prelude.{◌≡◌, ◌↔◌, ◌⊎◌, IsTrue, None, Some, IfSome, IsSome, List, ℕ, take, if◌then◌else◌};
+ghost use Rattle.std.specs.Prelude.{◌≡◌, ◌↔◌, ◌⊎◌, IsTrue, true, false, None, Some, IfSome, IsSome, List, ℕ, take, if◌then◌else◌};
 ghost use Rattle.wsn_print.specs.declared.format.Format.TheVariants.{Json};
 ghost use Rattle.wsn_rules.specs.Limits.{Limits};
 ghost use Rattle.wsn_command.specs.declared.answered.Answer.TheVariants.{FaultyLine, Stopped};
 ghost use Rattle.wsn_hint.specs.Hints.{Fits};
 ghost use Rattle.wsn_command.specs.Jobs.{job_role};
 ghost use Rattle.wsn_cli.specs.Requests.{job_format, job_limits};
-ghost use Rattle.wsn_cli.specs.RunHints.{IsAnswerHint, IsCaptureHint, IsHandshakeHint, IsLinesHint, IsReportHint, refused_side, refused_sides};
+ghost use Rattle.wsn_cli.specs.RunHints.{IsCaptureHint, IsCloseHint, IsHandshakeHint, IsLinesHint, IsReportHint, refused_side, refused_sides};
 
 use crate::compared_hint::ComparedHint;
 use std::alloc::Allocator;
@@ -99,8 +99,7 @@ fn hint_on_lines<A: Allocator>(
 }
 
 /// The hint on a report without one on its sides: for `show` and `closing` that the handshake's answer is wrong, if no
-/// side is refused, or on a Close that accuses the other endpoint; for `closing`, which doesn't list them, before that at
-/// bytes after a Close.
+/// side is refused, or on a Close.
 fn report_hint<A: Allocator>(
     job: &Job<A>,
     first: &[u8],
@@ -109,27 +108,29 @@ fn report_hint<A: Allocator>(
 ) -> Option<Hint>
     ensures { IsReportHint job.now first.now refused answer result }
 {
-    let limits = match job {
-        Job::Show(limits, _) | Job::Closing(limits, _) => *limits,
+    let gives_tails = match job {
+        Job::Show(_, _) => false,
+        Job::Closing(_, _) => true,
         _ => return None,
     };
-    if let Some(hint) = handshake_hint(first, refused) {
-        return Some(hint);
-    }
-    match (after_close_hint_of(first, limits), job) {
-        (None, _) => answer_hint(answer),
-        (Some(hint), Job::Closing(_, _)) => Some(hint),
-        (Some(_), _) => None,
+    match handshake_hint(first, refused) {
+        Some(hint) => Some(hint),
+        None => close_hint(answer, gives_tails),
     }
 }
 
-/// The hint on a report by what it says: on a Close that accuses the other endpoint.
-fn answer_hint(answer: Answer) -> Option<Hint>
-    ensures { IsAnswerHint answer result }
+/// The hint on what a report says of a Close: at bytes after it, for `closing` alone, since `show` lists them; without
+/// such bytes, on a Close that accuses the other endpoint.
+fn close_hint(answer: Answer, gives_tails: bool) -> Option<Hint>
+    ensures given { gives_tails ≡ true → IsCloseHint answer (λ tail. tail) result }
+    ensures not { gives_tails ≡ false → IsCloseHint answer (λ tail. None) result }
 {
-    match answer {
-        Answer::Report(report) => accusing_hint_of(&report),
-        _ => None,
+    let Answer::Report(read) = answer else {
+        return None;
+    };
+    match after_close_hint_of(read.tails) {
+        None => accusing_hint_of(&read.report),
+        Some(hint) => gives_tails.then_some(hint),
     }
 }
 
@@ -148,9 +149,9 @@ fn refused_sides(side: Option<Role>, answer: Answer) -> RefusedSides
     ensures { result ≡ refused_sides side answer }
 {
     match (side, answer) {
-        (_, Answer::Report(report)) => RefusedSides {
-            client: refused_side(report.client),
-            server: refused_side(report.server),
+        (_, Answer::Report(read)) => RefusedSides {
+            client: refused_side(read.report.client),
+            server: refused_side(read.report.server),
         },
         (Some(Role::Client), Answer::Verdict(Verdict::Refused(refusal))) => RefusedSides {
             client: Some(refusal),

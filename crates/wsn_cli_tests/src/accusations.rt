@@ -1,6 +1,7 @@
 //! Hints on captures in which a Close accuses the other endpoint.
 
 use std::process::Abort;
+use wsn_capture::{CaptureReport, Tails};
 use wsn_cli::{Answer, Charge, Format, Hint, Job, accusing_hint_of, hint_on_run};
 use wsn_print::{Style, ViewLimit};
 use wsn_rules::{Detail, INPUT_MAX, Limits, MESSAGE_MAX, Outcome, Refusal, Report, Side};
@@ -115,21 +116,26 @@ fn a_report_has_a_hint_on_an_accusation(rt: HostRuntime) {
             format: Format::Text,
         },
     );
-    let answer = Answer::Report(report(&ROWS[0]));
     let accuses = ROWS[0].3;
-    for (text, shown, closed) in [
-        ("S 8900\nC 88820000000003ea\n", accuses, accuses),
+    for (text, server, shown, closed) in [
+        ("S 8900\nC 88820000000003ea\n", 0, accuses, accuses),
         (
             "# accept is wrong\nC 88820000000003ea\n",
+            2,
             Some(Hint::WrongHandshake),
             Some(Hint::WrongHandshake),
         ),
         (
             "S 88008900\nC 88820000000003ea\n",
+            2,
             None,
             Some(Hint::AfterClose(Role::Server)),
         ),
     ] {
+        let answer = Answer::Report(CaptureReport {
+            report: report(&ROWS[0]),
+            tails: Tails { client: 0, server },
+        });
         let first = text.as_bytes();
         assert_eq!(rt; hint_on_run(&show, None, first, answer), shown, "{text}");
         assert_eq!(rt;
@@ -140,7 +146,13 @@ fn a_report_has_a_hint_on_an_accusation(rt: HostRuntime) {
         assert_eq!(rt; hint_on_run(&json, None, first, answer), None);
         assert_eq!(rt;
             hint_on_run(&closing, None, first, Answer::Other),
-            { if shown == accuses { None } else { closed } }
+            {
+                if shown == Some(Hint::WrongHandshake) {
+                    shown
+                } else {
+                    None
+                }
+            }
         );
     }
 }

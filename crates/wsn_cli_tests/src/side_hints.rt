@@ -1,6 +1,7 @@
 //! Hints on captures whose lines are accepted: on refused sides, on a wrong handshake, on bytes after a Close.
 
 use std::process::Abort;
+use wsn_capture::{CaptureReport, Tails};
 use wsn_cli::{
     Answer, Format, Hint, Job, RefusedSides, after_close_hint_of, handshake_hint_of, hint_on_run,
     sides_hint_of,
@@ -304,9 +305,9 @@ fn a_wrong_handshake_has_a_hint_by_its_comments(rt: HostRuntime) {
     }
 }
 
-/// A report on these sides; what else it says counts for nothing.
-fn report(client: Side, server: Side) -> Answer {
-    Answer::Report(Report {
+/// A report on these sides, whose tails are these; what else it says counts for nothing.
+fn report_with(client: Side, server: Side, tails: Tails) -> Answer {
+    let report = Report {
         client,
         server,
         first: None,
@@ -314,7 +315,17 @@ fn report(client: Side, server: Side) -> Answer {
         client_sees: None,
         server_sees: None,
         outcome: Outcome::Live,
-    })
+    };
+    Answer::Report(CaptureReport { report, tails })
+}
+
+/// A report on these sides, without bytes after a Close.
+fn report(client: Side, server: Side) -> Answer {
+    let tails = Tails {
+        client: 0,
+        server: 0,
+    };
+    report_with(client, server, tails)
 }
 
 fn style(rt: &impl Abort, format: Format) -> Style {
@@ -368,20 +379,14 @@ const ACCEPTED: Answer = Answer::Verdict(Verdict::Accepted(Summary {
     close: None,
 }));
 
-/// Bytes after a Close: of the server, of the client, of both, of none; and bytes after a Close that isn't whole.
-static AFTER: [(&str, Option<Hint>); 6] = [
-    ("S 88008900\n", Some(Hint::AfterClose(Role::Server))),
-    (
-        "C 888000000000\nS 8800\nC 00\n",
-        Some(Hint::AfterClose(Role::Client)),
-    ),
-    (
-        "S 880000\nC 88800000000000\n",
-        Some(Hint::AfterClose(Role::Client)),
-    ),
-    ("C 888000000000\nS 8800\nS.\nC.\n", None),
-    ("S 88028900\n", None),
-    ("# no bytes\n", None),
+/// The number of bytes after the client's Close and after the server's, and the hint.
+static AFTER: [(u64, u64, Option<Hint>); 6] = [
+    (0, 2, Some(Hint::AfterClose(Role::Server))),
+    (0, 1, Some(Hint::AfterClose(Role::Server))),
+    (1, 0, Some(Hint::AfterClose(Role::Client))),
+    (1, 1, Some(Hint::AfterClose(Role::Client))),
+    (5_000_000_000, 0, Some(Hint::AfterClose(Role::Client))),
+    (0, 0, None),
 ];
 
 /// Only `closing` has a hint that says so: `show` lists the bytes, and `judge` counts them.
@@ -391,11 +396,15 @@ fn bytes_after_a_close_have_a_hint_in_a_report(rt: HostRuntime) {
     let closing: Job = Job::Closing(greatest, Format::Text);
     let json: Job = Job::Closing(greatest, Format::Json);
     let judge: Job = Job::Judge(Role::Server, greatest, Format::Text);
-    let answer = report(Side::Closed(None), Side::Running);
+    let first = "C 888000000000\nS 8800\n".as_bytes();
     for row in AFTER.iter() {
-        let first = row.0.as_bytes();
-        assert_eq!(rt; after_close_hint_of(first, greatest), row.1, "{}", row.0);
-        assert_eq!(rt; hint_on_run(&closing, None, first, answer), row.1);
+        let tails = Tails {
+            client: row.0,
+            server: row.1,
+        };
+        let answer = report_with(Side::Closed(None), Side::Closed(None), tails);
+        assert_eq!(rt; after_close_hint_of(tails), row.2);
+        assert_eq!(rt; hint_on_run(&closing, None, first, answer), row.2);
         assert_eq!(rt; hint_on_run(&json, None, first, answer), None);
         assert_eq!(rt;
             hint_on_run(&judge, Some(Role::Server), first, ACCEPTED),
@@ -408,7 +417,11 @@ fn bytes_after_a_close_have_a_hint_in_a_report(rt: HostRuntime) {
         place: 0,
         reason: Reason::ReservedBits,
     };
-    let refused = report(Side::Closed(None), Side::Refused(refusal));
+    let tails = Tails {
+        client: 1,
+        server: 0,
+    };
+    let refused = report_with(Side::Closed(None), Side::Refused(refusal), tails);
     assert_eq!(rt;
         hint_on_run(&closing, None, first, refused),
         Some(Hint::MaybeCompressed)

@@ -1,4 +1,5 @@
-use wsn_rules::{Report, Verdict};
+use wsn_capture::CaptureReport;
+use wsn_rules::Verdict;
 
 /// What the run of a command came to.
 #[derive(Clone, Copy, Debug, PartialEq, Eq)]
@@ -14,8 +15,8 @@ pub struct Ran {
 pub enum Answer {
     /// The verdict on the stream that was read; of two streams, on the one that isn't accepted.
     Verdict(Verdict),
-    /// The report on both sides of a capture.
-    Report(Report),
+    /// The report on both sides of a capture, and the number of bytes after each Close.
+    Report(CaptureReport),
     /// Another answer: no byte that was read is refused.
     Other,
     /// No answer: a line of the capture isn't accepted.

@@ -9,14 +9,13 @@ use Rattle.wsn_wire.specs.declared.refusal.Reason.TheVariants.{ReservedBits, Mas
 use Rattle.wsn_wire.specs.Frame.{Frame, stream}
 use Rattle.wsn_rules.specs.declared.head_info.HeadInfo.{HeadInfo}
 use Rattle.wsn_rules.specs.declared.verdict.Refusal.{Refusal}
-use Rattle.wsn_rules.specs.declared.verdict.Verdict.TheVariants.{Accepted}
-use Rattle.wsn_rules.specs.declared.verdict.Summary.{Summary}
 use Rattle.wsn_rules.specs.Limits.{Limits}
 use Rattle.wsn_rules.specs.Lawful.{IsLawful}
 use Rattle.wsn_rules.specs.Heads.{BeginsWithHead}
 use Rattle.wsn_rules.specs.BadCharacter.{payload_offset}
+use Rattle.wsn_capture.specs.declared.tails.Tails.{Tails}
 use Rattle.wsn_capture.specs.SideTexts.{sent_in}
-use Rattle.wsn_hint.specs.Hints.{HasVerdict, IsDataHead, IsFirstFit, IsTextByte}
+use Rattle.wsn_hint.specs.Hints.{IsDataHead, IsFirstFit, IsTextByte}
 use Rattle.wsn_hint.specs.Comments.{IsSaid}
 use Rattle.wsn_hint.specs.declared.comments.Said.TheVariants.{Answer, Compression, WrongAnswer}
 use Rattle.wsn_hint.specs.declared.refused_sides.RefusedSides.{RefusedSides}
@@ -154,12 +153,12 @@ abbrev pub FitsHandshake : List ℕ → Hint → Type 0
 FitsHandshake text WrongHandshake = IsSaid WrongAnswer text
 FitsHandshake text hint = ⊥
 
--- This endpoint sent bytes after its Close, by the text's lines (RFC 6455 section 5.5.1).
-abbrev pub HasTail : Limits → List ℕ → Role → Type 0
-HasTail limits text role =
-    (summary : Summary) × HasVerdict role limits (sent_in role text) (Accepted summary) × (0 < summary.tail)
+-- The hint says that an endpoint sent bytes after its Close, and it did (RFC 6455 section 5.5.1).
+abbrev pub FitsTail : Tails → Hint → Type 0
+FitsTail tails (AfterClose Client) = 0 < tails.client
+FitsTail tails (AfterClose Server) = 0 < tails.server
+FitsTail tails hint = ⊥
 
--- The hint says that an endpoint sent bytes after its Close, and it did.
-abbrev pub FitsTail : Limits → List ℕ → Hint → Type 0
-FitsTail limits text (AfterClose role) = HasTail limits text role
-FitsTail limits text hint = ⊥
+-- the hints at bytes after a Close, in the order in which they are tried
+abbrev pub tail_hints : List Hint
+tail_hints = AfterClose Client ∷ AfterClose Server ∷ []

@@ -1,18 +1,16 @@
 ghost use Rattle.std.specs.Prelude.{◌≡◌, ◌↔◌, ◌≢◌, [], ◌∷◌, IsTrue, true, false, None, Some, IfSome};
-ghost use Rattle.wsn_capture.specs.SideTexts.{sent_in};
 ghost use Rattle.wsn_wire.specs.declared.refusal.Reason.TheVariants.{ReservedBits};
 ghost use Rattle.wsn_hint.specs.declared.hint.Hint.TheVariants.{WrongHandshake};
-ghost use Rattle.wsn_hint.specs.Hints.{HasVerdict, IsFirstFit};
-ghost use Rattle.wsn_hint.specs.SideHints.{AreExchanged, AreRefusedForMasks, FitsHandshake, FitsSide, FitsTail, HasOthersMask, HasTail, IsCompressedHead, IsCompressedHint, IsForMask, IsOthersMask, IsSentAt, IsLikelier, IsSideHint, IsSidesHint, IsWeak, side_hints};
+ghost use Rattle.wsn_hint.specs.Hints.{IsFirstFit};
+ghost use Rattle.wsn_hint.specs.SideHints.{AreExchanged, AreRefusedForMasks, FitsHandshake, FitsSide, FitsTail, HasOthersMask, IsCompressedHead, IsCompressedHint, IsForMask, IsOthersMask, IsSentAt, IsLikelier, IsSideHint, IsSidesHint, IsWeak, side_hints, tail_hints};
 
 use crate::comments::{Said, is_said};
 use crate::hint::Hint;
 use crate::refused_sides::RefusedSides;
 use crate::sent_text::is_sent_as_text;
 use crate::streams::without_compression;
-use wsn_capture::SideReader;
-use wsn_rules::{Limits, Refusal, Verdict};
-use wsn_scan::judge;
+use wsn_capture::{SideReader, Tails};
+use wsn_rules::{Limits, Refusal};
 use wsn_wire::{Input, Reason, Role};
 
 /// The number of bytes of a side that are read at once.
@@ -46,33 +44,15 @@ pub fn handshake_hint_of(first: &[u8]) -> Option<Hint>
     is_said(first, Said::WrongAnswer).then_some(Hint::WrongHandshake)
 }
 
-/// The hint for such a capture of which both sides are read and only the report is printed: that an endpoint sent bytes
-/// after its Close (RFC 6455 section 5.5.1), the client if both did. `None` unless it did within these bytes.
-pub fn after_close_hint_of(first: &[u8], limits: Limits) -> Option<Hint>
-    ensures { IfSome result (FitsTail limits first.now) }
+/// The hint for a capture of which only the report is printed, by the number of bytes after each Close: that an endpoint
+/// sent some (RFC 6455 section 5.5.1), the client if both did.
+pub fn after_close_hint_of(tails: Tails) -> Option<Hint>
+    ensures { IsFirstFit (FitsTail tails) tail_hints result }
 {
-    if has_tail(first, Role::Client, limits) {
+    if tails.client > 0 {
         return Some(Hint::AfterClose(Role::Client));
     }
-    has_tail(first, Role::Server, limits).then_some(Hint::AfterClose(Role::Server))
-}
-
-/// Whether this endpoint sent bytes after its Close, by the lines of these bytes.
-fn has_tail(first: &[u8], role: Role, limits: Limits) -> bool
-    ensures { result ≡ true → HasTail limits first.now role }
-{
-    match side_verdict(first, role, limits) {
-        Some(Verdict::Accepted(summary)) => summary.tail > 0,
-        _ => false,
-    }
-}
-
-/// The verdict on what this endpoint sent, by the lines of these bytes. `None` if a line isn't accepted, and if the
-/// input limit is less.
-fn side_verdict(first: &[u8], role: Role, limits: Limits) -> Option<Verdict>
-    ensures { IfSome result (HasVerdict role limits (sent_in role first.now)) }
-{
-    judge(&mut Input::new(SideReader::new(first, role)), role, limits).ok()
+    (tails.server > 0).then_some(Hint::AfterClose(Role::Server))
 }
 
 /// The likelier of two sides' hints: another encoding comes last.

@@ -6,8 +6,8 @@ use Rattle.wsn_io.specs.declared.stop.Stop.{Stop}
 use Rattle.wsn_io.specs.declared.stop.Stop.TheVariants as stop
 use Rattle.wsn_rules.specs.Limits.{Limits}
 use Rattle.wsn_rules.specs.declared.compared.Compared.{Compared}
-use Rattle.wsn_rules.specs.declared.report.Report.{Report}
 use Rattle.wsn_rules.specs.declared.verdict.Verdict.{Verdict}
+use Rattle.wsn_capture.specs.declared.capture_report.CaptureReport.{CaptureReport}
 use Rattle.wsn_print.specs.declared.format.Format.{Format}
 use Rattle.wsn_show.specs.declared.showing.ShowStop.{ShowStop}
 use Rattle.wsn_show.specs.declared.showing.ShowStop.TheVariants.{Capture, Write}
@@ -49,7 +49,7 @@ plan_is_read role limits old new before after (Err stop.Read) printed = received
 plan_is_read role limits old new before after (Err stop.Memory) printed = received_is_read _ old new _ printed.0.received
 plan_is_read role limits old new before after (Err stop.InputLimit) printed = received_is_read _ old new _ printed.0.received
 
-report_is_read : (format : Format) (limits : Limits) (old new : Incoming) (before after : Outgoing) (done : Result Report ShowStop)
+report_is_read : (format : Format) (limits : Limits) (old new : Incoming) (before after : Outgoing) (done : Result CaptureReport ShowStop)
     → IsReportPrinted format limits old new before after done → IsRead old new
 report_is_read format limits old new before after (Ok report) printed = received_is_read _ old new _ printed.0.received
 report_is_read format limits old new before after (Err (Capture stopped)) printed = received_is_read _ old new _ printed.0.received

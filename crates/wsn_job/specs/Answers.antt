@@ -2,7 +2,6 @@
 use Rattle.std.specs.Prelude.{ℕ, Result, Ok, Err}
 use Rattle.wsn_io.specs.declared.stop.Stop.{Stop}
 use Rattle.wsn_rules.specs.declared.verdict.Verdict.{Verdict as GivenVerdict}
-use Rattle.wsn_rules.specs.declared.report.Report.{Report as GivenReport}
 use Rattle.wsn_rules.specs.declared.compared.Compared.{Compared}
 use Rattle.wsn_rules.specs.declared.compared.Compared.TheVariants as compared
 use Rattle.wsn_plan.specs.declared.planning.PlanAnswer.{PlanAnswer}
@@ -11,6 +10,7 @@ use Rattle.wsn_plan.specs.declared.recutting.RecutAnswer.{RecutAnswer}
 use Rattle.wsn_plan.specs.declared.recutting.RecutAnswer.TheVariants as recuts
 use Rattle.wsn_payload.specs.declared.answer.Payload.{Payload}
 use Rattle.wsn_payload.specs.declared.answer.Payload.TheVariants as payloads
+use Rattle.wsn_capture.specs.declared.capture_report.CaptureReport.{CaptureReport}
 use Rattle.wsn_capture.specs.declared.capture_stop.CaptureStop.TheVariants as capture
 use Rattle.wsn_show.specs.declared.showing.ShowStop.{ShowStop}
 use Rattle.wsn_show.specs.declared.showing.ShowStop.TheVariants.{Capture}
@@ -50,9 +50,9 @@ payload_answer (Ok (payloads.Nothing verdict)) = Verdict verdict
 payload_answer (Ok answer) = Other
 payload_answer (Err stopped) = Stopped
 
--- a report; none at a line that isn't accepted, and after any other stop
-abbrev pub report_answer : Result GivenReport ShowStop → Answer
-report_answer (Ok report) = Report report
+-- a report, with the bytes after both Closes; none at a line that isn't accepted, and after any other stop
+abbrev pub report_answer : Result CaptureReport ShowStop → Answer
+report_answer (Ok read) = Report read
 report_answer (Err (Capture (capture.Line number fault))) = FaultyLine
 report_answer (Err stopped) = Stopped
 

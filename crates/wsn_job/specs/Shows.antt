@@ -2,10 +2,10 @@
 use Rattle.std.specs.Prelude.{◌≡◌, Result}
 use Rattle.wsn_wire.specs.declared.endpoint.Role.{Role}
 use Rattle.wsn_io.specs.declared.stop.Stop.{Stop}
-use Rattle.wsn_rules.specs.declared.report.Report.{Report}
 use Rattle.wsn_rules.specs.declared.verdict.Verdict.{Verdict}
 use Rattle.wsn_rules.specs.Limits.{Limits}
 use Rattle.wsn_print.specs.Statuses.{verdict_status}
+use Rattle.wsn_capture.specs.declared.capture_report.CaptureReport.{CaptureReport}
 use Rattle.wsn_show.specs.declared.showing.ShowStop.{ShowStop}
 use Rattle.wsn_print.specs.declared.style.Style.{Style}
 use Rattle.wsn_show.specs.Showing.{IsShown}
@@ -18,7 +18,7 @@ use Rattle.wsn_job.specs.Diagnostics.{IsStopDiagnosed}
 
 -- `show` of a capture: the status, the answer and the line of a stop are as for `closing`.
 abbrev pub IsShowRun : Limits → Style → Channels → Channels → Ran → Type 0
-IsShowRun limits style before after ran = (done : Result Report ShowStop)
+IsShowRun limits style before after ran = (done : Result CaptureReport ShowStop)
     × IsShown limits style before.input after.input before.output after.output done
     × (ran ≡ ran_with (closing_status done) (report_answer done)) × IsClosingDiagnosed done before.errors after.errors
 

@@ -4,7 +4,7 @@ ghost use Rattle.std.specs.Prelude.{◌≡◌};
 ghost use Rattle.wsn_job.specs.Answers.{verdict_answer, plan_answer, recut_answer, payload_answer, report_answer, redacted_answer, compared_answer};
 
 use std::alloc::Allocator;
-use wsn_capture::{CaptureStop, Report};
+use wsn_capture::{CaptureReport, CaptureStop};
 use wsn_command::Answer;
 use wsn_events::Compared;
 use wsn_io::Stop;
@@ -59,12 +59,12 @@ pub(crate) fn of_payload(done: Result<Payload, Stop>) -> Answer
     }
 }
 
-/// The report, unless the work stopped; a line that isn't accepted is a stop of its own.
-pub(crate) fn of_report(done: Result<Report, ShowStop>) -> Answer
+/// The report, with the bytes after both Closes, unless the work stopped; a line that isn't accepted is a stop of its own.
+pub(crate) fn of_report(done: Result<CaptureReport, ShowStop>) -> Answer
     ensures { result ≡ report_answer done }
 {
     match done {
-        Ok(report) => Answer::Report(report),
+        Ok(read) => Answer::Report(read),
         Err(ShowStop::Capture(CaptureStop::Line { .. })) => Answer::FaultyLine,
         Err(ShowStop::Capture(CaptureStop::Read)) => Answer::Stopped,
         Err(ShowStop::Write) => Answer::Stopped,

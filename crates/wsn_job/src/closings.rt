@@ -5,7 +5,7 @@ ghost use Rattle.wsn_job.specs.Diagnostics.{IsDiagnosed};
 
 use crate::diagnostics::{diagnose_line_fault, diagnose_stop};
 use std::io::{Read, Write};
-use wsn_capture::{CaptureStop, Report, judge_capture};
+use wsn_capture::{CaptureReport, CaptureStop, read_capture};
 use wsn_io::{Input, Output, Stop};
 use wsn_print::{Format, put_named_report, put_report_as, status_of_outcome};
 use wsn_scan::Limits;
@@ -47,14 +47,14 @@ fn print_named_report<R: Read, W: Write>(
     limits: Limits,
     format: Format,
     output: &mut Output<W>,
-) -> Result<Report, ShowStop>
+) -> Result<CaptureReport, ShowStop>
     requires readable { input.old.failed ≡ false }
     requires writable { output.old.failed ≡ false }
     ensures { IsNamedReportPrinted format name.now limits input.old input.new output.old output.new result }
 {
-    let report = judge_capture(input, limits).map_err(ShowStop::Capture)?;
-    match put_named_report(output, format, name, &report) {
-        Ok(()) => Ok(report),
+    let read = read_capture(input, limits).map_err(ShowStop::Capture)?;
+    match put_named_report(output, format, name, &read.report) {
+        Ok(()) => Ok(read),
         Err(_) => Err(ShowStop::Write),
     }
 }
@@ -66,21 +66,24 @@ pub(crate) fn print_report<R: Read, W: Write>(
     limits: Limits,
     format: Format,
     output: &mut Output<W>,
-) -> Result<Report, ShowStop>
+) -> Result<CaptureReport, ShowStop>
     requires readable { input.old.failed ≡ false }
     requires writable { output.old.failed ≡ false }
     ensures { IsReportPrinted format limits input.old input.new output.old output.new result }
 {
-    let report = judge_capture(input, limits).map_err(ShowStop::Capture)?;
-    match put_report_as(output, format, &report) {
-        Ok(()) => Ok(report),
+    let read = read_capture(input, limits).map_err(ShowStop::Capture)?;
+    match put_report_as(output, format, &read.report) {
+        Ok(()) => Ok(read),
         Err(_) => Err(ShowStop::Write),
     }
 }
 
 /// Writes the line of a stop, if there is one, to `errors`.
 #[tactic(none)]
-pub(crate) fn diagnose_closing<E: Write>(done: Result<Report, ShowStop>, errors: &mut Output<E>)
+pub(crate) fn diagnose_closing<E: Write>(
+    done: Result<CaptureReport, ShowStop>,
+    errors: &mut Output<E>,
+)
     ensures { IsClosingDiagnosed done errors.old errors.new }
 {
     if let Err(stop) = done {
@@ -103,11 +106,11 @@ fn diagnose_closing_stop<E: Write>(errors: &mut Output<E>, stop: ShowStop)
 }
 
 /// The exit status for a report or a stop.
-pub(crate) fn status(done: Result<Report, ShowStop>) -> u8
+pub(crate) fn status(done: Result<CaptureReport, ShowStop>) -> u8
     ensures { result ≡ closing_status done }
 {
     match done {
-        Ok(report) => status_of_outcome(report.outcome),
+        Ok(read) => status_of_outcome(read.report.outcome),
         Err(_) => 2,
     }
 }

@@ -3,7 +3,7 @@ use crate::verdicts::diagnose_unless_accepted;
 use crate::{answers, closings, payloads, plans, recuts, redactions};
 use std::alloc::Allocator;
 use std::io::Write;
-use wsn_capture::Report;
+use wsn_capture::CaptureReport;
 use wsn_command::{Answer, Ran};
 use wsn_io::{Output, Stop};
 use wsn_payload::Payload;
@@ -25,8 +25,8 @@ pub(crate) enum Done<A: Allocator> {
     /// With the offset that was asked for.
     Payload(u64, Result<Payload, Stop>),
     ShowStream(Result<Verdict, Stop>),
-    Closing(Result<Report, ShowStop>),
-    Show(Result<Report, ShowStop>),
+    Closing(Result<CaptureReport, ShowStop>),
+    Show(Result<CaptureReport, ShowStop>),
     RedactCapture(Result<(), RedactStop>),
 }
 

@@ -6,11 +6,11 @@ ghost use Rattle.wsn_io.specs.declared.stop.Stop.{Stop};
 ghost use Rattle.wsn_rules.specs.declared.step.Step.{Step};
 ghost use Rattle.wsn_rules.specs.declared.verdict.Verdict.{Verdict};
 ghost use Rattle.wsn_rules.specs.declared.why.Why.{Why};
-ghost use Rattle.wsn_rules.specs.declared.report.Report.{Report};
 ghost use Rattle.wsn_rules.specs.declared.report.Outcome.TheVariants.{Failed, Clean, Complete, Abnormal, Half, Live};
 ghost use Rattle.wsn_plan.specs.declared.planning.PlanAnswer.{PlanAnswer};
 ghost use Rattle.wsn_plan.specs.declared.planning.PlanAnswer.TheVariants as plans;
 ghost use Rattle.wsn_plan.specs.declared.recutting.RecutAnswer.TheVariants.{Done, NotAccepted, Fault};
+ghost use Rattle.wsn_capture.specs.declared.capture_report.CaptureReport.{CaptureReport};
 ghost use Rattle.wsn_capture.specs.declared.line_fault.LineFault.TheVariants.{TooManyLines, AfterEnd};
 ghost use Rattle.wsn_capture.specs.declared.capture_stop.CaptureStop.TheVariants.{Read, Line};
 ghost use Rattle.wsn_show.specs.declared.showing.ShowStop.{ShowStop};
@@ -37,12 +37,12 @@ pub fn of_recuts()
 
 /// The exit statuses of `closing`, by the outcome.
 pub fn of_closings()
-    ensures clean { (r : Report) → closing_status (Ok (record r { outcome = Clean })) ≡ 0 }
-    ensures complete { (r : Report) → closing_status (Ok (record r { outcome = Complete })) ≡ 0 }
-    ensures failed { (r : Report) → closing_status (Ok (record r { outcome = Failed })) ≡ 1 }
-    ensures abnormal { (r : Report) → closing_status (Ok (record r { outcome = Abnormal })) ≡ 1 }
-    ensures half { (r : Report) → closing_status (Ok (record r { outcome = Half })) ≡ 1 }
-    ensures open_streams { (r : Report) → closing_status (Ok (record r { outcome = Live })) ≡ 1 }
+    ensures clean { (r : CaptureReport) → closing_status (Ok (record r { report = record r.report { outcome = Clean } })) ≡ 0 }
+    ensures complete { (r : CaptureReport) → closing_status (Ok (record r { report = record r.report { outcome = Complete } })) ≡ 0 }
+    ensures failed { (r : CaptureReport) → closing_status (Ok (record r { report = record r.report { outcome = Failed } })) ≡ 1 }
+    ensures abnormal { (r : CaptureReport) → closing_status (Ok (record r { report = record r.report { outcome = Abnormal } })) ≡ 1 }
+    ensures half { (r : CaptureReport) → closing_status (Ok (record r { report = record r.report { outcome = Half } })) ≡ 1 }
+    ensures open_streams { (r : CaptureReport) → closing_status (Ok (record r { report = record r.report { outcome = Live } })) ≡ 1 }
     ensures stop { (stopped : ShowStop) → closing_status (Err stopped) ≡ 2 }
 {}
 

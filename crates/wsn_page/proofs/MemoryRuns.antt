@@ -5,9 +5,9 @@ use Rattle.wsn_io.specs.Transfer.{Incoming, Outgoing}
 use Rattle.wsn_io.specs.declared.stop.Stop.{Stop}
 use Rattle.wsn_wire.specs.declared.endpoint.Role.{Role}
 use Rattle.wsn_rules.specs.Limits.{Limits}
-use Rattle.wsn_rules.specs.declared.report.Report.{Report}
 use Rattle.wsn_rules.specs.declared.verdict.Verdict.{Verdict}
 use Rattle.wsn_print.specs.Statuses.{verdict_status}
+use Rattle.wsn_capture.specs.declared.capture_report.CaptureReport.{CaptureReport}
 use Rattle.wsn_show.specs.Showing.{IsShown}
 use Rattle.wsn_show.specs.StreamShows.{IsStreamShown}
 use Rattle.wsn_show.specs.declared.showing.ShowStop.{ShowStop}
@@ -21,9 +21,9 @@ use Rattle.wsn_page.specs.Calls.{IsRunOver, input_of, output_of, shown_message, 
 said : (line : List ℕ) → IsDiagnosed (output_of [] false) (output_of line false) line
 said line = record { works = λ _. inl (refl, refl); failed = λ failed. search rules }
 
-diagnosed : (done : Result Report ShowStop)
+diagnosed : (done : Result CaptureReport ShowStop)
     → IsClosingDiagnosed done (output_of [] false) (output_of (shown_message done) false)
-diagnosed (Ok report) = refl
+diagnosed (Ok read) = refl
 diagnosed (Err stopped) = said _
 
 stream_diagnosed : (done : Result Verdict Stop)
@@ -32,7 +32,7 @@ stream_diagnosed (Ok verdict) = refl
 stream_diagnosed (Err stopped) = said _
 
 pub shows_over : (limits : Limits) (style : Style) (bytes text : List ℕ) (left first : Incoming) (o o' : Outgoing)
-    (done : Result Report ShowStop) → first ≡ input_of bytes → o ≡ output_of [] false → o' ≡ output_of text o'.failed
+    (done : Result CaptureReport ShowStop) → first ≡ input_of bytes → o ≡ output_of [] false → o' ≡ output_of text o'.failed
     → IsShown limits style first left o o' done
     → IsRunOver (Show limits style) bytes text (shown_message done) (closing_status done)
 shows_over limits style bytes text left first o o' done is_input is_output printed shown =

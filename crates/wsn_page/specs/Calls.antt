@@ -3,7 +3,7 @@ use Rattle.std.specs.Prelude.{◌≡◌, ◌++◌, ℕ, Bool, true, false, Resul
 use Rattle.std.specs.declared.alloc.Global.{Global}
 use Rattle.wsn_io.specs.Transfer.{Incoming, Outgoing}
 use Rattle.wsn_io.specs.declared.stop.Stop.{Stop}
-use Rattle.wsn_rules.specs.declared.report.Report.{Report}
+use Rattle.wsn_capture.specs.declared.capture_report.CaptureReport.{CaptureReport}
 use Rattle.wsn_rules.specs.declared.verdict.Verdict.{Verdict}
 use Rattle.wsn_print.specs.StopText.{stop_line}
 use Rattle.wsn_show.specs.declared.showing.ShowStop.{ShowStop}
@@ -80,8 +80,8 @@ GivesShown settings job bytes done = (style : Style) × IsStyleAsked settings st
 -- ---- messages
 
 -- the message for a capture's report or stop: none for a report
-abbrev pub shown_message : Result Report ShowStop → List ℕ
-shown_message (Ok report) = []
+abbrev pub shown_message : Result CaptureReport ShowStop → List ℕ
+shown_message (Ok read) = []
 shown_message (Err stopped) = closing_stop_line stopped
 
 -- the message for a stream's verdict or stop: none for a verdict

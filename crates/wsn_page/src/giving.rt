@@ -4,7 +4,7 @@ ghost use Rattle.wsn_job.specs.Closings.{closing_status};
 ghost use Rattle.wsn_print.specs.Statuses.{verdict_status};
 
 use crate::answer::Answer;
-use wsn_capture::{CaptureStop, Report};
+use wsn_capture::{CaptureReport, CaptureStop};
 use wsn_io::Stop;
 use wsn_print::{line_of_line_fault, line_of_stop, status_of_outcome, status_of_verdict};
 use wsn_rules::Verdict;
@@ -12,7 +12,7 @@ use wsn_show::ShowStop;
 
 /// Gives what was shown of a capture, and how that ended.
 pub(crate) fn give_shown(
-    done: Result<Report, ShowStop>,
+    done: Result<CaptureReport, ShowStop>,
     text: &[u8],
     output: &mut [u8],
     message: &mut [u8],
@@ -21,8 +21,8 @@ pub(crate) fn give_shown(
         (closing_status done) }
 {
     match done {
-        Ok(report) => give(
-            status_of_outcome(report.outcome),
+        Ok(read) => give(
+            status_of_outcome(read.report.outcome),
             text,
             b"",
             output,

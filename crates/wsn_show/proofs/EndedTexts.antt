@@ -12,6 +12,8 @@ use Rattle.wsn_wire.specs.declared.endpoint.Role.TheVariants.{Client, Server}
 use Rattle.wsn_print.specs.declared.style.Style.{Style}
 use Rattle.wsn_show.specs.Styles.{styled_line, styled_left, styled_ended_by, styled_capture, styled_report}
 use Rattle.wsn_capture.specs.declared.capture_stop.CaptureStop.TheVariants as capture
+use Rattle.wsn_capture.specs.declared.tails.Tails.{Tails}
+use Rattle.wsn_capture.specs.Tails.{AreTails}
 use Rattle.wsn_capture.proofs.SplitLines.{unfaulted, faulty_last}
 use Rattle.wsn_capture.proofs.AcceptedTexts.{taken_given}
 use Rattle.wsn_show.specs.declared.capture_view.CaptureView.{CaptureView}
@@ -35,7 +37,7 @@ module _ (limits : Limits) (style : Style) (first : Outgoing) (came : List ℕ) 
   last_text = styled_left style Client finishes.client ++ styled_left style Server finishes.server ++ styled_ended_by style finishes.ended_by
 
   -- the order in which it is written
-  is_styled : lines_text ++ last_text ++ styled_report style report
+  pub is_styled : lines_text ++ last_text ++ styled_report style report
       ≡ styled_capture style has.shown finishes.client finishes.server finishes.ended_by report
   is_styled =
       let client = styled_left style Client finishes.client in
@@ -44,7 +46,7 @@ module _ (limits : Limits) (style : Style) (first : Outgoing) (came : List ℕ) 
       ap (λ (bs : List ℕ). bs ++ styled_report style report)
       (sym (append_assoc lines_text (client ++ server) ended) ∙ ap (λ (bs : List ℕ). bs ++ ended) (sym (append_assoc lines_text client server)))
 
-  pub whole_text : IsWholeText limits style came report (lines_text ++ last_text ++ styled_report style report)
+  abbrev pub whole_text : IsWholeText limits style came report (lines_text ++ last_text ++ styled_report style report)
   whole_text =
       record {
         lines = lines;
@@ -87,8 +89,9 @@ module _ (limits : Limits) (style : Style) (first : Outgoing) (came : List ℕ) 
     all_before : IsWritten first after (lines_text ++ last_text)
     all_before = put_both first now after lines_text last_text has.printed (whole_part now after last_text works finishes.printed)
 
-    pub reported : IsWritten after out (styled_report style report) → EndsShowing limits style first out came (Ok report)
-    reported written = (lines_text ++ last_text ++ styled_report style report, whole_text, put_both first after out (lines_text ++ last_text) (styled_report style report) all_before written)
+    pub reported : (tails : Tails) → AreTails limits has.entries tails → IsWritten after out (styled_report style report)
+        → EndsShowing limits style first out came (Ok (record { report = report; tails = tails }))
+    reported tails are_tails written = (lines_text ++ last_text ++ styled_report style report, whole_text, are_tails, put_both first after out (lines_text ++ last_text) (styled_report style report) all_before written)
 
     pub stopped_in : IsPartlyWritten after out (styled_report style report) → EndsShowing limits style first out came (Err stop.Write)
     stopped_in partly =

@@ -5,10 +5,10 @@ use Rattle.wsn_io.specs.Transfer.{Incoming, Outgoing, IsConsumed, IsKept}
 use Rattle.wsn_io.proofs.Received.{consumed_none, consumed_on, consumed_end, consumed_kept, received_of}
 use Rattle.wsn_io.proofs.PutTexts.{prints_nothing}
 use Rattle.wsn_rules.specs.Limits.{Limits}
-use Rattle.wsn_rules.specs.declared.report.Report.{Report}
 use Rattle.wsn_scan.specs.Refill.{chunk_size}
 use Rattle.wsn_print.specs.declared.style.Style.{Style}
 use Rattle.wsn_show.specs.Styles.{styled_line}
+use Rattle.wsn_capture.specs.declared.capture_report.CaptureReport.{CaptureReport}
 use Rattle.wsn_capture.specs.declared.line_fault.LineFault.{LineFault}
 use Rattle.wsn_capture.specs.declared.capture_stop.CaptureStop.TheVariants as capture
 use Rattle.wsn_capture.specs.CaptureLines.{count_of}
@@ -85,22 +85,22 @@ module _ (limits : Limits) (style : Style) (old mid new : Incoming) (first : Out
     at_once = λ is. cc;
   }
 
-  at_end : (result : Result Report ShowStop) (after : Outgoing) → IsAtEnd new.remaining → new.failed ≡ false
+  at_end : (result : Result CaptureReport ShowStop) (after : Outgoing) → IsAtEnd new.remaining → new.failed ≡ false
       → EndsShowing limits style first after read.came result → IsShowAnswer limits style new read.came first after result
-  at_end (Ok report) after ends unfailed (text, whole, written) = (text, whole, written, ends, unfailed)
+  at_end (Ok read) after ends unfailed (text, whole, tails, written) = (text, whole, tails, written, ends, unfailed)
   at_end (Err (stop.Capture (capture.Line number fault))) after ends unfailed (faulty, unfaulted_there, printed) =
       (inr (faulty, unfaulted_there, ends), unfailed, printed)
   at_end (Err (stop.Capture capture.Read)) after ends unfailed is = absurd is
   at_end (Err stop.Write) after ends unfailed is = (unfailed, is.0)
 
-  all_at_end : (result : Result Report ShowStop) (after : Outgoing) → EndsShowing limits style first after read.came result → result ≡ Err stop.Write
+  all_at_end : (result : Result CaptureReport ShowStop) (after : Outgoing) → EndsShowing limits style first after read.came result → result ≡ Err stop.Write
       → IsPrintedBut chunk_size limits style read.came first after
   all_at_end result after ends is =
-      let at_end = subst (λ (r : Result Report ShowStop). EndsShowing limits style first after read.came r) is ends in
+      let at_end = subst (λ (r : Result CaptureReport ShowStop). EndsShowing limits style first after read.came r) is ends in
       record { done = read.came; last = []; whole = sym (append-nil read.came); short = omega arith; printed = at_end.1 }
 
   -- the input ended
-  pub ended : (result : Result Report ShowStop) (after : Outgoing) → IsConsumed mid new [] → IsAtEnd new.remaining → new.failed ≡ false
+  pub ended : (result : Result CaptureReport ShowStop) (after : Outgoing) → IsConsumed mid new [] → IsAtEnd new.remaining → new.failed ≡ false
       → EndsShowing limits style first after read.came result → IsShown limits style old new first after result
   ended result after nothing ends unfailed is = record {
     came = read.came;
@@ -142,7 +142,7 @@ module _ (limits : Limits) (style : Style) (old mid new : Incoming) (first : Out
   within_piece piece stop.Write after size unfailed stops = (unfailed, stops.0)
 
   all_but_piece : (piece : List ℕ) (s : ShowStop) (after : Outgoing) → length piece ≤ 4096 → StopsWithin limits style first after read.came piece s
-      → (let answer : Result Report ShowStop = Err s in answer) ≡ Err stop.Write → IsPrintedBut chunk_size limits style (read.came ++ piece) first after
+      → (let answer : Result CaptureReport ShowStop = Err s in answer) ≡ Err stop.Write → IsPrintedBut chunk_size limits style (read.came ++ piece) first after
   all_but_piece piece (stop.Capture capture) after size stops is = cc
   all_but_piece piece stop.Write after size stops is =
       let but = stops.1 in

@@ -2,15 +2,16 @@
 use Rattle.std.specs.Prelude.{◌≡◌, ℕ, ◌+◌, ◌*◌, ◌-◌, true, Result, Ok, Err, List, [], ◌++◌, flat_map, length}
 use Rattle.wsn_io.specs.Transfer.{Outgoing, IsWritten, IsPartlyWritten}
 use Rattle.wsn_rules.specs.Limits.{Limits}
-use Rattle.wsn_rules.specs.declared.report.Report.{Report}
 use Rattle.wsn_rules.specs.Entries.{Entry}
 use Rattle.wsn_rules.specs.ShownCapture.{ShownLine, AreShownAfter}
 use Rattle.wsn_print.specs.declared.style.Style.{Style}
 use Rattle.wsn_show.specs.Styles.{styled_line}
+use Rattle.wsn_capture.specs.declared.capture_report.CaptureReport.{CaptureReport}
 use Rattle.wsn_capture.specs.declared.capture_stop.CaptureStop.TheVariants as capture
 use Rattle.wsn_capture.specs.LineFaults.{IsFaultAfter}
 use Rattle.wsn_capture.specs.CaptureLines.{count_of}
 use Rattle.wsn_capture.specs.LineSplitters.{HasPassedOn, IsStopWithin}
+use Rattle.wsn_capture.specs.Tails.{AreTails}
 use Rattle.wsn_capture.specs.CaptureAnswers.{begun_most, IsFaulty, IsUnfaulted}
 use Rattle.wsn_show.specs.declared.capture_view.CaptureView.{CaptureView}
 use Rattle.wsn_show.specs.declared.showing.ShowStop.{ShowStop}
@@ -73,9 +74,10 @@ pub record HasPrintedLines (limits : Limits) (style : Style) (first : Outgoing) 
   pub printed : IsWritten first now (flat_map (styled_line style) shown)
 
 -- The answer where the text ends, and what was printed of it.
-abbrev pub EndsShowing : Limits → Style → Outgoing → Outgoing → List ℕ → Result Report ShowStop → Type 0
-EndsShowing limits style first now came (Ok report) =
-    (text : List ℕ) × IsWholeText limits style came report text × IsWritten first now text
+abbrev pub EndsShowing : Limits → Style → Outgoing → Outgoing → List ℕ → Result CaptureReport ShowStop → Type 0
+EndsShowing limits style first now came (Ok read) =
+    (text : List ℕ) × (whole : IsWholeText limits style came read.report text) × AreTails limits whole.entries read.tails
+    × IsWritten first now text
 EndsShowing limits style first now came (Err (Capture (capture.Line number fault))) =
     IsFaulty limits came number fault × IsUnfaulted limits came × IsPrintedBefore limits style came number first now
 EndsShowing limits style first now came (Err (Capture capture.Read)) = ⊥

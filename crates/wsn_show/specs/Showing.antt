@@ -13,8 +13,10 @@ use Rattle.wsn_print.specs.declared.style.Style.{Style}
 use Rattle.wsn_show.specs.declared.ended_by.EndedBy.{EndedBy}
 use Rattle.wsn_show.specs.EndedBy.{IsEndedBy}
 use Rattle.wsn_show.specs.Styles.{styled_line, styled_capture}
+use Rattle.wsn_capture.specs.declared.capture_report.CaptureReport.{CaptureReport}
 use Rattle.wsn_capture.specs.declared.capture_stop.CaptureStop.TheVariants as capture
 use Rattle.wsn_capture.specs.LineFaults.{AreAcceptedLines}
+use Rattle.wsn_capture.specs.Tails.{AreTails}
 use Rattle.wsn_capture.specs.CaptureAnswers.{begun_most, IsUnfaulted, IsFaultReported}
 use Rattle.wsn_show.specs.declared.showing.ShowStop.{ShowStop}
 use Rattle.wsn_show.specs.declared.showing.ShowStop.TheVariants.{Capture, Write}
@@ -91,10 +93,10 @@ IsTextOf limits style came text =
     ⊎ ((report : Report) × IsWholeText limits style came report text)
 
 -- The answer fits the bytes that came, and this was printed of them. A report comes only at the end of an input.
-abbrev pub IsShowAnswer : Limits → Style → Incoming → List ℕ → Outgoing → Outgoing → Result Report ShowStop → Type 0
-IsShowAnswer limits style new came before after (Ok report) =
-    (text : List ℕ) × IsWholeText limits style came report text × IsWritten before after text × IsAtEnd new.remaining
-    × (new.failed ≡ false)
+abbrev pub IsShowAnswer : Limits → Style → Incoming → List ℕ → Outgoing → Outgoing → Result CaptureReport ShowStop → Type 0
+IsShowAnswer limits style new came before after (Ok read) =
+    (text : List ℕ) × (whole : IsWholeText limits style came read.report text) × AreTails limits whole.entries read.tails
+    × IsWritten before after text × IsAtEnd new.remaining × (new.failed ≡ false)
 IsShowAnswer limits style new came before after (Err (Capture (capture.Line number fault))) =
     IsFaultReported limits new came number fault × (new.failed ≡ false)
     × IsPrintedBefore limits style came number before after
@@ -106,7 +108,7 @@ IsShowAnswer limits style new came before after (Err Write) =
 -- These bytes came from the input, and the answer is right for them. After a failed write nothing more was read: all but
 -- at most the last chunk was shown.
 pub record IsShown (limits : Limits) (style : Style) (old new : Incoming) (before after : Outgoing)
-    (result : Result Report ShowStop) : Type 0 where
+    (result : Result CaptureReport ShowStop) : Type 0 where
   pub came : List ℕ
   pub received : IsReceived (1000001 * begun_most + 4095) old new came
   pub answer : IsShowAnswer limits style new came before after result

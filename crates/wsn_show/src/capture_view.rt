@@ -15,7 +15,7 @@ use crate::last_times::LastTimes;
 use crate::stream_view::StreamView;
 use crate::times::{CurrentTime, LINE_MAX};
 use std::io::Write;
-use wsn_capture::{BYTES_MAX, CaptureLines, LineEntry, LineFault, Report, strip_cr};
+use wsn_capture::{BYTES_MAX, CaptureLines, LineEntry, LineFault, Report, Tails, strip_cr};
 use wsn_io::{Output, put_line};
 use wsn_print::{EntryFront, Origin, Style};
 use wsn_rules::Limits;
@@ -41,6 +41,7 @@ impl CaptureView {
     ghost use Rattle.wsn_rules.specs.Reports.{IsReportOf};
     ghost use Rattle.wsn_capture.specs.CaptureLines.{HasAccepted, HasNotedCloses, count_of};
     ghost use Rattle.wsn_capture.specs.LineFaults.{IsFaultAfter};
+    ghost use Rattle.wsn_capture.specs.Tails.{AreTails};
     ghost use Rattle.wsn_print.specs.declared.style.Style.{Style};
     ghost use Rattle.wsn_show.specs.CaptureViews.{HasShownLines, IsShowingLines, AreViewed, CanShow, Shows, ShowsLine, LeavesAtEnd, SaysWhoEnded, Finishes};
 
@@ -124,6 +125,14 @@ impl CaptureView {
             .report(&self.client.verdict(), &self.server.verdict());
         self.put_who_ended(&report, output);
         report
+    }
+
+    /// The number of bytes that each endpoint sent after its Close.
+    pub fn tails(&self) -> Tails
+        ensures { (limits : Limits) (style : Style) (lines : List (List ℕ)) (entries : List Entry) →
+            HasShownLines limits style self.now lines entries → AreTails limits entries result }
+    {
+        Tails::of(&self.client.verdict(), &self.server.verdict())
     }
 
     /// Prints who ended the connection, if a stream ended without a Close.

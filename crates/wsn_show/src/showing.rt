@@ -11,7 +11,7 @@ ghost use Rattle.wsn_show.specs.PassedLines.{HasPrinted, HasPrintedLines, IsPrin
 
 use crate::capture_view::CaptureView;
 use std::io::{Read, Write};
-use wsn_capture::{BEGUN_MAX, BYTES_MAX, CaptureStop, Lines, Report};
+use wsn_capture::{BEGUN_MAX, BYTES_MAX, CaptureReport, CaptureStop, Lines};
 use wsn_io::{Input, Output};
 use wsn_print::{Style, put_report_as};
 use wsn_rules::Limits;
@@ -27,8 +27,9 @@ pub enum ShowStop {
 }
 
 /// Shows the capture on the input: prints what each line completes as soon as the line is whole, then what is left over
-/// of both streams, who ended the connection if a stream ended without a Close, and the report, which it returns. It
-/// reads chunks of at most [`CHUNK`] bytes. The limits apply to each endpoint's stream separately.
+/// of both streams, who ended the connection if a stream ended without a Close, and the report. It returns the report, and
+/// how many bytes each endpoint sent after its Close. It reads chunks of at most [`CHUNK`] bytes. The limits apply to each
+/// endpoint's stream separately.
 ///
 /// The error `Line` is the first line that isn't accepted; what the lines before it show is printed. It is returned once
 /// the line has ended or is too long whatever follows, with at most 4,095 bytes read after that byte. `Read` is a read
@@ -40,7 +41,7 @@ pub fn show<R: Read, W: Write>(
     output: &mut Output<W>,
     limits: Limits,
     style: Style,
-) -> Result<Report, ShowStop>
+) -> Result<CaptureReport, ShowStop>
     requires readable { input.old.failed ≡ false }
     requires writable { output.old.failed ≡ false }
     ensures { IsShown limits style input.old input.new output.old output.new result }
@@ -140,7 +141,7 @@ fn end<W: Write>(
     last: &[u8],
     bytes: &mut [u8; BYTES_MAX],
     output: &mut Output<W>,
-) -> Result<Report, ShowStop>
+) -> Result<CaptureReport, ShowStop>
     requires printing { IsPrinting view.old last.now output.old }
     requires few { count_of view.old.lines ≤ 1000000 }
     requires writable { output.old.failed ≡ false }
@@ -159,7 +160,7 @@ fn end<W: Write>(
 fn put_end_of_capture<W: Write>(
     view: &CaptureView,
     output: &mut Output<W>,
-) -> Result<Report, ShowStop>
+) -> Result<CaptureReport, ShowStop>
     requires writable { output.old.failed ≡ false }
     ensures { (limits : Limits) (style : Style) (first : Outgoing) (came : List ℕ) (lines : List (List ℕ)) →
         AreLines came lines → HasPrintedLines limits style first view.now lines output.old →
@@ -170,7 +171,10 @@ fn put_end_of_capture<W: Write>(
         return Err(ShowStop::Write);
     }
     match put_report_as(output, view.style().format, &report) {
-        Ok(()) => Ok(report),
+        Ok(()) => Ok(CaptureReport {
+            report,
+            tails: view.tails(),
+        }),
         Err(_) => Err(ShowStop::Write),
     }
 }

@@ -1,96 +1,36 @@
-use Rattle.std.proofs.Common.{◌≡◌, ◌≤◌, ℕ, Result, Err, length, take, refl, sym, ◌∙◌, subst, rules, arith, length-take-le, ap}
-use Rattle.std.proofs.lemmas.Result.{err_from_is_err_and}
-use Rattle.wsn_io.specs.Transfer.{IsConsumed}
-use Rattle.wsn_io.proofs.Received.{consumed_read}
+use Rattle.std.proofs.Common.{◌≡◌, Ok, Err, Result, refl, sym, ap, ◌∙◌, subst, rules}
 use Rattle.wsn_rules.specs.declared.report.Report.{Report}
+use Rattle.wsn_capture.specs.declared.capture_report.CaptureReport.{CaptureReport}
 use Rattle.wsn_capture.specs.declared.capture_stop.CaptureStop.{CaptureStop}
-use Rattle.wsn_capture.specs.CaptureAnswers.{IsCaptureJudged}
-use Rattle.wsn_capture.proofs.JudgedCaptures.{begins, stopped, ended, goes_on, faulty, failed_by, whole_answer}
+use Rattle.wsn_capture.specs.CaptureAnswers.{without_tails}
+use Rattle.wsn_capture.proofs.JudgedCaptures.{failed_alone}
 use Rattle.wsn_capture.proofs.judging.judge_capture.Goals as goal
 
-pub returns-in_default-clause-judged : goal.returns-in_default-clause-judged
-returns-in_default-clause-judged g c =
-    stopped c.args.limits c.args.input.now c.loop-count.input c.read.new.self c.loop-count.lines c.loop-count.invariant.read c.loop-count.invariant.few c.in_default.ensures.none.1 c.in_default.ensures.none.0
+pub read_capture-requires : goal.read_capture-requires
+read_capture-requires g c = search rules
 
-pub returns-then-count-eq0-clause-judged : goal.returns-then-count-eq0-clause-judged
-returns-then-count-eq0-clause-judged g c =
-    let read = c.loop-count.invariant.read in
-    let came = consumed_read c.loop-count.input c.read.new.self c.read.new.into c.in-Some.count c.in-Some.ensures.within c.in-Some.ensures.bytes c.in-Some.ensures.counted c.in-Some.ensures.readable in
-    let nothing = subst (λ (n : ℕ). IsConsumed c.loop-count.input c.read.new.self (take n c.read.new.into)) c.if-count-eq0.true came in
-    ended c.args.limits c.args.input.now c.loop-count.input c.read.new.self c.loop-count.lines read c.loop-count.invariant.few c.finish.result nothing
-    (c.in-Some.ensures.end c.if-count-eq0.true) (c.in-Some.ensures.some ∙ c.loop-count.invariant.unfailed) (c.finish.ensures c.args.limits read.came read.split)
+pub returns-in-Ok-clause-judged : goal.returns-in-Ok-clause-judged
+returns-in-Ok-clause-judged g c =
+    (c.read_capture.result, sym (ap without_tails c.in-Ok.is), c.read_capture.ensures.judged)
 
-pub returns-then-count-eq0-clause-whole : goal.returns-then-count-eq0-clause-whole
-returns-then-count-eq0-clause-whole g c all known unfailed =
-    whole_answer c.args.limits c.args.input.now c.read.new.self c.finish.result all known unfailed (returns-then-count-eq0-clause-judged g c)
+pub returns-in-Ok-clause-whole : goal.returns-in-Ok-clause-whole
+returns-in-Ok-clause-whole g c all known unfailed =
+    (c.read_capture.result, sym (ap without_tails c.in-Ok.is), c.read_capture.ensures.whole all known unfailed)
 
-pub returns-then-count-eq0-clause-failed : goal.returns-then-count-eq0-clause-failed
-returns-then-count-eq0-clause-failed g c = failed_by c.args.limits c.args.input.now c.read.new.self c.finish.result (returns-then-count-eq0-clause-judged g c)
+pub returns-in-Ok-clause-failed : goal.returns-in-Ok-clause-failed
+returns-in-Ok-clause-failed g c =
+    failed_alone c.args.limits c.args.input.now c.read_capture.new.input (Ok c.in-Ok.field-0.report) c.read_capture.result
+    (sym (ap without_tails c.in-Ok.is)) c.read_capture.ensures.failed
 
-pub loop-count-preserved : goal.loop-count-preserved
-loop-count-preserved g c =
-    let read = c.loop-count.invariant.read in
-    record {
-      read = goes_on c.args.limits c.args.input.now c.loop-count.input c.read.new.self c.loop-count.lines read c.loop-count.invariant.few (take c.in-Some.count c.read.new.into) c.take.new.self
-          (consumed_read c.loop-count.input c.read.new.self c.read.new.into c.in-Some.count c.in-Some.ensures.within c.in-Some.ensures.bytes c.in-Some.ensures.counted c.in-Some.ensures.readable) (c.in_ok-take.ensures.split c.args.limits read.came read.split);
-      unfailed = c.in-Some.ensures.some ∙ c.loop-count.invariant.unfailed;
-      few = c.in_ok-take.ensures.few;
-      short = c.in_ok-take.ensures.short;
-      size = omega (arith, c.read.auto.into);
-    }
+pub returns-in-Err-clause-judged : goal.returns-in-Err-clause-judged
+returns-in-Err-clause-judged g c =
+    (c.read_capture.result, sym (ap without_tails c.in-Err.is), c.read_capture.ensures.judged)
 
-pub returns-in_err-take-clause-judged : goal.returns-in_err-take-clause-judged
-returns-in_err-take-clause-judged g c =
-    let read = c.loop-count.invariant.read in
-    let out = err_from_is_err_and c.from_residual.result c.from_residual.ensures.1 in
-    let is : c.from_residual.result ≡ Err c.in_err-take.field-0.0 = out.1 ∙ ap Err out.2 in
-    let size : length (take c.in-Some.count c.read.new.into) ≤ 4096 = omega (arith, length-take-le c.in-Some.count c.read.new.into c.in-Some.ensures.within, c.in-Some.ensures.within, c.read.auto.into) in
-    subst (λ (r : Result Report CaptureStop). IsCaptureJudged c.args.limits c.args.input.now c.read.new.self r) (sym is)
-    (faulty c.args.limits c.args.input.now c.loop-count.input c.read.new.self c.loop-count.lines read c.loop-count.invariant.few (take c.in-Some.count c.read.new.into) c.in_err-take.field-0.0
-    (consumed_read c.loop-count.input c.read.new.self c.read.new.into c.in-Some.count c.in-Some.ensures.within c.in-Some.ensures.bytes c.in-Some.ensures.counted c.in-Some.ensures.readable) size (c.in-Some.ensures.some ∙ c.loop-count.invariant.unfailed) (c.in_err-take.ensures.stop c.args.limits read.came read.split))
+pub returns-in-Err-clause-whole : goal.returns-in-Err-clause-whole
+returns-in-Err-clause-whole g c all known unfailed =
+    (c.read_capture.result, sym (ap without_tails c.in-Err.is), c.read_capture.ensures.whole all known unfailed)
 
-pub returns-in_err-take-clause-whole : goal.returns-in_err-take-clause-whole
-returns-in_err-take-clause-whole g c all known unfailed =
-    whole_answer c.args.limits c.args.input.now c.read.new.self c.from_residual.result all known unfailed (returns-in_err-take-clause-judged g c)
-
-pub returns-in_err-take-clause-failed : goal.returns-in_err-take-clause-failed
-returns-in_err-take-clause-failed g c = failed_by c.args.limits c.args.input.now c.read.new.self c.from_residual.result (returns-in_err-take-clause-judged g c)
-
-pub loop-count-init : goal.loop-count-init
-loop-count-init g c = record {
-  read = begins c.args.limits c.args.input.now c.new-lines.result c.new-lines.ensures.split;
-  unfailed = c.requires;
-  few = c.new-lines.ensures.few;
-  short = c.new-lines.ensures.short;
-  size = refl;
-}
-
-pub slice_bounds-read-end : goal.slice_bounds-read-end
-slice_bounds-read-end g c = search rules
-
-pub read-requires : goal.read-requires
-read-requires g c = search rules
-
-pub returns-in_default-clause-whole : goal.returns-in_default-clause-whole
-returns-in_default-clause-whole g c = search rules
-
-pub returns-in_default-clause-failed : goal.returns-in_default-clause-failed
-returns-in_default-clause-failed g c = search rules
-
-pub finish-requires : goal.finish-requires
-finish-requires g c = search rules
-
-pub slice_bounds-piece-end : goal.slice_bounds-piece-end
-slice_bounds-piece-end g c = search rules
-
-pub slice_bounds-take-end : goal.slice_bounds-take-end
-slice_bounds-take-end g c = search rules
-
-pub take-requires-clause-few : goal.take-requires-clause-few
-take-requires-clause-few g c = search rules
-
-pub take-requires-clause-short : goal.take-requires-clause-short
-take-requires-clause-short g c = search rules
-
-pub loop-count-smaller : goal.loop-count-smaller
-loop-count-smaller g c = search rules
+pub returns-in-Err-clause-failed : goal.returns-in-Err-clause-failed
+returns-in-Err-clause-failed g c =
+    failed_alone c.args.limits c.args.input.now c.read_capture.new.input (Err c.in-Err.stop) c.read_capture.result
+    (sym (ap without_tails c.in-Err.is)) c.read_capture.ensures.failed

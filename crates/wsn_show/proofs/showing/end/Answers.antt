@@ -1,6 +1,6 @@
 use Rattle.std.proofs.Common.{◌≡◌, Result, Err, sym, ap, ◌∙◌, subst}
 use Rattle.std.proofs.lemmas.Result.{err_from_is_err_and}
-use Rattle.wsn_rules.specs.declared.report.Report.{Report}
+use Rattle.wsn_capture.specs.declared.capture_report.CaptureReport.{CaptureReport}
 use Rattle.wsn_capture.proofs.SplitLines.{empty_is}
 use Rattle.wsn_show.specs.declared.showing.ShowStop.{ShowStop}
 use Rattle.wsn_show.specs.PassedLines.{EndsShowing}
@@ -20,7 +20,7 @@ returns-in_err-show_line g c limits style first came has =
     let out = err_from_is_err_and c.from_residual.result c.from_residual.ensures.1 in
     let is : c.from_residual.result ≡ Err c.in_err-show_line.field-0.0 = out.1 ∙ ap Err out.2 in
     let some = some_text c.args.last.now (sym c.is_empty.ensures ∙ c.if-is_empty.false) in
-    subst (λ (r : Result Report ShowStop). EndsShowing limits style first c.show_line.new.output came r) (sym is)
+    subst (λ (r : Result CaptureReport ShowStop). EndsShowing limits style first c.show_line.new.output came r) (sym is)
     (last_stops limits style first c.args.view.now c.args.last.now c.args.output.now came has some c.show_line.new.view c.show_line.new.output c.in_err-show_line.field-0.0
     (c.in_err-show_line.ensures.stop limits style has.lines has.entries has.has_shown))
 

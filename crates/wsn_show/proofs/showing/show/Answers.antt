@@ -2,7 +2,7 @@ use Rattle.std.proofs.Common.{◌≡◌, ◌≤◌, ℕ, List, [], Result, Err, 
 use Rattle.std.proofs.lemmas.Result.{err_from_is_err_and}
 use Rattle.wsn_io.specs.Transfer.{IsConsumed}
 use Rattle.wsn_io.proofs.Received.{consumed_read}
-use Rattle.wsn_rules.specs.declared.report.Report.{Report}
+use Rattle.wsn_capture.specs.declared.capture_report.CaptureReport.{CaptureReport}
 use Rattle.wsn_show.specs.declared.showing.ShowStop.{ShowStop}
 use Rattle.wsn_show.specs.Showing.{IsShown}
 use Rattle.wsn_show.specs.PassedLines.{HasPrinted, IsPrinting}
@@ -99,7 +99,7 @@ returns-in_err-show_piece g c =
     let out = err_from_is_err_and c.from_residual.result c.from_residual.ensures.1 in
     let is : c.from_residual.result ≡ Err c.in_err-show_piece.field-0.0 = out.1 ∙ ap Err out.2 in
     let size : length (take c.in-Some.count c.read.new.into) ≤ 4096 = omega (arith, length-take-le c.in-Some.count c.read.new.into c.in-Some.ensures.within, c.in-Some.ensures.within, c.read.auto.into) in
-    subst (λ (r : Result Report ShowStop). IsShown c.args.limits c.args.style c.args.input.now c.read.new.self c.args.output.now c.show_piece.new.output r) (sym is)
+    subst (λ (r : Result CaptureReport ShowStop). IsShown c.args.limits c.args.style c.args.input.now c.read.new.self c.args.output.now c.show_piece.new.output r) (sym is)
     (stops_here c.args.limits c.args.style c.args.input.now c.loop-count.input c.read.new.self c.args.output.now c.loop-count.capture c.loop-count.lines c.loop-count.output
     inv.read inv.few (take c.in-Some.count c.read.new.into) c.in_err-show_piece.field-0.0 c.show_piece.new.output
     (consumed_read c.loop-count.input c.read.new.self c.read.new.into c.in-Some.count c.in-Some.ensures.within c.in-Some.ensures.bytes c.in-Some.ensures.counted c.in-Some.ensures.readable) size (c.in-Some.ensures.some ∙ inv.unfailed)

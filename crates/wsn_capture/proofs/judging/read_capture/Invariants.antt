@@ -2,7 +2,7 @@ use Rattle.std.proofs.Common.{◌≡◌, ◌≤◌, ◌<◌, false, length}
 use Rattle.wsn_capture.specs.CaptureLines.{count_of}
 use Rattle.wsn_capture.specs.LineSplitters.{bytes_left}
 use Rattle.wsn_capture.proofs.JudgedCaptures.{HasRead}
-use Rattle.wsn_capture.proofs.judging.judge_capture.Given as goal
+use Rattle.wsn_capture.proofs.judging.read_capture.Given as goal
 
 -- all bytes that came are consumed, and no read has failed
 abbrev pub invariant-loop-count : goal.invariant-loop-count
