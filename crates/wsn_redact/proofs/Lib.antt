@@ -27,3 +27,7 @@ pub mod PayloadsAlike
 pub mod HeadsAlike
 pub mod RefusedStays
 pub mod CutStays
+pub mod SameVerdicts
+pub mod TwiceIsOnce
+pub mod AlikeRedactions
+pub mod KindsOfBytes
