@@ -31,3 +31,4 @@ pub mod SameVerdicts
 pub mod TwiceIsOnce
 pub mod AlikeRedactions
 pub mod KindsOfBytes
+pub mod RedactionsAlike

@@ -2,6 +2,7 @@
 
 ghost use Rattle.std.specs.Prelude.{◌≡◌, ℕ, List};
 ghost use Rattle.wsn_wire.specs.declared.endpoint.Role.{Role};
+ghost use Rattle.wsn_wire.specs.Frame.{IsBytes};
 ghost use Rattle.wsn_rules.specs.Limits.{Limits};
 ghost use Rattle.wsn_redact.specs.StandIns.{IsRedacted};
 ghost use Rattle.wsn_redact.specs.Redaction.{IsRedaction};
@@ -15,4 +16,14 @@ pub fn law_alike_streams_have_one_redaction()
     ensures streams { (role : Role) (limits : Limits) (bytes other redacted other_redacted : List ℕ) →
         AreAlike role limits bytes other → IsRedaction role limits bytes redacted →
         IsRedaction role limits other other_redacted → redacted ≡ other_redacted }
+{}
+
+/// Streams with one redaction are alike, and so are texts. So a stream and its redaction are alike: all that `AreAlike`
+/// says of two streams holds of them.
+pub fn law_streams_with_one_redaction_are_alike()
+    ensures texts { (text other redacted : List ℕ) → IsRedacted text redacted → IsRedacted other redacted →
+        AreAlikeTexts text other }
+    ensures streams { (role : Role) (limits : Limits) (bytes other redacted : List ℕ) → IsBytes bytes → IsBytes other →
+        IsRedaction role limits bytes redacted → IsRedaction role limits other redacted →
+        AreAlike role limits bytes other }
 {}
