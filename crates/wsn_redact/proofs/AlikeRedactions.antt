@@ -57,6 +57,10 @@ first_low b to = grind (arith, common_steps)
 low_alike : (b c : ℕ) → b ≤ 0x7F → c ≤ 0x7F → single_stand_in b ≡ single_stand_in c → stand_in b ≡ stand_in c
 low_alike b c b_low c_low same = first_low b b_low ∙ ap (λ (x : ℕ). x ∷ []) same ∙ sym (first_low c c_low)
 
+-- The stand-in of a small letter.
+pub letter_alone : (b : ℕ) → IsIn ((0x61 – 0x7A) ∷ []) b → stand_in b ≡ 0x78 ∷ []
+letter_alone b is = let x = in_one (0x61 – 0x7A) b is in let to = x.1 in first_low b (omega (arith, to)) ∙ ap (λ (y : ℕ). y ∷ []) (single_small b x.0 x.1)
+
 three : (b : ℕ) → IsIn ((0xE1 – 0xEC) ∷ (0xEE – 0xEF) ∷ []) b → stand_in b ≡ 0xE2 ∷ 0x82 ∷ 0xAC ∷ []
 three b (inl is) = row_e1 b is.0 is.1
 three b (inr (inl is)) = row_ee b is.0 is.1

@@ -32,3 +32,4 @@ pub mod TwiceIsOnce
 pub mod AlikeRedactions
 pub mod KindsOfBytes
 pub mod RedactionsAlike
+pub mod ComputedAlike

@@ -32,6 +32,7 @@ use Rattle.wsn_redact.proofs.KeptParts.{MayBegin}
 use Rattle.wsn_redact.proofs.RedactedSteps.{may_begun, may_lawful}
 use Rattle.wsn_redact.proofs.QuietPayloads.{group_begins}
 use Rattle.wsn_redact.proofs.RedactedVerdicts.{SameGroup, none_same, redacted_frame, same_after, frames_stay_lawful, no_close_stays, close_stays}
+use Rattle.wsn_redact.proofs.AcceptedTwice.{frames_twice}
 use Rattle.wsn_redact.proofs.TextsStay.{begins_alike}
 use Rattle.wsn_redact.proofs.PayloadsAlike.{body_of}
 use Rattle.wsn_redact.proofs.RefusedStays.{wire_twice}
@@ -396,13 +397,11 @@ module _ (role : Role) (limits : Limits) where
         opens = no_close_stays fs;
       }
 
-  -- The frames and the verdict of both are given to the redaction.
-  pub one_redaction_alike : (bytes other redacted : List ℕ) → IsBytes bytes → IsBytes other → IsRedaction role limits bytes redacted → IsRedaction role limits other redacted → AreAlike role limits bytes other
-  one_redaction_alike bytes other redacted in_bytes other_bytes r s =
+  -- The redaction has the same verdict as each.
+  alike_by : (bytes other redacted : List ℕ) (r : IsRedaction role limits bytes redacted) (s : IsRedaction role limits other redacted) → IsVerdict role limits redacted (redacted_frames [] r.frames) r.verdict → IsVerdict role limits redacted (redacted_frames [] s.frames) s.verdict → AreAlike role limits bytes other
+  alike_by bytes other redacted r s mine its =
       let fs = r.frames in
       let gs = s.frames in
-      let mine = verdict_stays role limits bytes redacted fs r.verdict in_bytes r.is_verdict r in
-      let its = verdict_stays role limits other redacted gs s.verdict other_bytes s.is_verdict s in
       let same = one_verdict role limits redacted (redacted_frames [] fs) (redacted_frames [] gs) r.verdict s.verdict mine its in
       let x = parts_of bytes redacted r in
       let y = subst (λ (v : Verdict). HasParts other redacted gs (redacted_frames [] fs) v) (sym same.1) (subst (λ (hs : List Frame). HasParts other redacted gs hs s.verdict) (sym same.0) (parts_of other redacted s)) in
@@ -420,6 +419,16 @@ module _ (role : Role) (limits : Limits) where
             x.closes y.closes x.opens y.opens x.is_rest y.is_rest;
       }
 
+  pub one_redaction_alike : (bytes other redacted : List ℕ) → IsBytes bytes → IsBytes other → IsRedaction role limits bytes redacted → IsRedaction role limits other redacted → AreAlike role limits bytes other
+  one_redaction_alike bytes other redacted in_bytes other_bytes r s =
+      alike_by bytes other redacted r s (verdict_stays role limits bytes redacted r.frames r.verdict in_bytes r.is_verdict r) (verdict_stays role limits other redacted s.frames s.verdict other_bytes s.is_verdict s)
+
   -- A stream and its redaction are alike.
-  pub redaction_is_alike : (bytes redacted : List ℕ) → IsBytes bytes → IsBytes redacted → IsRedaction role limits bytes redacted → AreAlike role limits bytes redacted
-  redaction_is_alike bytes redacted in_bytes redacted_bytes r = one_redaction_alike bytes redacted redacted in_bytes redacted_bytes r (redaction_twice role limits bytes redacted in_bytes r)
+  pub redaction_is_alike : (bytes redacted : List ℕ) → IsBytes bytes → IsRedaction role limits bytes redacted → AreAlike role limits bytes redacted
+  redaction_is_alike bytes redacted in_bytes r =
+      let s = redaction_twice role limits bytes redacted in_bytes r in
+      let mine = verdict_stays role limits bytes redacted r.frames r.verdict in_bytes r.is_verdict r in
+      let lawful = (all_of_verdict role limits bytes r.frames r.verdict r.is_verdict).lawful in
+      let same : s.frames ≡ redacted_frames [] r.frames = (one_verdict role limits redacted s.frames (redacted_frames [] r.frames) s.verdict r.verdict s.is_verdict mine).0 in
+      let again : redacted_frames [] s.frames ≡ s.frames = ap (λ (hs : List Frame). redacted_frames [] hs) same ∙ frames_twice role limits [] [] r.frames lawful none_same ∙ sym same in
+      alike_by bytes redacted redacted r s mine (subst (λ (hs : List Frame). IsVerdict role limits redacted hs s.verdict) (sym again) s.is_verdict)
