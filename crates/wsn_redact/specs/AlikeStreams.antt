@@ -1,5 +1,5 @@
 -- Streams that differ only in what was said: in the letters, digits and longer characters of texts, in the payloads of
--- binary messages, pings and pongs, and in the bytes after their end. Nothing here names a redaction. RFC 6455 sections
+-- binary messages, pings and pongs, and in the bytes after their end. Nothing here speaks of redactions. RFC 6455 sections
 -- 5.2 to 5.6, 7.1 and 8.1.
 use Rattle.std.specs.Prelude.{◌≡◌, ℕ, ◌≤◌, ◌⊎◌, ⊤, Bool, true, false, List, [], ◌∷◌, ◌++◌, length, take, drop}
 use Rattle.std.specs.List.{concat}
