@@ -11,7 +11,6 @@ pub mod RedactedInputs
 pub mod QuietPayloads
 pub mod EveryRedaction
 pub mod OneRedactedCapture
-pub mod LeftOutValues
 pub mod LineParts
 pub mod RedactedLines
 pub mod PassedRedactions

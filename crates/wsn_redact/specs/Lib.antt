@@ -3,6 +3,7 @@ pub mod StandIns
 pub mod Redaction
 pub mod Redacting
 -- the redaction of a capture
+pub mod ExtensionNames
 pub mod RedactedCaptures
 pub mod CaptureRedactors
 pub mod RedactingCaptures
