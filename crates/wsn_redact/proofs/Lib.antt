@@ -26,3 +26,9 @@ pub mod PayloadsAlike
 pub mod HeadsAlike
 pub mod RefusedStays
 pub mod CutStays
+pub mod RedactedBytes
+pub mod PlainEnds
+pub mod RedactedEntries
+pub mod SameReports
+pub mod SameLines
+pub mod CapturesTwice

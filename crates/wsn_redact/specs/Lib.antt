@@ -5,6 +5,7 @@ pub mod Redacting
 -- the redaction of a capture
 pub mod ExtensionNames
 pub mod RedactedCaptures
+pub mod AlikeLines
 pub mod CaptureRedactors
 pub mod RedactingCaptures
 pub mod PassedRedactions
