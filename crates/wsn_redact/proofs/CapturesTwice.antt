@@ -7,11 +7,8 @@ use Rattle.hex.specs.Hex.{lower_digits, encode_lower}
 use Rattle.hex.proofs.HexLemmas.{length-encode_with, decode_of-ok}
 use Rattle.wsn_wire.specs.declared.endpoint.Role.{Role}
 use Rattle.wsn_wire.specs.declared.endpoint.Role.TheVariants.{Client, Server}
-use Rattle.wsn_wire.specs.Frame.{Frame}
 use Rattle.wsn_rules.specs.Limits.{Limits}
-use Rattle.wsn_rules.specs.Accepted.{IsAccepted}
-use Rattle.wsn_rules.proofs.OneEntry.{same_entries}
-use Rattle.wsn_redact.proofs.AcceptedTwice.{accepted_twice}
+use Rattle.wsn_redact.proofs.TwiceIsOnce.{redaction_twice}
 use Rattle.wsn_rules.specs.Entries.{Entry, without_cr, bytes_prefix, end_mark, GivesEntry, AreEntries}
 use Rattle.wsn_rules.specs.Entries.Entry.{Nothing, Bytes, Mark}
 use Rattle.wsn_rules.specs.Sides.{bytes_in, sent, has_ended}
@@ -21,11 +18,10 @@ use Rattle.wsn_capture.proofs.ComputedFaults.{takes_nothing, takes_bytes, takes_
 use Rattle.wsn_redact.specs.declared.extension_names.Within.{Within}
 use Rattle.wsn_redact.specs.declared.extension_names.Within.TheVariants.{Name, Value, Quoted, Escaped}
 use Rattle.wsn_redact.specs.ExtensionNames.{is_separator, is_of_names, within_after, is_kept, names_in}
-use Rattle.wsn_redact.specs.Redaction.{IsRedaction}
 use Rattle.wsn_redact.specs.RedactedCaptures.{extensions_prefix, Stays, SaysElse, IsRedactedNothing, IsRedactedText, cr_of, IsRedactedLine, AreRedactedLines, IsRedactedCapture}
 use Rattle.wsn_redact.specs.AlikeLines.{IsAlike, AreAlike}
 use Rattle.wsn_redact.proofs.OneRedactedCapture.{no_time, no_reset}
-use Rattle.wsn_redact.proofs.RedactedEntries.{HasBytes, AllBytes, first_bytes, other_bytes, line_text, line_facts, RedactedTextFacts, text_alike, entries_given, others_bytes, others_given, ended_alike, sizes_alike}
+use Rattle.wsn_redact.proofs.RedactedEntries.{HasBytes, AllBytes, first_bytes, other_bytes, line_text, line_facts, RedactedTextFacts, text_alike, entries_given, all_bytes, others_bytes, others_given, ended_alike, sizes_alike}
 use Rattle.wsn_redact.proofs.PlainEnds.{same_cr}
 use Rattle.wsn_redact.proofs.SameLines.{hash_gives, hash_resets}
 
@@ -303,19 +299,11 @@ module _ (limits : Limits) where
   pub redacted_accepted : (lines redacted : List (List ℕ)) (c : IsRedactedCapture limits lines redacted) → AreAcceptedLines limits redacted c.others
   redacted_accepted lines redacted c = lines_accepted [] [] lines c.entries c.others redacted tt (others_bytes limits lines redacted c) c.taken c.each
 
-  -- Twice is once, if it is of both streams.
-  pub capture_twice : (lines redacted : List (List ℕ)) (c : IsRedactedCapture limits lines redacted) → ((role : Role) → IsRedaction role limits (sent role c.others) (sent role c.others)) → IsRedactedCapture limits redacted redacted
-  capture_twice lines redacted c streams = record {
+  pub capture_twice : (lines redacted : List (List ℕ)) → IsRedactedCapture limits lines redacted → IsRedactedCapture limits redacted redacted
+  capture_twice lines redacted c = record {
     entries = c.others;
     taken = redacted_accepted lines redacted c;
     others = c.others;
     each = lines_twice lines c.entries c.others redacted (entries_given limits lines redacted c) (others_bytes limits lines redacted c) c.each;
-    streams = streams;
+    streams = λ role. redaction_twice role limits (sent role c.entries) (sent role c.others) (all_bytes limits lines redacted c role) (c.streams role);
   }
-
-  pub accepted_capture_twice : (lines redacted : List (List ℕ)) (entries : List Entry) → AreEntries lines entries → ((role : Role) → (fs : List Frame) × IsAccepted role limits (sent role entries) fs) → IsRedactedCapture limits lines redacted
-      → IsRedactedCapture limits redacted redacted
-  accepted_capture_twice lines redacted entries given accepted c =
-      let same : entries ≡ c.entries = same_entries lines entries c.entries given (entries_given limits lines redacted c) in
-      capture_twice lines redacted c
-      (λ role. let one = subst (λ (es : List Entry). (fs : List Frame) × IsAccepted role limits (sent role es) fs) same (accepted role) in accepted_twice role limits (sent role c.entries) (sent role c.others) one.0 one.1 (c.streams role))

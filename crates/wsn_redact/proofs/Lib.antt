@@ -26,6 +26,10 @@ pub mod PayloadsAlike
 pub mod HeadsAlike
 pub mod RefusedStays
 pub mod CutStays
+pub mod SameVerdicts
+pub mod TwiceIsOnce
+pub mod AlikeRedactions
+pub mod KindsOfBytes
 pub mod RedactedBytes
 pub mod PlainEnds
 pub mod RedactedEntries

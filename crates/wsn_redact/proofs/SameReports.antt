@@ -1,109 +1,42 @@
 -- The report on a capture and that on its redaction are the same.
-use Rattle.std.proofs.Common.{◌≡◌, ℕ, suc, ◌+◌, ◌-◌, ◌<◌, ◌≤◌, ◌↔◌, Bool, Option, None, Some, List, [], ◌∷◌, ◌++◌, length, take, drop, inl, inr, refl, sym, ap, ◌∙◌, subst, append_assoc, arith}
-use Rattle.std.specs.Int.{to_be_bytes, w16}
-use Rattle.std.specs.Prelude.{if◌then◌else◌}
+use Rattle.std.proofs.Common.{◌≡◌, ℕ, suc, ◌-◌, ◌<◌, ◌≤◌, ◌↔◌, Bool, Option, None, Some, List, [], length, inl, inr, refl, sym, ap, ◌∙◌, subst, arith}
 use Rattle.wsn_wire.specs.declared.endpoint.Role.{Role}
 use Rattle.wsn_wire.specs.declared.endpoint.Role.TheVariants.{Client, Server}
-use Rattle.wsn_wire.specs.declared.opcode.Op.{Op}
-use Rattle.wsn_wire.specs.declared.opcode.Op.TheVariants.{Continue, Text, Binary, Close, Ping, Pong}
 use Rattle.wsn_wire.specs.Frame.{Frame, IsBytes, stream}
-use Rattle.wsn_text.specs.CloseBody.{IsCloseBody}
-use Rattle.wsn_rules.specs.declared.verdict.Summary.{Summary}
 use Rattle.wsn_rules.specs.declared.verdict.Verdict.{Verdict}
 use Rattle.wsn_rules.specs.declared.verdict.Verdict.TheVariants.{Accepted, Cut, Refused}
 use Rattle.wsn_rules.specs.declared.report.Side.{Side}
 use Rattle.wsn_rules.specs.declared.report.Report.{Report}
 use Rattle.wsn_rules.specs.Limits.{Limits}
-use Rattle.wsn_rules.specs.Group.{unfinished}
 use Rattle.wsn_rules.specs.Lawful.{IsLawful}
 use Rattle.wsn_rules.specs.Accepted.{HasNoClose, EndsWithClose, IsAccepted}
-use Rattle.wsn_rules.specs.Summary.{is_close, close_code, close_of, counted}
+use Rattle.wsn_rules.specs.Summary.{counted}
 use Rattle.wsn_rules.specs.Verdict.{IsVerdict}
 use Rattle.wsn_rules.specs.Entries.{Entry, AreEntries}
-use Rattle.wsn_rules.specs.Sides.{sent, has_ended, accepted_side, side_of, IsSide}
+use Rattle.wsn_rules.specs.Sides.{sent, has_ended, side_of, IsSide}
 use Rattle.wsn_rules.specs.Reports.{ClosesIn, IsFirst, other_endpoint, IsOutcome, IsReportOf, IsReport}
 use Rattle.wsn_rules.proofs.OneEntry.{same_entries}
-use Rattle.wsn_rules.proofs.OneReport.{same_accepted}
 use Rattle.wsn_rules.proofs.OneVerdict.{one_verdict}
-use Rattle.wsn_redact.specs.StandIns.{stood}
-use Rattle.wsn_redact.specs.Redaction.{redacted_payload, redacted_frames, IsRedaction}
+use Rattle.wsn_redact.specs.Redaction.{redacted_frames, IsRedaction}
 use Rattle.wsn_redact.specs.RedactedCaptures.{IsRedactedCapture}
 use Rattle.wsn_redact.specs.AlikeLines.{AreAlike}
 use Rattle.wsn_redact.proofs.OneRedaction.{frames_length}
 use Rattle.wsn_redact.proofs.RedactedPayloads.{are_redacted}
 use Rattle.wsn_redact.proofs.RedactedVerdicts.{no_close_stays, close_stays, stays_accepted}
-use Rattle.wsn_redact.proofs.CutStays.{cut_stays}
-use Rattle.wsn_redact.proofs.RefusedStays.{refused_stays}
+use Rattle.wsn_redact.proofs.SameVerdicts.{verdict_stays}
 use Rattle.wsn_redact.proofs.RedactedEntries.{AllBytes, entries_given, all_bytes, others_given, others_alike, ended_alike, sent_alike}
-
--- ---- the code of a Close
-
-body_code : (body : List ℕ) → IsCloseBody body → close_code (take 2 body ++ stood [] (drop 2 body)) ≡ close_code body
-body_code body (inl none) = ap (λ (bs : List ℕ). close_code (take 2 bs ++ stood [] (drop 2 bs))) none ∙ sym (ap close_code none)
-body_code body (inr (code, reason, accepted, text, is)) =
-    ap (λ (bs : List ℕ). close_code (take 2 bs ++ stood [] (drop 2 bs))) is ∙ sym (ap close_code is)
-
-either_code : (op : Op) (one other : List ℕ) (a b : Option (Option ℕ)) → (op ≡ Close → close_code one ≡ close_code other) → a ≡ b
-    → (if is_close op then Some (close_code one) else a) ≡ (if is_close op then Some (close_code other) else b)
-either_code Close one other a b same rest = ap (λ (c : Option ℕ). Some c) (same refl)
-either_code Continue one other a b same rest = rest
-either_code Text one other a b same rest = rest
-either_code Binary one other a b same rest = rest
-either_code Ping one other a b same rest = rest
-either_code Pong one other a b same rest = rest
-
-module _ (role : Role) (limits : Limits) where
-  pub codes_stay : (before fs : List Frame) → IsLawful role limits (before ++ fs) → close_of (redacted_frames before fs) ≡ close_of fs
-  codes_stay before [] lawful = refl
-  codes_stay before (f ∷ fs) lawful =
-      let law = lawful.each before fs f refl in
-      let rest = codes_stay (before ++ f ∷ []) fs (subst (IsLawful role limits) (sym (append_assoc before (f ∷ []) fs)) lawful) in
-      either_code f.op (redacted_payload (unfinished before) f.op f.payload) f.payload (close_of (redacted_frames (before ++ f ∷ []) fs)) (close_of fs)
-      (λ is. ap (λ (op : Op). close_code (redacted_payload (unfinished before) op f.payload)) is ∙ body_code f.payload (law.frame.close is)) rest
 
 -- ---- a side
 
 module _ (role : Role) (limits : Limits) (x y : List ℕ) (in_bytes : IsBytes x) (d : IsRedaction role limits x y) where
-  -- The redaction's verdict gives the same side.
-  pub record SideStays (v : Verdict) : Type 0 where
-    pub frames : List Frame
-    pub verdict : Verdict
-    pub is : IsVerdict role limits y frames verdict
-    pub same : (ended : Bool) → side_of verdict ended ≡ side_of v ended
-
-  side_stays : (fs : List Frame) (v : Verdict) → IsVerdict role limits x fs v → SideStays v
-  side_stays fs (Accepted s) is =
-      let gs = redacted_frames [] fs in
-      let closes : close_of gs ≡ s.close = codes_stay role limits [] fs is.0.lawful ∙ sym (ap (λ (t : Summary). t.close) is.1) in
-      record {
-        frames = gs;
-        verdict = Accepted (counted gs (length (stream gs)) (length y - length (stream gs)));
-        is = (stays_accepted role limits x y fs is.0 d, refl);
-        same = λ ended. ap (λ (c : Option (Option ℕ)). accepted_side c ended) closes;
-      }
-  side_stays fs (Cut s) is =
-      let gs = redacted_frames [] fs in
-      record {
-        frames = gs;
-        verdict = Cut (counted gs (length y) 0);
-        is = (cut_stays role limits x y fs is.0 d, refl);
-        same = λ ended. refl;
-      }
-  side_stays fs (Refused r) is = record {
-    frames = redacted_frames [] fs;
-    verdict = Refused r;
-    is = refused_stays role limits x y fs r.place r.reason in_bytes is d;
-    same = λ ended. refl;
-  }
-
   pub side_on : (ended : Bool) (side : Side) → IsSide role limits x ended side → IsSide role limits y ended side
-  side_on ended side is = let s = side_stays is.0 is.1 is.2 in (s.frames, s.verdict, s.is, is.3 ∙ sym (s.same ended))
+  side_on ended side is = (redacted_frames [] is.0, is.1, verdict_stays role limits x y is.0 is.1 in_bytes is.2 d, is.3)
 
   pub side_back : (ended : Bool) (side : Side) → IsSide role limits y ended side → IsSide role limits x ended side
   side_back ended side is =
-      let s = side_stays d.frames d.verdict d.is_verdict in
-      let one : s.verdict ≡ is.1 = (one_verdict role limits y s.frames is.0 s.verdict is.1 s.is is.2).1 in
-      (d.frames, d.verdict, d.is_verdict, is.3 ∙ ap (λ (v : Verdict). side_of v ended) (sym one) ∙ s.same ended)
+      let stays = verdict_stays role limits x y d.frames d.verdict in_bytes d.is_verdict d in
+      let same : is.1 ≡ d.verdict = (one_verdict role limits y is.0 (redacted_frames [] d.frames) is.1 d.verdict is.2 stays).1 in
+      (d.frames, d.verdict, d.is_verdict, is.3 ∙ ap (λ (v : Verdict). side_of v ended) same)
 
   -- The frames of a redaction that is accepted with a Close.
   pub record ClosedBack (gs : List Frame) : Type 0 where
@@ -115,35 +48,29 @@ module _ (role : Role) (limits : Limits) (x y : List ℕ) (in_bytes : IsBytes x)
   pub same_size : (fs : List Frame) → IsLawful role limits fs → length (stream (redacted_frames [] fs)) ≡ length (stream fs)
   same_size fs lawful = frames_length [] fs (redacted_frames [] fs) (are_redacted role limits [] fs lawful)
 
-  accepted_as : (gs : List Frame) → IsAccepted role limits y gs → IsVerdict role limits y gs (Accepted (counted gs (length (stream gs)) (length y - length (stream gs))))
-  accepted_as gs is = (is, refl)
-
   closed_back : (gs : List Frame) → IsAccepted role limits y gs → EndsWithClose gs → ClosedBack gs
-  closed_back gs is closes = by d.frames d.verdict d.is_verdict
+  closed_back gs is closes = by d.verdict d.is_verdict (one_verdict role limits y hs gs d.verdict w (verdict_stays role limits x y d.frames d.verdict in_bytes d.is_verdict d) (is, refl))
     where
-      by : (fs : List Frame) (v : Verdict) → IsVerdict role limits x fs v → ClosedBack gs
-      by fs (Accepted s) own =
-          let hs = redacted_frames [] fs in
-          let same : hs ≡ gs = same_accepted role limits y hs gs (stays_accepted role limits x y fs own.0 d) is in
-          record {
-            frames = fs;
-            accepted = own.0;
-            closes = elim own.0.ends [
-              | inl ends ↦
-                  let none = subst HasNoClose same (no_close_stays fs ends.0) in
-                  absurd (none closes.0 [] closes.1 closes.3 closes.2)
-              | inr ends ↦ ends.0
-            ];
-            size = ap (λ (ks : List Frame). length (stream ks)) (sym same) ∙ same_size fs own.0.lawful;
-          }
-      by fs (Cut s) own =
-          let hs = redacted_frames [] fs in
-          let one = (one_verdict role limits y hs gs (Cut (counted hs (length y) 0)) (Accepted (counted gs (length (stream gs)) (length y - length (stream gs)))) (cut_stays role limits x y fs own.0 d, refl) (accepted_as gs is)).1 in
-          absurd cc
-      by fs (Refused r) own =
-          let hs = redacted_frames [] fs in
-          let one = (one_verdict role limits y hs gs (Refused r) (Accepted (counted gs (length (stream gs)) (length y - length (stream gs)))) (refused_stays role limits x y fs r.place r.reason in_bytes own d) (accepted_as gs is)).1 in
-          absurd cc
+      hs : List Frame
+      hs = redacted_frames [] d.frames
+
+      w : Verdict
+      w = Accepted (counted gs (length (stream gs)) (length y - length (stream gs)))
+
+      by : (v : Verdict) → IsVerdict role limits x d.frames v → (hs ≡ gs) × (v ≡ w) → ClosedBack gs
+      by (Accepted s) own same = record {
+        frames = d.frames;
+        accepted = own.0;
+        closes = elim own.0.ends [
+          | inl ends ↦
+              let none = subst HasNoClose same.0 (no_close_stays d.frames ends.0) in
+              absurd (none closes.0 [] closes.1 closes.3 closes.2)
+          | inr ends ↦ ends.0
+        ];
+        size = ap (λ (ks : List Frame). length (stream ks)) (sym same.0) ∙ same_size d.frames own.0.lawful;
+      }
+      by (Cut s) own same = let other = same.1 in absurd cc
+      by (Refused r) own same = let other = same.1 in absurd cc
 
 -- ---- a capture
 

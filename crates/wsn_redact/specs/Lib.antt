@@ -2,6 +2,8 @@
 pub mod StandIns
 pub mod Redaction
 pub mod Redacting
+-- streams that differ only in what was said
+pub mod AlikeStreams
 -- the redaction of a capture
 pub mod ExtensionNames
 pub mod RedactedCaptures

@@ -2,12 +2,8 @@
 //! their contracts are proved.
 
 ghost use Rattle.std.specs.Prelude.{◌≡◌, ◌↔◌, ℕ, Option, List, length};
-ghost use Rattle.wsn_wire.specs.declared.endpoint.Role.{Role};
-ghost use Rattle.wsn_wire.specs.Frame.{Frame};
 ghost use Rattle.wsn_rules.specs.Limits.{Limits};
-ghost use Rattle.wsn_rules.specs.Accepted.{IsAccepted};
 ghost use Rattle.wsn_rules.specs.Entries.{Entry, AreEntries};
-ghost use Rattle.wsn_rules.specs.Sides.{sent};
 ghost use Rattle.wsn_rules.specs.Reports.{IsReport};
 ghost use Rattle.wsn_rules.specs.declared.report.Report.{Report};
 ghost use Rattle.wsn_capture.specs.LineFaults.{AreAcceptedLines};
@@ -56,10 +52,9 @@ pub fn law_redacted_capture_has_the_same_report()
         IsEndedBy lines entries report ended_by ↔ IsEndedBy redacted others report ended_by }
 {}
 
-/// Redacting a comment twice is redacting it once; and so it is of a capture, if both of its streams are accepted.
+/// Redacting a comment or a capture twice is redacting it once.
 pub fn law_redacted_capture_twice_is_once()
     ensures comment { (text redacted : List ℕ) → IsRedactedNothing text redacted → IsRedactedNothing redacted redacted }
-    ensures accepted { (limits : Limits) (lines redacted : List (List ℕ)) (entries : List Entry) →
-        AreEntries lines entries → ((role : Role) → (fs : List Frame) × IsAccepted role limits (sent role entries) fs) →
-        IsRedactedCapture limits lines redacted → IsRedactedCapture limits redacted redacted }
+    ensures capture { (limits : Limits) (lines redacted : List (List ℕ)) → IsRedactedCapture limits lines redacted →
+        IsRedactedCapture limits redacted redacted }
 {}

@@ -10,6 +10,7 @@
 //! written.
 #![tactic(auto)]
 
+pub mod alike_laws;
 pub mod capture_examples;
 pub mod capture_laws;
 mod capture_redacting;
