@@ -22,7 +22,7 @@ use Rattle.wsn_rules.proofs.OneVerdict.{one_verdict}
 use Rattle.wsn_rules.proofs.Prefixes.{append_cancel}
 use Rattle.wsn_redact.specs.StandIns.{single_stand_in, stand_in, stand_in_of, IsRedactedText, IsRedacted}
 use Rattle.wsn_redact.specs.Redaction.{zeros_for, is_text, is_of_text, IsRedactedPart, IsRedactedData, IsRedactedBody, IsRedactedPayload, with_payload, AreRedacted, IsRedactedBegun, IsRedactedRest, judged, unjudged, IsRedactionAt, IsRedaction}
-use Rattle.wsn_redact.specs.AlikeStreams.{IsIn, AreOfOneKind, single_kinds, first_kinds, AreAlikeCharacters, AreAlikeInPairs, AreAlikeBeginnings, AreAlikeToBad, AreAlikeTexts, AreAlikeData, AreAlikePayloads, AreAlikeFrames, AreAlikeBegun, AreAlikeRests, AreAlike}
+use Rattle.wsn_redact.specs.AlikeStreams.{IsIn, AreOfOneKind, single_kinds, first_kinds, AreAlikeCharacters, AreAlikeInPairs, AreAlikeBeginnings, AreAlikeToBad, AreAlikeTexts, AreAlikeData, AreAlikePayloads, AreAlikeFrames, AreAlikeBegun, AreAlikeRests, AreAlikeStreams}
 use Rattle.wsn_redact.proofs.StoodTexts.{one_redacted}
 use Rattle.wsn_redact.proofs.RedactedLawful.{two_low, row_e1, row_ee, row_f1}
 
@@ -334,7 +334,7 @@ module _ (role : Role) (limits : Limits) where
       let same = one_verdict role limits bytes r.frames fs r.verdict v r.is_verdict is in
       subst (λ (w : Verdict). IsRedactionAt role limits bytes fs w redacted) same.1 (subst (λ (hs : List Frame). IsRedactionAt role limits bytes hs r.verdict redacted) same.0 r.is)
 
-  pub alike_is_one : (bytes other redacted other_redacted : List ℕ) → AreAlike role limits bytes other → IsRedaction role limits bytes redacted → IsRedaction role limits other other_redacted → redacted ≡ other_redacted
+  pub alike_is_one : (bytes other redacted other_redacted : List ℕ) → AreAlikeStreams role limits bytes other → IsRedaction role limits bytes redacted → IsRedaction role limits other other_redacted → redacted ≡ other_redacted
   alike_is_one bytes other redacted other_redacted a r s =
       let fs = a.frames in
       let gs = a.other_frames in

@@ -9,13 +9,13 @@ use Rattle.wsn_rules.specs.Limits.{Limits}
 use Rattle.wsn_rules.proofs.Computed.{all_bytes, bytes_by_test}
 use Rattle.wsn_redact.specs.StandIns.{stand_in, IsRedacted, stood, due_at}
 use Rattle.wsn_redact.specs.Redaction.{IsRedaction}
-use Rattle.wsn_redact.specs.AlikeStreams.{IsIn, AreAlikeTexts, AreAlike}
+use Rattle.wsn_redact.specs.AlikeStreams.{IsIn, AreAlikeTexts, AreAlikeStreams}
 use Rattle.wsn_redact.proofs.StoodTexts.{stood_is}
 use Rattle.wsn_redact.proofs.AlikeRedactions.{letter_alone, alike_is_one}
 use Rattle.wsn_redact.proofs.RedactionsAlike.{texts_back, one_redaction_alike}
 
 module _ (role : Role) (limits : Limits) where
-  pub computed_alike : (bytes other redacted : List ℕ) → all_bytes bytes ≡ true → all_bytes other ≡ true → IsRedaction role limits bytes redacted → IsRedaction role limits other redacted → AreAlike role limits bytes other
+  pub computed_alike : (bytes other redacted : List ℕ) → all_bytes bytes ≡ true → all_bytes other ≡ true → IsRedaction role limits bytes redacted → IsRedaction role limits other redacted → AreAlikeStreams role limits bytes other
   computed_alike bytes other redacted test other_test r s = one_redaction_alike role limits bytes other redacted (bytes_by_test bytes test) (bytes_by_test other other_test) r s
 
 -- ---- small letters

@@ -1,5 +1,5 @@
 -- A capture has one redaction at most, with as many lines.
-use Rattle.std.proofs.Common.{◌≡◌, ℕ, suc, ◌≤◌, ◌⊎◌, List, [], ◌∷◌, ◌++◌, length, false, inl, inr, refl, sym, ap, ◌∙◌, subst, arith}
+use Rattle.std.proofs.Common.{◌≡◌, ℕ, suc, ◌≤◌, ◌⊎◌, List, [], ◌∷◌, ◌++◌, length, inl, inr, refl, sym, ap, ◌∙◌, subst, arith}
 use Rattle.std.specs.Prelude.{codes, drop, slice_index}
 use Rattle.std.proofs.lemmas.List.{append_cancel_left}
 use Rattle.std.specs.List.{AllByRecursion}
@@ -14,7 +14,9 @@ use Rattle.wsn_rules.proofs.OneEntry.{same_entries}
 use Rattle.wsn_capture.proofs.AcceptedTexts.{taken_given}
 use Rattle.wsn_show.specs.EndedBy.{reset_comment}
 use Rattle.wsn_redact.specs.Redaction.{IsRedaction}
-use Rattle.wsn_redact.specs.RedactedCaptures.{without_values, extensions_prefix, Stays, HasExtensions, SaysElse, IsRedactedNothing, IsRedactedText, cr_of, IsRedactedLine, AreRedactedLines, IsRedactedCapture}
+use Rattle.wsn_redact.specs.declared.extension_names.Within.TheVariants.{Name}
+use Rattle.wsn_redact.specs.ExtensionNames.{names_in}
+use Rattle.wsn_redact.specs.RedactedCaptures.{extensions_prefix, Stays, HasExtensions, SaysElse, IsRedactedNothing, IsRedactedText, cr_of, IsRedactedLine, AreRedactedLines, IsRedactedCapture}
 use Rattle.wsn_redact.proofs.OneRedaction.{one_redaction}
 
 -- ---- comments
@@ -28,12 +30,12 @@ digit_first list seconds (d ∷ whole) fraction some digits is same =
     let most = digits.0.1 in
     omega (arith, first, most)
 
-no_time : (list seconds : List ℕ) → IsSeconds seconds → codes "# " ++ seconds ≡ extensions_prefix ++ list → ⊥
+pub no_time : (list seconds : List ℕ) → IsSeconds seconds → codes "# " ++ seconds ≡ extensions_prefix ++ list → ⊥
 no_time list seconds is same =
     digit_first list seconds is.whole is.fraction is.some is.whole_digits is.is
     (append_cancel_left (codes "# ") seconds (codes "extensions: " ++ list) same)
 
-no_reset : (list : List ℕ) (role : Role) → reset_comment role ≡ extensions_prefix ++ list → ⊥
+pub no_reset : (list : List ℕ) (role : Role) → reset_comment role ≡ extensions_prefix ++ list → ⊥
 no_reset list Client same = let third : 114 ≡ 101 = ap (λ (l : List ℕ). slice_index l 2) same in omega (arith, third)
 no_reset list Server same = let third : 114 ≡ 101 = ap (λ (l : List ℕ). slice_index l 2) same in omega (arith, third)
 
@@ -54,7 +56,7 @@ one_nothing text redacted other (inl is) (inr (inr also)) = absurd (stays_or_els
 one_nothing text redacted other (inr (inl is)) (inl also) = absurd (stays_or_extensions text is.0 also.0 is.1)
 one_nothing text redacted other (inr (inl is)) (inr (inl also)) =
     let same : is.0 ≡ also.0 = append_cancel_left extensions_prefix is.0 also.0 (sym is.1 ∙ also.1) in
-    is.2 ∙ ap (λ (l : List ℕ). extensions_prefix ++ without_values false l) same ∙ sym also.2
+    is.2 ∙ ap (λ (l : List ℕ). extensions_prefix ++ names_in Name l) same ∙ sym also.2
 one_nothing text redacted other (inr (inl is)) (inr (inr also)) = absurd (also.0.2 is.0 is.1)
 one_nothing text redacted other (inr (inr is)) (inl also) = absurd (stays_or_else text also.0 is.0)
 one_nothing text redacted other (inr (inr is)) (inr (inl also)) = absurd (is.0.2 also.0 also.1)

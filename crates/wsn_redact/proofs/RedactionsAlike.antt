@@ -24,7 +24,7 @@ use Rattle.wsn_rules.proofs.OneVerdict.{all_of_verdict, one_verdict}
 use Rattle.wsn_rules.proofs.Prefixes.{append_cancel}
 use Rattle.wsn_redact.specs.StandIns.{single_stand_in, stand_in, stand_in_of, IsRedactedText, IsRedacted, stood, BeginsCharacter}
 use Rattle.wsn_redact.specs.Redaction.{zeros_for, is_text, is_of_text, IsRedactedPayload, IsRedactedBegun, IsRedactedRest, with_payload, redacted_payload, redacted_frames, judged, unjudged, IsRedaction}
-use Rattle.wsn_redact.specs.AlikeStreams.{AreOfOneKind, first_kinds, AreAlikeBeginnings, AreAlikeTexts, AreAlikeData, AreAlikePayloads, AreAlikeFrames, AreAlikeBegun, AreAlikeRests, AreAlike}
+use Rattle.wsn_redact.specs.AlikeStreams.{AreOfOneKind, first_kinds, AreAlikeBeginnings, AreAlikeTexts, AreAlikeData, AreAlikePayloads, AreAlikeFrames, AreAlikeBegun, AreAlikeRests, AreAlikeStreams}
 use Rattle.wsn_redact.proofs.StoodTexts.{length-stood, stand_in_some, stand_in_length, is_stood, stood_is, redacted_begins, none_begun, character_stood, text_stood, one_end}
 use Rattle.wsn_redact.proofs.RedactedPayloads.{payload_is, payload_length, lawful_text, are_redacted, one_frames}
 use Rattle.wsn_redact.proofs.OneRedaction.{rest_length, frames_length, redaction_length}
@@ -398,7 +398,7 @@ module _ (role : Role) (limits : Limits) where
       }
 
   -- The redaction has the same verdict as each.
-  alike_by : (bytes other redacted : List ℕ) (r : IsRedaction role limits bytes redacted) (s : IsRedaction role limits other redacted) → IsVerdict role limits redacted (redacted_frames [] r.frames) r.verdict → IsVerdict role limits redacted (redacted_frames [] s.frames) s.verdict → AreAlike role limits bytes other
+  alike_by : (bytes other redacted : List ℕ) (r : IsRedaction role limits bytes redacted) (s : IsRedaction role limits other redacted) → IsVerdict role limits redacted (redacted_frames [] r.frames) r.verdict → IsVerdict role limits redacted (redacted_frames [] s.frames) s.verdict → AreAlikeStreams role limits bytes other
   alike_by bytes other redacted r s mine its =
       let fs = r.frames in
       let gs = s.frames in
@@ -419,12 +419,12 @@ module _ (role : Role) (limits : Limits) where
             x.closes y.closes x.opens y.opens x.is_rest y.is_rest;
       }
 
-  pub one_redaction_alike : (bytes other redacted : List ℕ) → IsBytes bytes → IsBytes other → IsRedaction role limits bytes redacted → IsRedaction role limits other redacted → AreAlike role limits bytes other
+  pub one_redaction_alike : (bytes other redacted : List ℕ) → IsBytes bytes → IsBytes other → IsRedaction role limits bytes redacted → IsRedaction role limits other redacted → AreAlikeStreams role limits bytes other
   one_redaction_alike bytes other redacted in_bytes other_bytes r s =
       alike_by bytes other redacted r s (verdict_stays role limits bytes redacted r.frames r.verdict in_bytes r.is_verdict r) (verdict_stays role limits other redacted s.frames s.verdict other_bytes s.is_verdict s)
 
   -- A stream and its redaction are alike.
-  pub redaction_is_alike : (bytes redacted : List ℕ) → IsBytes bytes → IsRedaction role limits bytes redacted → AreAlike role limits bytes redacted
+  pub redaction_is_alike : (bytes redacted : List ℕ) → IsBytes bytes → IsRedaction role limits bytes redacted → AreAlikeStreams role limits bytes redacted
   redaction_is_alike bytes redacted in_bytes r =
       let s = redaction_twice role limits bytes redacted in_bytes r in
       let mine = verdict_stays role limits bytes redacted r.frames r.verdict in_bytes r.is_verdict r in

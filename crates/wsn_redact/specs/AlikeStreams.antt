@@ -147,7 +147,7 @@ AreAlikeRests role limits fs gs rest other =
 
 -- Two streams with the same verdict and as many bytes. Their lawful frames are alike, and so is what follows these up to
 -- the offending byte. Nothing is said of the bytes after it.
-pub record AreAlike (role : Role) (limits : Limits) (bytes other : List ℕ) : Type 0 where
+pub record AreAlikeStreams (role : Role) (limits : Limits) (bytes other : List ℕ) : Type 0 where
   pub verdict : Verdict
   pub frames : List Frame
   pub other_frames : List Frame

@@ -5,7 +5,9 @@ pub mod Redacting
 -- streams that differ only in what was said
 pub mod AlikeStreams
 -- the redaction of a capture
+pub mod ExtensionNames
 pub mod RedactedCaptures
+pub mod AlikeLines
 pub mod CaptureRedactors
 pub mod RedactingCaptures
 pub mod PassedRedactions

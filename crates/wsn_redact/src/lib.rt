@@ -18,6 +18,7 @@ mod capture_redacting;
 mod capture_redactor;
 mod due;
 pub mod examples;
+mod extension_names;
 pub mod laws;
 mod redacted_line;
 mod redacting;
