@@ -38,3 +38,4 @@ pub mod RedactedEntries
 pub mod SameReports
 pub mod SameLines
 pub mod CapturesTwice
+pub mod AlikeCaptureRedactions

@@ -8,6 +8,7 @@ pub mod AlikeStreams
 pub mod ExtensionNames
 pub mod RedactedCaptures
 pub mod AlikeLines
+pub mod AlikeCaptures
 pub mod CaptureRedactors
 pub mod RedactingCaptures
 pub mod PassedRedactions

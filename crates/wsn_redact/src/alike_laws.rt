@@ -1,4 +1,4 @@
-//! Laws of `specs/AlikeStreams.antt`. The functions do nothing when called; their contracts are proved.
+//! Laws of `specs/AlikeStreams.antt` and `specs/AlikeCaptures.antt`. The functions do nothing when called; their contracts are proved.
 
 ghost use Rattle.std.specs.Prelude.{◌≡◌, ℕ, List, [], ◌∷◌, length};
 ghost use Rattle.std.specs.List.{AllByRecursion};
@@ -8,6 +8,8 @@ ghost use Rattle.wsn_text.specs.Utf8.{◌–◌};
 ghost use Rattle.wsn_rules.specs.Limits.{Limits};
 ghost use Rattle.wsn_redact.specs.StandIns.{IsRedacted};
 ghost use Rattle.wsn_redact.specs.Redaction.{IsRedaction};
+ghost use Rattle.wsn_redact.specs.RedactedCaptures.{IsRedactedCapture};
+ghost use Rattle.wsn_redact.specs.AlikeCaptures.{AreAlikeCaptures};
 ghost use Rattle.wsn_redact.specs.AlikeStreams.{IsIn, AreAlikeTexts, AreAlikeStreams};
 
 /// Nothing of what was said is left: texts that are alike have one redaction, and so have streams that are alike. Who
@@ -41,4 +43,14 @@ pub fn law_redaction_is_alike()
 pub fn law_small_letters_are_alike()
     ensures { (text other : List ℕ) → AllByRecursion (IsIn ((0x61 – 0x7A) ∷ [])) text →
         AllByRecursion (IsIn ((0x61 – 0x7A) ∷ [])) other → length text ≡ length other → AreAlikeTexts text other }
+{}
+
+/// Captures have one redaction exactly if they are alike: nothing else of a capture is left, and nothing else is lost.
+pub fn law_alike_captures_have_one_redaction()
+    ensures one { (limits : Limits) (lines others redacted also : List (List ℕ)) →
+        AreAlikeCaptures limits lines others → IsRedactedCapture limits lines redacted →
+        IsRedactedCapture limits others also → redacted ≡ also }
+    ensures alike { (limits : Limits) (lines others redacted : List (List ℕ)) →
+        IsRedactedCapture limits lines redacted → IsRedactedCapture limits others redacted →
+        AreAlikeCaptures limits lines others }
 {}
