@@ -46,6 +46,7 @@ pub fn law_small_letters_are_alike()
 {}
 
 /// Captures have one redaction exactly if they are alike: nothing else of a capture is left, and nothing else is lost.
+/// A capture and its redaction are alike.
 pub fn law_alike_captures_have_one_redaction()
     ensures one { (limits : Limits) (lines others redacted also : List (List ℕ)) →
         AreAlikeCaptures limits lines others → IsRedactedCapture limits lines redacted →
@@ -53,4 +54,6 @@ pub fn law_alike_captures_have_one_redaction()
     ensures alike { (limits : Limits) (lines others redacted : List (List ℕ)) →
         IsRedactedCapture limits lines redacted → IsRedactedCapture limits others redacted →
         AreAlikeCaptures limits lines others }
+    ensures own { (limits : Limits) (lines redacted : List (List ℕ)) → IsRedactedCapture limits lines redacted →
+        AreAlikeCaptures limits lines redacted }
 {}
