@@ -98,9 +98,9 @@ class Reading:
         """What is said of a session."""
         if not self.asked.redacts:
             return session.notes
-        agreed = [note for note in session.notes if note.startswith(OF_EXTENSIONS[0])]
+        agreed, front = [note for note in session.notes if note.startswith(OF_EXTENSIONS[0])], len(OF_EXTENSIONS[0])
         others = [without_names(note) for note in session.notes if not note.startswith(OF_EXTENSIONS)]
-        return others + [f"{without_values(note)}; {IN_ZEROS}" for note in agreed]
+        return others + [f"{note[:front]}{without_values(note[front:])}; {IN_ZEROS}" for note in agreed]
 
     def report_lacks(self) -> bool:
         """Reports what the list lacks; whether it lacks anything."""

@@ -97,9 +97,14 @@ class Redactor:
         self.process.wait()
 
 
+NAMES = r"[!#$%&'*+.^_`|~0-9A-Za-z;, \t-]"  # A byte of a name of an extension, or between names.
+# What is left out: all up to a ; or a , that isn't in a quoted string.
+LEFT_OUT = r'(?:[^;,"]|"(?:[^"\\]|\\.)*(?:"|\\?\Z))*'
+
+
 def without_values(extensions: str) -> str:
-    """A list of extensions without the values of their parameters, as a redacted capture has it."""
-    return re.sub("=[^;,]*", "=", extensions)
+    """The names in a list of extensions, as a redacted capture has them."""
+    return re.sub(rf"(=|(?!{NAMES})){LEFT_OUT}", r"\1", extensions, flags=re.DOTALL)
 
 
 def without_names(fault: str) -> str:

@@ -70,10 +70,28 @@ def redacted(data, lines):
     return out + (bytes(len(rest)) if opcode == "close" else rest) + bytes(len(data) - len(judged))
 
 
+TOKEN = b"!#$%&'*+-.^_`|~0123456789ABCDEFGHIJKLMNOPQRSTUVWXYZabcdefghijklmnopqrstuvwxyz"
+
+
+def extension_names(text):
+    """What is left of a list of extensions, byte by byte."""
+    out, within, escaped = b"", "name", False
+    for byte in (bytes([each]) for each in text):
+        of_names = byte in TOKEN + b";, \t"
+        if within == "string":
+            within, escaped = "value" if byte == b'"' and not escaped else "string", byte == b"\\" and not escaped
+            continue
+        if (of_names or byte == b"=") if within == "name" else byte in b";,":
+            out += byte
+        within = "string" if byte == b'"' else "name" if byte in b";," or (of_names and within == "name") else "value"
+    return out
+
+
 def redacted_comment(text):
     if re.fullmatch(rb"# (0|[1-9][0-9]*)[.][0-9]{1,9}|# reset by the (client|server)", text):
         return text
-    return re.sub(rb"=[^;,]*", b"=", text) if text.startswith(b"# extensions: ") else b"#"
+    front = b"# extensions: "
+    return front + extension_names(text[len(front):]) if text.startswith(front) else b"#"
 
 
 def redacted_line(text, sides):

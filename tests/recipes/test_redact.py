@@ -8,6 +8,7 @@ import re
 import signal
 import socket
 import subprocess
+import sys
 import threading
 import time
 
@@ -15,6 +16,10 @@ import pcaps
 from harness import SECONDS, TOP, WSN, Failed, run, said_in, same, short, sides, test, wait_for, want
 from test_netlog import BEGUN, CLOSED, SENT, made, passed
 from test_record import exactly, flood, plain, sessions, until
+
+sys.path.insert(0, str(TOP / "recipes"))
+
+from redaction import without_values  # noqa: E402
 
 KEY = b"\x37\xfa\x21\x3d"
 TEXT, BINARY, PING, REASON = b"Passw0rd-of-Ann", b"\x00Bin4ry\xffBlob", b"P1ng-Payl0ad", b"Re4son-to-Leave"
@@ -25,7 +30,7 @@ SECRETS = TEXT, BINARY, PING, REASON, PATH, QUERY, COOKIE, PROTOCOL, VALUE, LINE
 ASK = (b"GET %s?%s HTTP/1.1\r\nHost: localhost:1\r\nUpgrade: websocket\r\nConnection: Upgrade\r\nCookie: %s\r\n\r\n"
        % (PATH, QUERY, COOKIE))  # fmt: skip
 ANSWER = (b"HTTP/1.1 101 %s\r\nUpgrade: websocket\r\nConnection: Upgrade\r\nSec-WebSocket-Protocol: %s\r\n"
-          b"Sec-WebSocket-Extensions: x-one; id=%s\r\n\r\n" % (LINE, PROTOCOL, VALUE))  # fmt: skip
+          b"Sec-WebSocket-Extensions: x-one; id=\"a,%s\"\r\n\r\n" % (LINE, PROTOCOL, VALUE))  # fmt: skip
 REFUSAL = (b"HTTP/1.1 401 %s\r\nWWW-Authenticate: Bearer realm=%s\r\nLocation: %s\r\nContent-Length: %d\r\n\r\n%s"
            % (LINE, BEARER, PATH, len(BODY), BODY))  # fmt: skip
 
@@ -89,6 +94,28 @@ def redact_forms_are_found(folder):
         except Failed:
             continue
         raise Failed(f"no secret is found in {short(data)}")
+
+
+# Lists of extensions, and what is left of them (RFC 7230, 3.2.6): without the quoted strings, and all that is no name.
+LISTS = (
+    ("x; a=1;b , y", "x; a=;b , y"),
+    ('x; a="b,c;d", y', "x; a=, y"),
+    ('x; a="b\\",c\\\\"; d', "x; a=; d"),
+    ('x; a="b, c', "x; a="),
+    ('x; a="b\\', "x; a="),
+    ('x"y, z"a; b', "x; b"),
+    ("x (y z), a/b=c", "x , a"),
+    ("!#$%&'*+-.^_`|~; a:b", "!#$%&'*+-.^_`|~; a"),
+)
+
+
+@test
+def redact_leaves_names_of_extensions(folder):
+    """Of each list what the recipes say of it, and what the program writes."""
+    for text, names in LISTS:
+        same(without_values(text), names, text)
+        out = run(WSN, "redact", "-", input=f"# extensions: {text}\n".encode())[0]
+        same(out, f"# extensions: {names}\n".encode(), f"redact of {text}")
 
 
 @test

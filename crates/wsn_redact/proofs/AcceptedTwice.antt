@@ -23,7 +23,7 @@ use Rattle.wsn_redact.proofs.RedactedVerdicts.{close_among, SameGroup, none_same
 use Rattle.wsn_redact.proofs.RedactedTwice.{payload_twice, zeros_twice}
 
 -- The text before a frame is redacted.
-text_before : (group redacted : List Frame) (op : Op) → SameGroup group redacted → MayBegin group op → is_of_text group op ≡ true → payload_of redacted ≡ stood [] (payload_of group)
+pub text_before : (group redacted : List Frame) (op : Op) → SameGroup group redacted → MayBegin group op → is_of_text group op ≡ true → payload_of redacted ≡ stood [] (payload_of group)
 text_before [] redacted op same may is = by redacted same.count
   where
     by : (ys : List Frame) → length ys ≡ 0 → payload_of ys ≡ []
@@ -37,7 +37,7 @@ text_before (x ∷ xs) redacted Ping same may is = absurd cc
 text_before (x ∷ xs) redacted Pong same may is = absurd cc
 
 module _ (role : Role) (limits : Limits) where
-  frames_twice : (before after fs : List Frame) → IsLawful role limits (before ++ fs) → SameGroup (unfinished before) (unfinished after) → redacted_frames after (redacted_frames before fs) ≡ redacted_frames before fs
+  pub frames_twice : (before after fs : List Frame) → IsLawful role limits (before ++ fs) → SameGroup (unfinished before) (unfinished after) → redacted_frames after (redacted_frames before fs) ≡ redacted_frames before fs
   frames_twice before after [] lawful same = refl
   frames_twice before after (f ∷ fs) lawful same =
       let law = lawful.each before fs f refl in

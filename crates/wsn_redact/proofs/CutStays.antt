@@ -43,7 +43,7 @@ use Rattle.wsn_redact.proofs.RedactedVerdicts.{SameGroup, StaysLawful, frames_st
 use Rattle.wsn_redact.proofs.PayloadsAlike.{evident_back}
 use Rattle.wsn_redact.proofs.HeadsAlike.{head_back, payload_prefix}
 
-wire_bytes : (key : Option (List ℕ)) (bytes : List ℕ) → IfSome key IsKey → IsBytes bytes → IsBytes (wire_payload key bytes)
+pub wire_bytes : (key : Option (List ℕ)) (bytes : List ℕ) → IfSome key IsKey → IsBytes bytes → IsBytes (wire_payload key bytes)
 wire_bytes None bytes is all = all
 wire_bytes (Some key) bytes is all = masked-bytes key 0 bytes is.1 all
 

@@ -11,7 +11,6 @@ pub mod RedactedInputs
 pub mod QuietPayloads
 pub mod EveryRedaction
 pub mod OneRedactedCapture
-pub mod LeftOutValues
 pub mod LineParts
 pub mod RedactedLines
 pub mod PassedRedactions
@@ -27,3 +26,16 @@ pub mod PayloadsAlike
 pub mod HeadsAlike
 pub mod RefusedStays
 pub mod CutStays
+pub mod SameVerdicts
+pub mod TwiceIsOnce
+pub mod AlikeRedactions
+pub mod KindsOfBytes
+pub mod RedactionsAlike
+pub mod ComputedAlike
+pub mod RedactedBytes
+pub mod PlainEnds
+pub mod RedactedEntries
+pub mod SameReports
+pub mod SameLines
+pub mod CapturesTwice
+pub mod AlikeCaptureRedactions

@@ -1,5 +1,5 @@
 -- A capture has one redaction at most, with as many lines.
-use Rattle.std.proofs.Common.{◌≡◌, ℕ, suc, ◌≤◌, ◌⊎◌, List, [], ◌∷◌, ◌++◌, length, false, inl, inr, refl, sym, ap, ◌∙◌, subst, arith}
+use Rattle.std.proofs.Common.{◌≡◌, ℕ, suc, ◌≤◌, ◌⊎◌, List, [], ◌∷◌, ◌++◌, length, inl, inr, refl, sym, ap, ◌∙◌, subst, arith}
 use Rattle.std.specs.Prelude.{codes, drop, slice_index}
 use Rattle.std.proofs.lemmas.List.{append_cancel_left}
 use Rattle.std.specs.List.{AllByRecursion}
@@ -14,7 +14,9 @@ use Rattle.wsn_rules.proofs.OneEntry.{same_entries}
 use Rattle.wsn_capture.proofs.AcceptedTexts.{taken_given}
 use Rattle.wsn_show.specs.EndedBy.{reset_comment}
 use Rattle.wsn_redact.specs.Redaction.{IsRedaction}
-use Rattle.wsn_redact.specs.RedactedCaptures.{without_values, extensions_prefix, Stays, HasExtensions, SaysElse, IsRedactedNothing, IsRedactedText, cr_of, IsRedactedLine, AreRedactedLines, IsRedactedCapture}
+use Rattle.wsn_redact.specs.declared.extension_names.Within.TheVariants.{Name}
+use Rattle.wsn_redact.specs.ExtensionNames.{names_in}
+use Rattle.wsn_redact.specs.RedactedCaptures.{extensions_prefix, Stays, HasExtensions, SaysElse, IsRedactedNothing, IsRedactedText, cr_of, IsRedactedLine, AreRedactedLines, IsRedactedCapture}
 use Rattle.wsn_redact.proofs.OneRedaction.{one_redaction}
 
 -- ---- comments
@@ -28,22 +30,22 @@ digit_first list seconds (d ∷ whole) fraction some digits is same =
     let most = digits.0.1 in
     omega (arith, first, most)
 
-no_time : (list seconds : List ℕ) → IsSeconds seconds → codes "# " ++ seconds ≡ extensions_prefix ++ list → ⊥
+pub no_time : (list seconds : List ℕ) → IsSeconds seconds → codes "# " ++ seconds ≡ extensions_prefix ++ list → ⊥
 no_time list seconds is same =
     digit_first list seconds is.whole is.fraction is.some is.whole_digits is.is
     (append_cancel_left (codes "# ") seconds (codes "extensions: " ++ list) same)
 
-no_reset : (list : List ℕ) (role : Role) → reset_comment role ≡ extensions_prefix ++ list → ⊥
+pub no_reset : (list : List ℕ) (role : Role) → reset_comment role ≡ extensions_prefix ++ list → ⊥
 no_reset list Client same = let third : 114 ≡ 101 = ap (λ (l : List ℕ). slice_index l 2) same in omega (arith, third)
 no_reset list Server same = let third : 114 ≡ 101 = ap (λ (l : List ℕ). slice_index l 2) same in omega (arith, third)
 
-stays_or_extensions : (text list : List ℕ) → ((text ≡ []) ⊎ Stays text) → HasExtensions text list → ⊥
+pub stays_or_extensions : (text list : List ℕ) → ((text ≡ []) ⊎ Stays text) → HasExtensions text list → ⊥
 stays_or_extensions text list (inl none) has = let size : 0 ≡ suc (length (codes " extensions: " ++ list)) = ap (λ (l : List ℕ). length l) (sym none ∙ has) in omega (arith, size)
 stays_or_extensions text list (inr (inl (seconds, gives))) has = no_time list seconds gives.1 (sym gives.0 ∙ has)
 stays_or_extensions text list (inr (inr (inl is))) has = no_reset list Client (sym is ∙ has)
 stays_or_extensions text list (inr (inr (inr is))) has = no_reset list Server (sym is ∙ has)
 
-stays_or_else : (text : List ℕ) → ((text ≡ []) ⊎ Stays text) → SaysElse text → ⊥
+pub stays_or_else : (text : List ℕ) → ((text ≡ []) ⊎ Stays text) → SaysElse text → ⊥
 stays_or_else text (inl none) says = says.0 none
 stays_or_else text (inr stays) says = says.1 stays
 
@@ -54,7 +56,7 @@ one_nothing text redacted other (inl is) (inr (inr also)) = absurd (stays_or_els
 one_nothing text redacted other (inr (inl is)) (inl also) = absurd (stays_or_extensions text is.0 also.0 is.1)
 one_nothing text redacted other (inr (inl is)) (inr (inl also)) =
     let same : is.0 ≡ also.0 = append_cancel_left extensions_prefix is.0 also.0 (sym is.1 ∙ also.1) in
-    is.2 ∙ ap (λ (l : List ℕ). extensions_prefix ++ without_values false l) same ∙ sym also.2
+    is.2 ∙ ap (λ (l : List ℕ). extensions_prefix ++ names_in Name l) same ∙ sym also.2
 one_nothing text redacted other (inr (inl is)) (inr (inr also)) = absurd (also.0.2 is.0 is.1)
 one_nothing text redacted other (inr (inr is)) (inl also) = absurd (stays_or_else text also.0 is.0)
 one_nothing text redacted other (inr (inr is)) (inr (inl also)) = absurd (is.0.2 also.0 also.1)
@@ -124,7 +126,7 @@ both P of_client of_server Client = of_client
 both P of_client of_server Server = of_server
 
 -- both streams stay the same after the bytes of a line
-bytes_off : (role : Role) (bytes also : List ℕ) (others more : List Entry) → length bytes ≡ length also
+pub bytes_off : (role : Role) (bytes also : List ℕ) (others more : List Entry) → length bytes ≡ length also
     → ((r : Role) → sent r (Bytes role bytes ∷ others) ≡ sent r (Bytes role also ∷ more)) → (bytes ≡ also) × ((r : Role) → sent r others ≡ sent r more)
 bytes_off Client bytes also others more size same =
     let parts = same_front bytes also (sent Client others) (sent Client more) size (same Client) in
@@ -133,11 +135,11 @@ bytes_off Server bytes also others more size same =
     let parts = same_front bytes also (sent Server others) (sent Server more) size (same Server) in
     (parts.0, both (λ r. sent r others ≡ sent r more) (same Client) parts.1)
 
-nothing_off : (others more : List Entry) → ((r : Role) → sent r (Nothing ∷ others) ≡ sent r (Nothing ∷ more)) → (r : Role) → sent r others ≡ sent r more
+pub nothing_off : (others more : List Entry) → ((r : Role) → sent r (Nothing ∷ others) ≡ sent r (Nothing ∷ more)) → (r : Role) → sent r others ≡ sent r more
 nothing_off others more same Client = same Client
 nothing_off others more same Server = same Server
 
-mark_off : (role : Role) (others more : List Entry) → ((r : Role) → sent r (Mark role ∷ others) ≡ sent r (Mark role ∷ more)) → (r : Role) → sent r others ≡ sent r more
+pub mark_off : (role : Role) (others more : List Entry) → ((r : Role) → sent r (Mark role ∷ others) ≡ sent r (Mark role ∷ more)) → (r : Role) → sent r others ≡ sent r more
 mark_off Client others more same Client = same Client
 mark_off Client others more same Server = same Server
 mark_off Server others more same Client = same Client

@@ -84,7 +84,7 @@ beginning_stays text begins = record { more = stood (due_after [] text) begins.m
 
 -- ---- bytes
 
-stand_in_bytes : (b : ℕ) → b < 256 → IsBytes (stand_in b)
+pub stand_in_bytes : (b : ℕ) → b < 256 → IsBytes (stand_in b)
 stand_in_bytes b small = grind (arith, common_steps)
 
 due_at_bytes : (due : List ℕ) (b : ℕ) → IsBytes due → b < 256 → IsBytes (due_at due b)

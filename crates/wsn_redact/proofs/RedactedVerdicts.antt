@@ -279,7 +279,7 @@ close_among before (f ∷ fs) (x ∷ xs) ys k is closes =
 pub no_close_stays : (fs : List Frame) → HasNoClose fs → HasNoClose (redacted_frames [] fs)
 no_close_stays fs none xs ys k is closes = let c = close_among [] fs xs ys k is closes in none c.front c.back c.frame c.is c.closes
 
-close_stays : (fs : List Frame) → EndsWithClose fs → EndsWithClose (redacted_frames [] fs)
+pub close_stays : (fs : List Frame) → EndsWithClose fs → EndsWithClose (redacted_frames [] fs)
 close_stays fs (before, close, closes, is) =
     (redacted_frames [] before, with_payload close (redacted_payload (unfinished before) close.op close.payload), closes, ap (λ (gs : List Frame). redacted_frames [] gs) is ∙ redacted_push [] before close)
 

@@ -1,6 +1,6 @@
 -- The redaction of a capture: both streams redacted, cut at the same places, in as many lines. Of comments only times,
 -- who reset the connection, and the names of extensions are left.
-use Rattle.std.specs.Prelude.{◌≡◌, ◌≢◌, ℕ, ◌⊎◌, ◌==◌, ◌||◌, ◌&&◌, not, Bool, true, false, List, [], ◌∷◌, ◌++◌, length, drop, codes, if◌then◌else◌}
+use Rattle.std.specs.Prelude.{◌≡◌, ◌≢◌, ℕ, ◌⊎◌, List, [], ◌∷◌, ◌++◌, length, drop, codes}
 use Rattle.hex.specs.Hex.{encode_lower}
 use Rattle.wsn_wire.specs.declared.endpoint.Role.{Role}
 use Rattle.wsn_wire.specs.declared.endpoint.Role.TheVariants.{Client, Server}
@@ -11,21 +11,11 @@ use Rattle.wsn_rules.specs.Sides.{sent}
 use Rattle.wsn_rules.specs.ShownCapture.{GivesTime}
 use Rattle.wsn_capture.specs.LineFaults.{AreAcceptedLines}
 use Rattle.wsn_show.specs.EndedBy.{reset_comment}
+use Rattle.wsn_redact.specs.declared.extension_names.Within.TheVariants.{Name}
+use Rattle.wsn_redact.specs.ExtensionNames.{names_in}
 use Rattle.wsn_redact.specs.Redaction.{IsRedaction}
 
 -- ---- comments
-
--- [9.1] Whether a byte of a list of extensions is left out: it is in a parameter's value, a token, and isn't the `;` or
--- `,` that ends it.
-abbrev pub is_left_out : Bool → ℕ → Bool
-is_left_out in_value b = in_value && not ((b == 59) || (b == 44))
-
--- [9.1] A list of extensions without the values of their parameters: what follows `=`, up to `;`, `,` or the end, is left
--- out. At first, whether the list begins in a value.
-abbrev pub without_values : Bool → List ℕ → List ℕ
-without_values in_value [] = []
-without_values in_value (b ∷ list) =
-    if is_left_out in_value b then without_values true list else b ∷ without_values (b == 61) list
 
 -- How the comment begins that has the extensions of a handshake's answer.
 abbrev pub extensions_prefix : List ℕ
@@ -48,11 +38,11 @@ abbrev pub SaysElse : List ℕ → Type 0
 SaysElse text = (text ≢ []) × (Stays text → ⊥) × ((list : List ℕ) → HasExtensions text list → ⊥)
 
 -- What becomes of the text of a line that gives nothing, without its CR: an empty one stays, and a comment stays, is left
--- without the values of extensions, or becomes `#`.
+-- with the names of extensions, or becomes `#`.
 abbrev pub IsRedactedNothing : List ℕ → List ℕ → Type 0
 IsRedactedNothing text redacted =
     (((text ≡ []) ⊎ Stays text) × (redacted ≡ text))
-    ⊎ ((list : List ℕ) × HasExtensions text list × (redacted ≡ extensions_prefix ++ without_values false list))
+    ⊎ ((list : List ℕ) × HasExtensions text list × (redacted ≡ extensions_prefix ++ names_in Name list))
     ⊎ (SaysElse text × (redacted ≡ codes "#"))
 
 -- ---- lines

@@ -1,16 +1,30 @@
-//! Examples of redacted lines, computed from the definitions in `specs/RedactedCaptures.antt`.
+//! Examples of redacted lines, computed from the definitions in `specs/ExtensionNames.antt` and
+//! `specs/RedactedCaptures.antt`.
 
-ghost use Rattle.std.specs.Prelude.{◌≡◌, [], ◌∷◌, false, codes};
+ghost use Rattle.std.specs.Prelude.{◌≡◌, [], ◌∷◌, filter, codes};
 ghost use Rattle.wsn_wire.specs.declared.endpoint.Role.TheVariants.{Server};
 ghost use Rattle.wsn_rules.specs.Entries.Entry.{Bytes};
-ghost use Rattle.wsn_redact.specs.RedactedCaptures.{without_values, cr_of, IsRedactedText};
+ghost use Rattle.wsn_redact.specs.declared.extension_names.Within.TheVariants.{Name};
+ghost use Rattle.wsn_redact.specs.ExtensionNames.{is_of_token, names_in};
+ghost use Rattle.wsn_redact.specs.RedactedCaptures.{cr_of, IsRedactedText};
 
-/// Lists of extensions without the values of their parameters.
+/// Lists of extensions: their names are left.
 pub fn of_extensions()
-    ensures bits { without_values false (codes "permessage-deflate; server_max_window_bits=10; client_no_context_takeover")
+    ensures bits { names_in Name (codes "permessage-deflate; server_max_window_bits=10; client_no_context_takeover")
         ≡ codes "permessage-deflate; server_max_window_bits=; client_no_context_takeover" }
-    ensures two { without_values false (codes "a; b=secret, c; d='e=f'") ≡ codes "a; b=, c; d=" }
-    ensures none { without_values false (codes "permessage-deflate") ≡ codes "permessage-deflate" }
+    ensures two { names_in Name (codes "a; b=secret, c; d='e=f'") ≡ codes "a; b=, c; d=" }
+    ensures quoted { names_in Name (codes "a; b=\"x,secret;y\", c;\td") ≡ codes "a; b=, c;\td" }
+    ensures escaped { names_in Name (codes "a; b=\"x\\\",secret\\\\\"; c") ≡ codes "a; b=; c" }
+    ensures no_end { names_in Name (codes "a; b=\"x, secret; c=d") ≡ codes "a; b=" }
+    ensures no_value { names_in Name (codes "a\"x, secret\"b; c") ≡ codes "a; c" }
+    ensures no_token { names_in Name (codes "a/secret=b, c") ≡ codes "a, c" }
+    ensures none { names_in Name (codes "permessage-deflate") ≡ codes "permessage-deflate" }
+{}
+
+/// Of the visible bytes these are of a token.
+pub fn of_tokens()
+    ensures { filter is_of_token (codes " !\"#$%&'()*+,-./0123456789:;<=>?@ABCYZ[\\]^_`abcyz{|}~")
+        ≡ codes "!#$%&'*+-.0123456789ABCYZ^_`abcyz|~" }
 {}
 
 /// Lines with bytes: their digits are in lower case.

@@ -6,7 +6,8 @@ ghost use Rattle.wsn_text.specs.Utf8.{IsText, BeginsText};
 ghost use Rattle.wsn_wire.specs.Frame.{Frame, IsBytes, stream};
 ghost use Rattle.wsn_rules.specs.Accepted.{IsAccepted};
 ghost use Rattle.wsn_rules.specs.Heads.{heads_of};
-ghost use Rattle.wsn_rules.specs.Verdict.{IsCut, IsRefused};
+ghost use Rattle.wsn_rules.specs.Verdict.{IsCut, IsRefused, IsVerdict};
+ghost use Rattle.wsn_rules.specs.declared.verdict.Verdict.{Verdict};
 ghost use Rattle.wsn_wire.specs.declared.refusal.Reason.{Reason};
 ghost use Rattle.wsn_rules.specs.Limits.{Limits, InRange};
 ghost use Rattle.wsn_redact.specs.StandIns.{IsRedactedText, IsRedacted, stood};
@@ -40,12 +41,23 @@ pub fn law_stays_accepted()
         × (length (stream gs) ≡ length (stream fs)) }
 {}
 
-/// Redacting twice is redacting once: of a text, and of an accepted stream.
+/// The redaction of a stream has the same verdict: it is accepted or cut with the same counts and the same close code, or
+/// refused at the same offset for the same reason. The same heads are reported of its frames.
+pub fn law_same_verdict()
+    ensures { (role : Role) (limits : Limits) (bytes redacted : List ℕ) (fs : List Frame) (verdict : Verdict) →
+        IsBytes bytes → IsVerdict role limits bytes fs verdict → IsRedaction role limits bytes redacted →
+        (gs : List Frame) × IsVerdict role limits redacted gs verdict × (heads_of gs ≡ heads_of fs) }
+{}
+
+/// Redacting twice is redacting once: of a text, even if it goes wrong at its last byte, and of every stream.
 pub fn law_twice_is_once()
     ensures text { (text : List ℕ) → BeginsText text → stood [] (stood [] text) ≡ stood [] text }
+    ensures any_text { (text redacted : List ℕ) → IsRedacted text redacted → IsRedacted redacted redacted }
     ensures accepted { (role : Role) (limits : Limits) (bytes redacted : List ℕ) (fs : List Frame) →
         IsAccepted role limits bytes fs → IsRedaction role limits bytes redacted →
         IsRedaction role limits redacted redacted }
+    ensures stream { (role : Role) (limits : Limits) (bytes redacted : List ℕ) →
+        IsBytes bytes → IsRedaction role limits bytes redacted → IsRedaction role limits redacted redacted }
 {}
 
 /// The redaction of a text begins text exactly if the text does, and is text exactly if it is. So a text that goes wrong

@@ -10,12 +10,15 @@
 //! written.
 #![tactic(auto)]
 
+pub mod alike_examples;
+pub mod alike_laws;
 pub mod capture_examples;
 pub mod capture_laws;
 mod capture_redacting;
 mod capture_redactor;
 mod due;
 pub mod examples;
+mod extension_names;
 pub mod laws;
 mod redacted_line;
 mod redacting;

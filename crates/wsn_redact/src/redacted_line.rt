@@ -1,10 +1,13 @@
-ghost use Rattle.std.specs.Prelude.{◌≡◌, ◌≤◌, ◌+◌, ◌*◌, ◌↔◌, ◌++◌, ℕ, List, length, take, false, IsTrue};
+ghost use Rattle.std.specs.Prelude.{◌≡◌, ◌≤◌, ◌+◌, ◌*◌, ◌↔◌, ◌++◌, ℕ, List, length, take, IsTrue};
 ghost use Rattle.hex.specs.Hex.{encode_lower};
 ghost use Rattle.wsn_rules.specs.Entries.{without_cr, bytes_prefix};
 ghost use Rattle.wsn_capture.specs.LineEntries.{FitsInLine, held_entry};
 ghost use Rattle.wsn_show.specs.EndedBy.{reset_comment};
-ghost use Rattle.wsn_redact.specs.RedactedCaptures.{is_left_out, without_values, extensions_prefix, IsReset, Stays, IsRedactedNothing, IsRedactedText, IsRedactedLine};
+ghost use Rattle.wsn_redact.specs.declared.extension_names.Within.TheVariants.{Name};
+ghost use Rattle.wsn_redact.specs.ExtensionNames.{names_in};
+ghost use Rattle.wsn_redact.specs.RedactedCaptures.{extensions_prefix, IsReset, Stays, IsRedactedNothing, IsRedactedText, IsRedactedLine};
 
+use crate::extension_names::put_names;
 use wsn_capture::{LineEntry, strip_cr};
 use wsn_show::time_of;
 use wsn_wire::Role;
@@ -108,42 +111,14 @@ fn reset_comment(role: Role) -> &'static [u8]
     }
 }
 
-/// Puts the comment with a list of extensions, without the values of their parameters, and returns its length.
+/// Puts the comment with what is left of a list of extensions, and returns its length.
 fn put_extensions(list: &[u8], into: &mut [u8; LINE_ROOM]) -> usize
     requires { length list.now + 14 ≤ 8194 }
     ensures within { result ≤ 8194 }
-    ensures text { take result into.new ≡ extensions_prefix ++ without_values false list.now }
+    ensures text { take result into.new ≡ extensions_prefix ++ names_in Name list.now }
 {
     let front = put(&EXTENSIONS, into);
     put_names(list, into, front)
-}
-
-/// Puts a list of extensions without the values of their parameters after the first `front` bytes, and returns the length
-/// of both.
-fn put_names(list: &[u8], into: &mut [u8; LINE_ROOM], front: usize) -> usize
-    requires { front + length list.now ≤ 8194 }
-    ensures within { result ≤ front + length list.now }
-    ensures names { take result into.new ≡ take front into.old ++ without_values false list.now }
-{
-    let mut count = front;
-    let mut in_value = false;
-    for i in 0..list.len() {
-        let byte = list[i];
-        if is_left_out(in_value, byte) {
-            continue;
-        }
-        into[count] = byte;
-        count += 1;
-        in_value = byte == b'=';
-    }
-    count
-}
-
-/// Whether a byte of a list of extensions is left out.
-fn is_left_out(in_value: bool, byte: u8) -> bool
-    ensures { result ≡ is_left_out in_value byte }
-{
-    in_value && !(byte == b';' || byte == b',')
 }
 
 /// Puts a text as it is, and returns its length.
