@@ -86,14 +86,14 @@ typedef struct wsn_answer {
 
 /*
  * Statuses. 0: accepted; there is a plan; the recut is done; the streams mean
- * the same; the connection closed clean or complete; the payload is whole. 1:
- * any other answer; it is in `output`, but that of wsn_payload, wsn_normal,
- * wsn_plan and both recuts in `message`. 2: no answer; `message` says why:
- * "usage" if an option or argument is out of range, "input limit" (more than
- * 2^40 bytes), "out of memory", "write failed" if memory for the text was
- * refused, the first faulty line of a capture or plan, such as "line 3:
- * bad-hex", or that no event begins at an offset. `output` may have what was
- * printed before.
+ * the same; the connection closed clean or complete; the payload is whole; the
+ * redaction is written. 1: any other answer; it is in `output`, but that of
+ * wsn_payload, wsn_normal, wsn_plan and both recuts in `message`. 2: no answer;
+ * `message` says why: "usage" if an option or argument is out of range, "input
+ * limit" (more than 2^40 bytes), "out of memory", "write failed" if memory for
+ * the text was refused, the first faulty line of a capture or plan, such as
+ * "line 3: bad-hex", or that no event begins at an offset. `output` may have
+ * what was printed before.
  */
 
 /* The default options: the values in the comments of wsn_options. */
@@ -181,6 +181,16 @@ wsn_answer wsn_redact(const wsn_options *options,
                       const void *stream, size_t stream_size,
                       void *output, size_t output_size,
                       void *message, size_t message_size);
+
+/*
+ * Writes a capture without what was said: its redaction, of as many lines, with
+ * those of both streams. Status 0 however the connection closed. At a faulty
+ * line `output` has the redaction of the lines before it.
+ */
+wsn_answer wsn_redact_capture(const wsn_options *options,
+                              const void *capture, size_t capture_size,
+                              void *output, size_t output_size,
+                              void *message, size_t message_size);
 
 /* Prints how a stream is framed: its plan. */
 wsn_answer wsn_plan(const wsn_options *options,

@@ -32,7 +32,7 @@ function partsOf({ name, capture }, code) {
   return { name, version: kept.version, explained, capture, shown: shown.text, wire: wire.text };
 }
 
-/** Why a capture isn't shown: its first line that isn't accepted. */
+/** Why a capture isn't shown or redacted: its first line that isn't accepted. */
 class LineError extends Error {
   constructor(message, capture) {
     const [, line, word] = /^line (\d+): (.*)\n$/.exec(message) ?? [];
@@ -55,16 +55,37 @@ function judgedWords(verdict, side) {
   return ` wsn judge --role ${side} prints: ${judgeLine(verdict)}.${role}`;
 }
 
-/** Says why nothing is shown. */
+/** Says why something can't be done. */
 function complain(error) {
   const parts = [make("p", "", `${given ? `${given.name}: ` : ""}${error.message}`)];
   if (error.line !== undefined) parts.push(make("pre", "", ...visible(front(error.line, 200)[0])));
   if (error.explained) parts.push(make("pre", "explained", error.explained.trimEnd()));
-  document.title = TITLE;
   there("trouble").replaceChildren(...parts);
-  there("page").replaceChildren();
   there("status").replaceChildren();
+}
+
+/** Shows no session. */
+function showNothing() {
+  document.title = TITLE;
+  there("page").replaceChildren();
   there("drop").classList.remove("done");
+}
+
+/** Saves what `wsn redact` writes of a capture or stream, and says what is still in it. Throws an Error if it can't. */
+function saveRedacted({ name, capture, stream }, side, code) {
+  const redacted = stream ? code.redact(stream, side) : code.redact(bytesOfCapture(capture));
+  if (redacted.status === 2) throw new LineError(redacted.message, capture);
+  const file = redactedName(name, Boolean(stream));
+  offer(file, [redacted.bytes], stream ? "application/octet-stream" : "text/plain");
+  there("trouble").replaceChildren();
+  there("status").replaceChildren(redactedWords(file, Boolean(stream)));
+}
+
+/** The button that saves the redaction of what was given. What is shown stays if that can't be done. */
+function redactingButton(shown, side, code) {
+  const made = button("Save redacted", () => attempt(() => saveRedacted(shown, side, code), () => {}));
+  made.title = "Saves it without what was said, for anyone to see: lengths, times, spaces and punctuation stay";
+  return made;
 }
 
 /** The endpoint that sent the stream, as it was chosen; nothing before. */
@@ -82,24 +103,26 @@ function askSide({ name, form }) {
 
 /** Shows what was given. */
 async function present() {
-  const { name, form, stream } = given, side = chosenSide(), code = await engine;
+  const shown = given, { name, form, stream } = shown, side = chosenSide(), code = await engine;
   there("side").hidden = !stream;
   there("trouble").replaceChildren();
-  if (stream && !side) return askSide(given);
-  const capture = stream ? captureOfStream(stream, side) : given.capture, parts = partsOf({ name, capture }, code);
+  if (stream && !side) return askSide(shown);
+  const capture = stream ? captureOfStream(stream, side) : shown.capture, parts = partsOf({ name, capture }, code);
   const judged = stream ? judgedWords(code.judge(stream, side), side) : "";
   there("drop").classList.add("done");
   document.title = titleFor(name);
-  layOut(parts, { label: "Save with this capture", source: () => pageOf(kept.template, parts) });
+  const source = () => pageOf(kept.template, parts), redacted = redactingButton(shown, side, code);
+  layOut(parts, { label: "Save with this capture", source, redacted });
   there("status").replaceChildren(`${name} was read as ${form}.${judged}`);
 }
 
-/** Does something, and says why if it can't be done. */
-async function attempt(work) {
+/** Does something, and says why if it can't be done; then nothing is shown, or what else follows. */
+async function attempt(work, follows = showNothing) {
   there("drop").ariaBusy = "true";
   try {
     await work();
   } catch (error) {
+    follows();
     complain(error instanceof RangeError ? new Error("It needs more memory than this browser gives.") : error);
   }
   there("drop").ariaBusy = "false";

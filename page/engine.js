@@ -41,7 +41,7 @@ class Engine {
     [lengths, detail, role].forEach((value, place) => view.setUint8(8 + place, value));
   }
 
-  /** A call with rooms for a text of some size: the text, the message, and the exit status. */
+  /** A call with rooms for an output of some size: the output, the message, and the exit status. */
   call(name, bytes, settings, size) {
     const sizes = [ANSWER_SIZE, SETTINGS_SIZE, bytes.length, size, size, MESSAGE_ROOM];
     const [answer, asked, input, scratch, output, message] = this.rooms(...sizes), { buffer } = this.calls.memory;
@@ -49,14 +49,14 @@ class Engine {
     this.putSettings(asked, settings);
     const rooms = [input, bytes.length, scratch, size, output, size, message, MESSAGE_ROOM];
     this.calls[name](...[answer, asked, ...rooms].map(BigInt));
-    const view = new DataView(buffer, answer, ANSWER_SIZE), decoder = new TextDecoder("utf-8", { ignoreBOM: true });
-    const text = (at, place) => decoder.decode(new Uint8Array(buffer, at, Number(view.getBigUint64(place, true))));
-    return { text: text(output, 0), message: text(message, 8), status: view.getUint8(16) };
+    const view = new DataView(buffer, answer, ANSWER_SIZE);
+    const given = (at, place) => new Uint8Array(buffer, at, Number(view.getBigUint64(place, true)));
+    return { output: given(output, 0), message: decoded(given(message, 8)), status: view.getUint8(16) };
   }
 
-  /** What a call gives with enough room for its text. */
-  answer(name, bytes, settings) {
-    for (let size = Math.max(MEMORY_UNIT, 8 * bytes.length); ; size *= 2) {
+  /** What a call gives with enough room for its output, which is in the engine's memory until the next call. */
+  answer(name, bytes, settings, first = 8 * bytes.length) {
+    for (let size = Math.max(MEMORY_UNIT, first); ; size *= 2) {
       const given = this.call(name, bytes, settings, size);
       if (given.message !== "write failed\n") return given;
     }
@@ -64,12 +64,20 @@ class Engine {
 
   /** What `wsn show --json --view 4096` says of a capture: of its events, or of its frames with `--wire`. */
   show(capture, wire) {
-    return this.answer("wsn_page_show", capture, { detail: Number(wire), role: 0 });
+    const { output, ...ended } = this.answer("wsn_page_show", capture, { detail: Number(wire), role: 0 });
+    return { text: decoded(output), ...ended };
+  }
+
+  /** What `wsn redact` writes of a capture or, with a side, of its stream: no more bytes than these. */
+  redact(bytes, side) {
+    const name = side ? "wsn_page_redact_stream" : "wsn_page_redact", role = side ? SIDES.indexOf(side) : 0;
+    const { output, ...ended } = this.answer(name, bytes, { detail: 0, role }, bytes.length);
+    return { bytes: output.slice(), ...ended };
   }
 
   /** The verdict on the stream of one endpoint. */
   judge(stream, side) {
-    const { text } = this.answer("wsn_page_show_stream", stream, { detail: 1, role: SIDES.indexOf(side) });
-    return JSON.parse(text.trimEnd().split("\n").pop());
+    const { output } = this.answer("wsn_page_show_stream", stream, { detail: 1, role: SIDES.indexOf(side) });
+    return JSON.parse(decoded(output).trimEnd().split("\n").pop());
   }
 }

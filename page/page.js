@@ -135,7 +135,7 @@ function barOf(session, save) {
   const saveCapture = () => offer(fileName(session, ".capture"), [bytesOfCapture(session.capture)], "text/plain");
   const bar = make("header", "bar", ...names,
     button(save.label, () => offer(fileName(session, ".html"), [save.source()], "text/html")),
-    session.part ? "" : button("Save capture", saveCapture), button("Light / dark", switchTheme));
+    session.part ? "" : button("Save capture", saveCapture), save.redacted, button("Light / dark", switchTheme));
   bar.querySelector("button").title = "Saves this page with its capture: one file for a ticket";
   return bar;
 }
@@ -194,7 +194,10 @@ function gridOf(session, rows) {
   return grid;
 }
 
-/** Lays a session out. `wsn.html` calls this with what its engine says of a capture, and with how its page is saved. */
+/**
+ * Lays a session out. `wsn.html` calls this with what its engine says of a capture, with how its page is saved, and with
+ * the button that saves its redaction.
+ */
 function layOut(parts, save = SAVE) {
   laidOut?.abort();
   laidOut = new AbortController();

@@ -1,4 +1,5 @@
-// The page that `page/build CAPTURE` makes, made here: the same template, style, script, and JSON, to the byte.
+// What is saved: the page that `page/build CAPTURE` makes, made here of the same template, style, script and JSON, to the
+// byte; and what `wsn redact` writes.
 
 const UNSEEN = /[\0-\x1f\x7f-\x9f\xad\u034f\u061c\u115f\u1160\u17b4\u17b5\u180e\u200b\u200e\u200f\u2028-\u202e\u2060-\u206f\u3164\ufeff\uffa0\ufff0-\ufff8\u{1bca0}-\u{1bca3}\u{1d173}-\u{1d17a}\u{e0000}-\u{e00ff}\u{e01f0}-\u{e0fff}\ud800-\udfff]/gu;
 
@@ -40,4 +41,18 @@ function pageOf(template, { name, version, explained, capture, shown, wire }) {
     SHOWN: arrayOf(shown), WIRE: arrayOf(wire),
   };
   return template.replace(/@([A-Z]+)@/g, (_, part) => parts[part]);
+}
+
+/** The name of the file with what `wsn redact` writes. */
+function redactedName(name, isStream) {
+  const bare = isStream ? name.replace(/\.bin$/, "") : name;
+  return fileName({ name: bare }, isStream ? ".redacted.bin" : ".redacted.capture");
+}
+
+/** What is no longer in a saved redaction, and what still is. */
+function redactedWords(file, isStream) {
+  const comments = isStream ? "" : "; comments are # but for times, resets and the names of extensions";
+  return `Saved as ${file}, without what was said: in texts and close reasons letters are x or X, digits 0, and `
+    + `characters beyond ASCII others of as many bytes; other payloads are zeros${comments}. Lengths, spaces and `
+    + "punctuation, close codes and masking keys are still in it, and so is where a stream goes wrong.";
 }

@@ -583,12 +583,13 @@ def normal(data: Any, role: str, **limits: Any) -> bytes:
         return _written("wsn_normal", options, stream)
 
 
-def redact(data: Any, role: str, **limits: Any) -> bytes:
-    """Returns a stream without what was said: each byte in its place, all framing as it was, and the same verdict. Also of
-    a stream that is cut or refused."""
-    options = _options(role, json_lines=False, **limits)
-    with _Lent(data) as stream:
-        return _written("wsn_redact", options, stream)
+def redact(data: Any, role: Optional[str] = None, **limits: Any) -> bytes:
+    """Returns a capture without what was said; with a role, the stream of that endpoint: each byte in its place, all framing
+    as it was, and the same report or verdict. Also where a stream is cut or refused. `FaultyCapture` at a line that isn't
+    accepted. The limits are those of `judge`."""
+    options = _options(role or "client", json_lines=False, **limits)
+    with _Lent(data) as given:
+        return _written("wsn_redact" if role else "wsn_redact_capture", options, given)
 
 
 def plan(data: Any, role: str, **limits: Any) -> str:

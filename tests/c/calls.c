@@ -85,6 +85,8 @@ static wsn_answer call(const char *command, const wsn_options *options, const st
         return wsn_normal(options, in->at, in->size, output.at, output.size, message.at, message.size);
     if (strcmp(command, "redact") == 0)
         return wsn_redact(options, in->at, in->size, output.at, output.size, message.at, message.size);
+    if (strcmp(command, "redact-capture") == 0)
+        return wsn_redact_capture(options, in->at, in->size, output.at, output.size, message.at, message.size);
     if (strcmp(command, "plan") == 0)
         return wsn_plan(options, in->at, in->size, output.at, output.size, message.at, message.size);
     if (strcmp(command, "same") == 0)

@@ -1,7 +1,4 @@
-"""--redact of the recipes and of page/build: nothing of what was said is written, printed or left in a file.
-
-What is looked for: any six bytes in a row of a secret, as they are, masked at any offset of the key, and in hexadecimal.
-"""
+"""--redact of the recipes and of page/build: nothing of what was said is written, printed or left in a file."""
 
 import os
 import re
@@ -17,15 +14,12 @@ from harness import SECONDS, TOP, WSN, Failed, run, said_in, same, short, sides,
 from test_netlog import BEGUN, CLOSED, SENT, made, passed
 from test_record import exactly, flood, plain, sessions, until
 
-sys.path.insert(0, str(TOP / "recipes"))
+sys.path[:0] = [str(TOP / "recipes"), str(TOP / "tests")]
 
 from redaction import without_values  # noqa: E402
-
-KEY = b"\x37\xfa\x21\x3d"
-TEXT, BINARY, PING, REASON = b"Passw0rd-of-Ann", b"\x00Bin4ry\xffBlob", b"P1ng-Payl0ad", b"Re4son-to-Leave"
-PATH, QUERY, COOKIE, PROTOCOL = b"/path-of-Ann9", b"t0ken=Qu3ryOfAnn", b"sid=C00kieOfAnn", b"pr0tocol-Of-Ann"
-VALUE, LINE, BODY, BEARER = b"Val2eOfExtens1on", b"St4tusOfAnswer", b"B0dyOfTheAnswer", b"Re4lmOfAnn"
-SECRETS = TEXT, BINARY, PING, REASON, PATH, QUERY, COOKIE, PROTOCOL, VALUE, LINE, BODY, BEARER
+from secret_session import (  # noqa: E402
+    BEARER, BODY, COOKIE, LEFT, LINE, PATH, PROTOCOL, QUERY, TALK, TEXT, VALUE, frame, secrets_in, written,
+)  # fmt: skip
 
 ASK = (b"GET %s?%s HTTP/1.1\r\nHost: localhost:1\r\nUpgrade: websocket\r\nConnection: Upgrade\r\nCookie: %s\r\n\r\n"
        % (PATH, QUERY, COOKIE))  # fmt: skip
@@ -35,47 +29,10 @@ REFUSAL = (b"HTTP/1.1 401 %s\r\nWWW-Authenticate: Bearer realm=%s\r\nLocation: %
            % (LINE, BEARER, PATH, len(BODY), BODY))  # fmt: skip
 
 
-def masked(data):
-    """Bytes under the key."""
-    return bytes(byte ^ KEY[at % 4] for at, byte in enumerate(data))
-
-
-def frame(side, opcode, payload):
-    """A frame of one of at most 125 bytes."""
-    if side == "S":
-        return bytes([0x80 | opcode, len(payload)]) + payload
-    return bytes([0x80 | opcode, 0x80 | len(payload)]) + KEY + masked(payload)
-
-
-TALK = [(side, frame(side, opcode, payload)) for opcode, payload in
-        ((1, TEXT), (2, BINARY), (9, PING), (8, b"\x03\xe8" + REASON)) for side in "CS"]  # fmt: skip
-# The same without what was said.
-LEFT = [(side, frame(side, opcode, payload)) for opcode, payload in
-        ((1, b"Xxxxx0xx-xx-Xxx"), (2, bytes(len(BINARY))), (9, bytes(len(PING))), (8, b"\x03\xe8Xx0xxx-xx-Xxxxx"))
-        for side in "CS"]  # fmt: skip
-
-
-def written(talk):
-    """The lines of a talk."""
-    return "".join(f"{side} {data.hex()}\n" for side, data in talk).encode()
-
-
-def forms_of(secret):
-    """Each six bytes of a secret, as they can be written."""
-    for at in range(len(secret) - 5):
-        part = secret[at : at + 6]
-        turned = [bytes(byte ^ KEY[(place + turn) % 4] for place, byte in enumerate(part)) for turn in range(4)]
-        for data in part, *turned:
-            yield from (data, data.hex().encode(), data.hex(" ").encode(), data.hex().upper().encode())
-
-
-FORMS = {form: secret for secret in SECRETS for form in forms_of(secret)}
-
-
 def holds_no_secret(data, what):
     """A test fails if a secret is in here."""
-    found = [secret for form, secret in FORMS.items() if form in data]
-    want(not found, f"{what} holds {found[:1]}: {short(data)}")
+    found = secrets_in(data)
+    want(not found, f"{what} holds {found}: {short(data)}")
 
 
 def no_file_holds_a_secret(folder, what, but=()):

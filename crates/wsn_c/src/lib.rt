@@ -23,7 +23,7 @@ pub use answer::Answer;
 pub use comparing::{wsn_same, wsn_same_view};
 pub use defaults::wsn_defaults;
 pub use options::{Asked, Options};
-pub use over_captures::{wsn_closing, wsn_show};
+pub use over_captures::{wsn_closing, wsn_redact_capture, wsn_show};
 pub use over_streams::{
     wsn_frames, wsn_judge, wsn_normal, wsn_payload, wsn_plan, wsn_redact, wsn_show_stream,
 };

@@ -3,9 +3,15 @@ use Rattle.std.specs.Prelude.{◌≡◌, ◌++◌, ℕ, Bool, true, false, Resul
 use Rattle.std.specs.declared.alloc.Global.{Global}
 use Rattle.wsn_io.specs.Transfer.{Incoming, Outgoing}
 use Rattle.wsn_io.specs.declared.stop.Stop.{Stop}
+use Rattle.wsn_io.specs.declared.stop.Stop.TheVariants as stop
 use Rattle.wsn_capture.specs.declared.capture_report.CaptureReport.{CaptureReport}
 use Rattle.wsn_rules.specs.declared.verdict.Verdict.{Verdict}
 use Rattle.wsn_print.specs.StopText.{stop_line}
+use Rattle.wsn_print.specs.FaultText.{line_fault_line}
+use Rattle.wsn_capture.specs.LineFaults.{fault_word}
+use Rattle.wsn_capture.specs.declared.capture_stop.CaptureStop.{CaptureStop}
+use Rattle.wsn_capture.specs.declared.capture_stop.CaptureStop.TheVariants as capture
+use Rattle.wsn_redact.specs.declared.capture_redacting.RedactStop.{RedactStop}
 use Rattle.wsn_show.specs.declared.showing.ShowStop.{ShowStop}
 use Rattle.wsn_print.specs.declared.style.Style.{Style}
 use Rattle.wsn_command.specs.declared.answered.Ran.{Ran}
@@ -13,6 +19,7 @@ use Rattle.wsn_command.specs.declared.job.Job.{Job}
 use Rattle.wsn_job.specs.Jobs.{IsRun}
 use Rattle.wsn_job.specs.Channels.{channels}
 use Rattle.wsn_job.specs.Closings.{closing_stop_line}
+use Rattle.wsn_job.specs.Redactions.{redact_stop_line}
 use Rattle.wsn_page.specs.declared.answer.Answer.{Answer}
 use Rattle.wsn_page.specs.declared.settings.Settings.{Settings}
 use Rattle.wsn_page.specs.Asking.{IsStyleAsked}
@@ -83,6 +90,16 @@ GivesShown settings job bytes done = (style : Style) × IsStyleAsked settings st
 abbrev pub shown_message : Result CaptureReport ShowStop → List ℕ
 shown_message (Ok read) = []
 shown_message (Err stopped) = closing_stop_line stopped
+
+-- the message for a capture's redaction: none once all is written
+abbrev pub redacted_message : Result (Unit {0}) RedactStop → List ℕ
+redacted_message (Ok done) = []
+redacted_message (Err stopped) = redact_stop_line stopped
+
+-- the line for a stop at a capture's line; they are counted from 1
+abbrev pub capture_stop_line : CaptureStop → List ℕ
+capture_stop_line capture.Read = stop_line stop.Read
+capture_stop_line (capture.Line number fault) = line_fault_line number (fault_word fault)
 
 -- the message for a stream's verdict or stop: none for a verdict
 abbrev pub stream_message : Result Verdict Stop → List ℕ

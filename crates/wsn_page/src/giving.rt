@@ -1,12 +1,14 @@
 ghost use Rattle.std.specs.Prelude.{◌≡◌};
-ghost use Rattle.wsn_page.specs.Calls.{Gives, call, fitted, shown_message, stream_message};
+ghost use Rattle.wsn_page.specs.Calls.{Gives, call, fitted, capture_stop_line, redacted_message, shown_message, stream_message};
 ghost use Rattle.wsn_job.specs.Closings.{closing_status};
+ghost use Rattle.wsn_job.specs.Redactions.{redact_capture_status, redact_status};
 ghost use Rattle.wsn_print.specs.Statuses.{verdict_status};
 
 use crate::answer::Answer;
 use wsn_capture::{CaptureReport, CaptureStop};
 use wsn_io::Stop;
 use wsn_print::{line_of_line_fault, line_of_stop, status_of_outcome, status_of_verdict};
+use wsn_redact::RedactStop;
 use wsn_rules::Verdict;
 use wsn_show::ShowStop;
 
@@ -28,13 +30,7 @@ pub(crate) fn give_shown(
             output,
             message,
         ),
-        Err(ShowStop::Capture(CaptureStop::Line { number, fault })) => {
-            let line = line_of_line_fault(number, fault.word());
-            give(2, text, line.bytes(), output, message)
-        }
-        Err(ShowStop::Capture(CaptureStop::Read)) => {
-            give(2, text, line_of_stop(Stop::Read).bytes(), output, message)
-        }
+        Err(ShowStop::Capture(stop)) => give_capture_stop(stop, text, output, message),
         Err(ShowStop::Write) => {
             give(2, text, line_of_stop(Stop::Write).bytes(), output, message)
         }
@@ -55,6 +51,59 @@ pub(crate) fn give_stream(
     match done {
         Ok(_) => give(status, text, b"", output, message),
         Err(stop) => give(status, text, line_of_stop(stop).bytes(), output, message),
+    }
+}
+
+/// Gives what was written of a capture's redaction, and how that ended.
+pub(crate) fn give_redacted(
+    done: Result<(), RedactStop>,
+    text: &[u8],
+    output: &mut [u8],
+    message: &mut [u8],
+) -> Answer
+    ensures { Gives (call output.old output.new message.old message.new result) text.now (redacted_message done)
+        (redact_capture_status done) }
+{
+    match done {
+        Ok(()) => give(0, text, b"", output, message),
+        Err(RedactStop::Capture(stop)) => give_capture_stop(stop, text, output, message),
+        Err(RedactStop::Write) => {
+            give(2, text, line_of_stop(Stop::Write).bytes(), output, message)
+        }
+    }
+}
+
+/// Gives what was written of a stream's redaction, and how that ended.
+pub(crate) fn give_redacted_stream(
+    done: Result<Verdict, Stop>,
+    text: &[u8],
+    output: &mut [u8],
+    message: &mut [u8],
+) -> Answer
+    ensures { Gives (call output.old output.new message.old message.new result) text.now (stream_message done)
+        (redact_status done) }
+{
+    match done {
+        Ok(_) => give(0, text, b"", output, message),
+        Err(stop) => give(2, text, line_of_stop(stop).bytes(), output, message),
+    }
+}
+
+/// Gives what was printed of a capture before a line that isn't accepted, or a read that failed.
+fn give_capture_stop(
+    stop: CaptureStop,
+    text: &[u8],
+    output: &mut [u8],
+    message: &mut [u8],
+) -> Answer
+    ensures { Gives (call output.old output.new message.old message.new result) text.now (capture_stop_line stop) 2 }
+{
+    match stop {
+        CaptureStop::Line { number, fault } => {
+            let line = line_of_line_fault(number, fault.word());
+            give(2, text, line.bytes(), output, message)
+        }
+        CaptureStop::Read => give(2, text, line_of_stop(Stop::Read).bytes(), output, message),
     }
 }
 
