@@ -1,14 +1,16 @@
 -- Bytes that are replaced by themselves: by blocks, in place, and before what is longer.
-use Rattle.std.proofs.Common.{◌≡◌, ℕ, suc, ◌+◌, ◌-◌, ◌<◌, ◌≤◌, ◌^◌, ◌%◌, ◌&&◌, Bool, true, false, cond, leb, List, [], ◌∷◌, ◌++◌, map, length, take, drop, replicate, slice_index, bit_and, bit_or, if◌then◌else◌, inl, inr, refl, sym, ap, ◌∙◌, subst, append_assoc, append-nil, length-append, length-drop, arith}
+use Rattle.std.proofs.Common.{◌≡◌, ℕ, suc, ◌+◌, ◌-◌, ◌<◌, ◌≤◌, ◌^◌, ◌%◌, ◌&&◌, Bool, true, false, cond, leb, List, [], ◌∷◌, ◌++◌, map, length, take, drop, get_or, replicate, slice_index, slice_set, bit_and, bit_or, if◌then◌else◌, inl, inr, refl, sym, ap, ◌∙◌, subst, append_assoc, append-nil, length-append, length-drop, arith, zero, nat_lt, ltb-true}
 use Rattle.std.specs.Prelude.{nat_eq, IsTrue, IsAscii}
-use Rattle.std.proofs.lemmas.Bool.{cases_lt}
+use Rattle.std.proofs.lemmas.Bool.{cases_lt, and_parts}
 use Rattle.std.proofs.lemmas.Grind.{common_steps}
-use Rattle.std.proofs.lemmas.List.{length-map, length-take-le, map-append, take-map, take_at, drop_at, take_all, drop_all, take-take, take-append-le, take-append-drop, drop-drop, get_or_past}
+use Rattle.std.proofs.lemmas.List.{length-map, length-take-le, map-append, take-map, take_at, drop_at, take_all, drop_all, take-take, take-append-le, take-append-drop, drop-drop, get_or_past, get_or_at, set_at, drop_more, take_more}
 use Rattle.std.proofs.lemmas.Nat.{le_or_l, le_or_r}
 use Rattle.std.proofs.lemmas.Simd.{put_chunk_is, get_or-zip2, get_or-chunk}
 use Rattle.std.proofs.Math.Seq.{take-add}
 use lib.Lanes.{zip2, chunk, put_chunk, sel_l, mask_l, top}
+use borrow.Rule.Slice.PartMut.{put_mid, mid_of}
 use Rattle.wsn_text.proofs.Blocks.{block_below}
+use Rattle.wsn_redact.proofs.StoodTexts.{length-stood, stood-append, due_after-append, stood_front}
 use Rattle.wsn_redact.specs.StandIns.{is_from, single_stand_in, stand_in, stood, due_after}
 
 -- ---- in place: a prefix is replaced, the other bytes are unchanged
@@ -70,6 +72,23 @@ singles_front-last bytes now last size at whole reached within is =
     ∙ ap (λ (bs : List ℕ). singles (take last bytes) ++ bs) (append-nil (singles behind))
     ∙ sym (map-append single_stand_in (take last bytes) behind) ∙ ap singles (take-append-drop last bytes)
 
+-- A prefix longer by one byte.
+pub singles_front-at : (bytes : List ℕ) (i : ℕ) → i < length bytes → get_or (singles_front bytes i) i 0 ≡ get_or bytes i 0
+singles_front-at bytes i within =
+    let front = singles (take i bytes) in
+    ap (λ (bs : List ℕ). get_or (front ++ bs) i 0) (drop_more bytes i 0 within)
+    ∙ get_or_at front (get_or bytes i 0) (drop (i + 1) bytes) 0 i (length-front bytes i (omega (arith, within)))
+
+pub singles_front-set : (bytes : List ℕ) (i : ℕ) → i < length bytes → slice_set (singles_front bytes i) i (single_stand_in (get_or (singles_front bytes i) i 0)) ≡ singles_front bytes (i + 1)
+singles_front-set bytes i within =
+    let front = singles (take i bytes) in
+    let byte = single_stand_in (get_or bytes i 0) in
+    let whole : singles_front bytes i ≡ front ++ get_or bytes i 0 ∷ drop (i + 1) bytes = ap (λ (bs : List ℕ). front ++ bs) (drop_more bytes i 0 within) in
+    let longer : singles (take (i + 1) bytes) ≡ front ++ byte ∷ [] = ap singles (take_more bytes i 0 within) ∙ map-append single_stand_in (take i bytes) (get_or bytes i 0 ∷ []) in
+    ap (λ (b : ℕ). slice_set (singles_front bytes i) i (single_stand_in b)) (singles_front-at bytes i within)
+    ∙ ap (λ (bs : List ℕ). slice_set bs i byte) whole ∙ set_at front (get_or bytes i 0) (drop (i + 1) bytes) byte i (length-front bytes i (omega (arith, within)))
+    ∙ sym (ap (λ (bs : List ℕ). bs ++ drop (i + 1) bytes) longer ∙ append_assoc front (byte ∷ []) (drop (i + 1) bytes))
+
 -- ---- lanes
 
 one_lane : (low high other b : ℕ) → cond (top 7 (bit_and (cond (leb low b) 255 0) (cond (leb b high) 255 0))) other b ≡ (if is_from low high b then other else b)
@@ -130,6 +149,10 @@ same_stand_in b = elim (cases_lt b 128) [
   | inr from ↦ ap stand_in (single_longer b from)
 ]
 
+pub singles_twice : (bytes : List ℕ) → singles (singles bytes) ≡ singles bytes
+singles_twice [] = refl
+singles_twice (b ∷ bytes) = (λ i. single_twice b i ∷ singles_twice bytes i)
+
 -- ---- texts
 
 -- What is written is the same after bytes are replaced by themselves.
@@ -158,13 +181,13 @@ due_after_ascii (b ∷ text) ascii =
 
 -- ---- ASCII, by blocks
 
-pub ascii_lanes : (v : List ℕ) → length v ≡ 32 → IsTrue (nat_eq (mask_l (map (top 7) (zip2 (λ (a b : ℕ). cond (leb a b) 255 0) (replicate 32 128) v)) % 2 ^ 64) 0) → IsAscii v
-ascii_lanes v long low i = elim (cases_lt i 32) [
+pub ascii_lanes : (n : ℕ) (v : List ℕ) → length v ≡ n → n ≤ 64 → IsTrue (nat_eq (mask_l (map (top 7) (zip2 (λ (a b : ℕ). cond (leb a b) 255 0) (replicate n 128) v)) % 2 ^ 64) 0) → IsAscii v
+ascii_lanes n v long few low i = elim (cases_lt i n) [
   | inl within ↦
-      let all : take 32 (drop 0 v) ≡ v = take_all 32 v (omega (arith, long)) in
-      block_below v 0 32 (omega (arith, long)) (omega arith)
-      (subst (λ (bs : List ℕ). IsTrue (nat_eq (mask_l (map (top 7) (zip2 (λ (a b : ℕ). cond (leb a b) 255 0) (replicate 32 128) bs)) % 2 ^ 64) 0)) (sym all) low)
-      i (omega arith) within
+      let all : take n (drop 0 v) ≡ v = take_all n v (omega (arith, long)) in
+      block_below v 0 n (omega (arith, long)) few
+      (subst (λ (bs : List ℕ). IsTrue (nat_eq (mask_l (map (top 7) (zip2 (λ (a b : ℕ). cond (leb a b) 255 0) (replicate n 128) bs)) % 2 ^ 64) 0)) (sym all) low)
+      i (omega arith) (omega (arith, within))
   | inr past ↦ subst (λ (b : ℕ). b < 128) (sym (get_or_past v i 0 (omega (arith, long, past)))) (omega arith)
 ]
 
@@ -204,3 +227,63 @@ ascii_all bytes at last size whole reached front block i = elim (cases_lt i at) 
     | inr past ↦ subst (λ (b : ℕ). b < 128) (sym (get_or_past bytes i 0 past)) (omega arith)
   ]
 ]
+
+-- A prefix, and the byte after it.
+pub ascii_byte : (bytes now : List ℕ) (i : ℕ) (ascii : Bool) → i < length bytes → now ≡ singles_front bytes i → (IsTrue ascii → IsAsciiTo bytes i) → IsTrue (ascii && nat_lt (get_or now i 0) 128) → IsAsciiTo bytes (i + 1)
+ascii_byte bytes now i ascii within is before all k below =
+    let parts = and_parts ascii (nat_lt (get_or now i 0) 128) all in
+    let byte : get_or now i 0 ≡ get_or bytes i 0 = ap (λ (bs : List ℕ). get_or bs i 0) is ∙ singles_front-at bytes i within in
+    elim (cases_lt k i) [
+      | inl l ↦ before parts.0 k l
+      | inr from ↦
+          let place : i ≡ k = omega (arith, from, below) in
+          subst (λ (n : ℕ). slice_index bytes n < 128) place (subst (λ (b : ℕ). b < 128) byte (ltb-true _ _ parts.1))
+    ]
+
+-- ---- a part of a text whose letters and digits are replaced
+
+drop-singles : (n : ℕ) (bytes : List ℕ) → drop n (singles bytes) ≡ singles (drop n bytes)
+drop-singles zero bytes = refl
+drop-singles (suc n) [] = refl
+drop-singles (suc n) (b ∷ bytes) = drop-singles n bytes
+
+part_is : (due bytes now : List ℕ) (at count : ℕ) → at ≤ length bytes → now ≡ stood_front due bytes at → mid_of at count now ≡ take count (drop at bytes)
+part_is due bytes now at count within is =
+    ap (λ (bs : List ℕ). take count (drop at bs)) is
+    ∙ ap (λ (bs : List ℕ). take count bs) (drop_at (stood due (take at bytes)) (drop at bytes) at (length-stood due (take at bytes) ∙ length-take-le at bytes within))
+
+pub part_singles : (due bytes now : List ℕ) (at count : ℕ) → at ≤ length bytes → now ≡ stood_front due bytes at → singles bytes ≡ bytes → singles (mid_of at count now) ≡ mid_of at count now
+part_singles due bytes now at count within is same =
+    let part = part_is due bytes now at count within is in
+    ap singles part ∙ sym (take-map single_stand_in count (drop at bytes)) ∙ ap (λ (bs : List ℕ). take count bs) (sym (drop-singles at bytes))
+    ∙ ap (λ (bs : List ℕ). take count (drop at bs)) same ∙ sym part
+
+pub length-stood_front : (due bytes : List ℕ) (at : ℕ) → at ≤ length bytes → length (stood_front due bytes at) ≡ length bytes
+length-stood_front due bytes at within =
+    omega (arith, length-append (stood due (take at bytes)) (drop at bytes), length-stood due (take at bytes), length-take-le at bytes within, length-drop at bytes)
+
+-- A prefix longer by a part.
+pub stood_front-part : (due bytes now part : List ℕ) (at end : ℕ) → at ≤ end → end ≤ length bytes → now ≡ stood_front due bytes at
+    → part ≡ stood (due_after due (take at bytes)) (mid_of at (end - at) now) → put_mid at (end - at) now part ≡ stood_front due bytes end
+stood_front-part due bytes now part at end more within is part_stood =
+    let count = end - at in
+    let front = stood due (take at bytes) in
+    let some = stood (due_after due (take at bytes)) (take count (drop at bytes)) in
+    let front_length : length front ≡ at = length-stood due (take at bytes) ∙ length-take-le at bytes (omega (arith, more, within)) in
+    let written : part ≡ some = part_stood ∙ ap (λ (bs : List ℕ). stood (due_after due (take at bytes)) bs) (part_is due bytes now at count (omega (arith, more, within)) is) in
+    let whole : at + count ≡ end = omega (arith, more) in
+    let longer : stood due (take (at + count) bytes) ≡ front ++ some = ap (λ (bs : List ℕ). stood due bs) (take-add at count bytes) ∙ stood-append due (take at bytes) (take count (drop at bytes)) in
+    (λ i. take at (is i) ++ (written i ++ drop count (drop at (is i))))
+    ∙ (λ i. take_at front (drop at bytes) at front_length i ++ (some ++ drop count (drop_at front (drop at bytes) at front_length i)))
+    ∙ ap (λ (bs : List ℕ). front ++ (some ++ bs)) (drop-drop count at bytes)
+    ∙ sym (ap (λ (bs : List ℕ). bs ++ drop (at + count) bytes) longer ∙ append_assoc front some (drop (at + count) bytes))
+    ∙ ap (λ (n : ℕ). stood_front due bytes n) whole
+
+pub due_front-part : (due bytes now : List ℕ) (at end : ℕ) → at ≤ end → end ≤ length bytes → now ≡ stood_front due bytes at
+    → due_after (due_after due (take at bytes)) (mid_of at (end - at) now) ≡ due_after due (take end bytes)
+due_front-part due bytes now at end more within is =
+    let count = end - at in
+    let whole : at + count ≡ end = omega (arith, more) in
+    ap (λ (bs : List ℕ). due_after (due_after due (take at bytes)) bs) (part_is due bytes now at count (omega (arith, more, within)) is)
+    ∙ sym (ap (λ (bs : List ℕ). due_after due bs) (take-add at count bytes) ∙ due_after-append due (take at bytes) (take count (drop at bytes)))
+    ∙ ap (λ (n : ℕ). due_after due (take n bytes)) whole

@@ -1,12 +1,12 @@
-ghost use Rattle.std.specs.Prelude.{◌≡◌, ℕ, ◌+◌, [], length, map, slice_index, drop, IsTrue, IsAscii, if◌then◌else◌};
+ghost use Rattle.std.specs.Prelude.{◌≡◌, ℕ, ◌+◌, ◌<◌, ◌≤◌, [], length, map, slice_index, drop, IsTrue, IsAscii, if◌then◌else◌};
 ghost use Rattle.std.specs.Simd.Lanes.{number_l};
 ghost use Rattle.wsn_redact.specs.StandIns.{is_from, single_stand_in, stand_in, due_at, stood, due_after};
 ghost use Rattle.wsn_redact.specs.Dues.{due_of};
 
 use std::simd::prelude::*;
 
-/// The number of bytes that are replaced at once.
-const BLOCK: usize = 32;
+/// The number of bytes that are passed over at once where other bytes aren't ASCII.
+const SOME: usize = 16;
 
 /// The stand-ins of characters that begin with the bytes 0xC0 to 0xFF, each as a number, the first byte lowest. A byte
 /// with which no character begins is its own.
@@ -39,11 +39,34 @@ impl Due {
         ensures written { text.new ≡ stood (due_of self.old) text.old }
         ensures due { due_of self.new ≡ due_after (due_of self.old) text.old }
     {
-        let Some(last) = text.len().checked_sub(BLOCK) else {
-            return self.replace_each(text);
-        };
-        let ascii = replace_singles(text, last);
+        let ascii = replace_singles(text);
         if !ascii || self.bytes != 0 {
+            self.replace_longer(text);
+        }
+    }
+
+    /// The same, if the letters and digits are replaced.
+    fn replace_longer(&mut self, text: &mut [u8])
+        requires { map single_stand_in text.old ≡ text.old }
+        ensures written { text.new ≡ stood (due_of self.old) text.old }
+        ensures due { due_of self.new ≡ due_after (due_of self.old) text.old }
+    {
+        let mut at = 0;
+        while at < text.len() {
+            let end = text.len().min(at + SOME);
+            self.replace_some(&mut text[at..end]);
+            at = end;
+        }
+    }
+
+    /// The same of a few bytes.
+    #[inline(always)]
+    fn replace_some(&mut self, text: &mut [u8])
+        requires { map single_stand_in text.old ≡ text.old }
+        ensures written { text.new ≡ stood (due_of self.old) text.old }
+        ensures due { due_of self.new ≡ due_after (due_of self.old) text.old }
+    {
+        if self.bytes != 0 || !is_ascii_some(text) {
             self.replace_each(text);
         }
     }
@@ -99,31 +122,67 @@ pub fn single(byte: u8) -> u8
     }
 }
 
-/// Replaces the letters and digits of a text by blocks, in place, and returns whether all its bytes are ASCII. The last
-/// block begins at offset `last` and overlaps the one before it, so it is read before that one is written.
+/// Replaces the letters and digits of a text, in place, and returns whether all its bytes are ASCII.
 #[inline(always)]
-fn replace_singles(text: &mut [u8], last: usize) -> bool
-    requires { last + BLOCK ≡ length text.old }
+fn replace_singles(text: &mut [u8]) -> bool
     ensures written { text.new ≡ map single_stand_in text.old }
     ensures ascii { IsTrue result → IsAscii text.old }
 {
-    let end = u8x32::from_slice(&text[last..]);
+    match text.len() {
+        32.. => replace_blocks::<32>(text),
+        8.. => replace_blocks::<8>(text),
+        _ => replace_bytes(text),
+    }
+}
+
+/// The same by blocks of N bytes. The last one overlaps the one before it, so it is read before that one is written.
+#[inline(always)]
+fn replace_blocks<const N: usize>(text: &mut [u8]) -> bool
+    requires lanes { (0 < N) × (N ≤ 64) }
+    requires long { N ≤ length text.old }
+    ensures written { text.new ≡ map single_stand_in text.old }
+    ensures ascii { IsTrue result → IsAscii text.old }
+{
+    let last = text.len() - N;
+    let end = Simd::<u8, N>::from_slice(&text[last..]);
     let mut seen = end;
     let mut at = 0;
     while at < last {
-        let block = u8x32::from_slice(&text[at..]);
+        let block = Simd::<u8, N>::from_slice(&text[at..]);
         single_stand_ins(block).copy_to_slice(&mut text[at..]);
         seen = seen | block;
-        at += BLOCK;
+        at += N;
     }
     single_stand_ins(end).copy_to_slice(&mut text[last..]);
     is_ascii(seen)
 }
 
+/// The same byte by byte.
+#[inline(always)]
+fn replace_bytes(text: &mut [u8]) -> bool
+    ensures written { text.new ≡ map single_stand_in text.old }
+    ensures ascii { IsTrue result → IsAscii text.old }
+{
+    let mut ascii = true;
+    for i in 0..text.len() {
+        ascii &= text[i] < 0x80;
+        text[i] = single(text[i]);
+    }
+    ascii
+}
+
+/// Whether these are `SOME` bytes, and all are ASCII.
+#[inline(always)]
+fn is_ascii_some(text: &[u8]) -> bool
+    ensures { IsTrue result → IsAscii text.now }
+{
+    text.len() == SOME && is_ascii(u8x16::from_slice(text))
+}
+
 /// What the bytes of a block become by themselves.
 #[inline(always)]
-fn single_stand_ins(block: u8x32) -> u8x32
-    ensures { result ≡ map single_stand_in block }
+fn single_stand_ins<const N: usize>(block: Simd<u8, N>) -> Simd<u8, N>
+    ensures { result ≡ map single_stand_in block.entry }
 {
     let block = with_range(block, b'a', b'z', b'x');
     let block = with_range(block, b'A', b'Z', b'X');
@@ -132,17 +191,18 @@ fn single_stand_ins(block: u8x32) -> u8x32
 
 /// The block with another byte in place of each from `low` to `high`.
 #[inline(always)]
-fn with_range(block: u8x32, low: u8, high: u8, other: u8) -> u8x32
-    ensures { result ≡ map (λ b. if is_from low high b then other else b) block }
+fn with_range<const N: usize>(block: Simd<u8, N>, low: u8, high: u8, other: u8) -> Simd<u8, N>
+    ensures { result ≡ map (λ b. if is_from low high b then other else b) block.entry }
 {
-    let within = block.simd_ge(u8x32::splat(low)) & block.simd_le(u8x32::splat(high));
-    within.select(u8x32::splat(other), block)
+    let within = block.simd_ge(Simd::splat(low)) & block.simd_le(Simd::splat(high));
+    within.select(Simd::splat(other), block)
 }
 
 /// Whether all bytes of a block are ASCII.
 #[inline(always)]
-fn is_ascii(block: u8x32) -> bool
-    ensures { IsTrue result → IsAscii block }
+fn is_ascii<const N: usize>(block: Simd<u8, N>) -> bool
+    requires { N ≤ 64 }
+    ensures { IsTrue result → IsAscii block.entry }
 {
-    block.simd_ge(u8x32::splat(0x80)).to_bitmask() == 0
+    block.simd_ge(Simd::splat(0x80)).to_bitmask() == 0
 }

@@ -1,18 +1,21 @@
-use Rattle.std.proofs.Common.{ℕ, List, sym, ap, refl, ◌∙◌}
+use Rattle.std.proofs.Common.{ℕ, List, refl, sym, ap, ◌∙◌}
 use Rattle.wsn_redact.specs.StandIns.{stood, due_after}
 use Rattle.wsn_redact.specs.Dues.{due_of, bytes_in}
-use Rattle.wsn_redact.proofs.Singles.{stood-singles, due_after-singles, stood_ascii, due_after_ascii}
+use Rattle.wsn_redact.proofs.Singles.{singles, singles_twice, stood-singles, due_after-singles, stood_ascii, due_after_ascii}
 use Rattle.wsn_redact.proofs.due.Due.replace.Goals as goal
+
+pub replace_longer-requires : goal.replace_longer-requires
+replace_longer-requires c = ap singles c.replace_singles-ascii.ensures.written ∙ singles_twice c.args.text.now ∙ sym c.replace_singles-ascii.ensures.written
 
 pub returns-then-not-ascii-clause-written : goal.returns-then-not-ascii-clause-written
 returns-then-not-ascii-clause-written c =
     let due = due_of c.args.self.now in
-    c.replace_each-then-not-ascii.ensures.written ∙ ap (λ (bs : List ℕ). stood due bs) c.replace_singles-ascii.ensures.written ∙ stood-singles due c.args.text.now
+    c.replace_longer.ensures.written ∙ ap (λ (bs : List ℕ). stood due bs) c.replace_singles-ascii.ensures.written ∙ stood-singles due c.args.text.now
 
 pub returns-then-not-ascii-clause-due : goal.returns-then-not-ascii-clause-due
 returns-then-not-ascii-clause-due c =
     let due = due_of c.args.self.now in
-    c.replace_each-then-not-ascii.ensures.due ∙ ap (λ (bs : List ℕ). due_after due bs) c.replace_singles-ascii.ensures.written ∙ due_after-singles due c.args.text.now
+    c.replace_longer.ensures.due ∙ ap (λ (bs : List ℕ). due_after due bs) c.replace_singles-ascii.ensures.written ∙ due_after-singles due c.args.text.now
 
 -- Nothing is due, and all is ASCII.
 pub returns-else-self-ne0-clause-written : goal.returns-else-self-ne0-clause-written
