@@ -73,6 +73,7 @@ impl Due {
 
     /// The same, byte by byte.
     fn replace_each(&mut self, text: &mut [u8])
+        requires { map single_stand_in text.old ≡ text.old }
         ensures written { text.new ≡ stood (due_of self.old) text.old }
         ensures due { due_of self.new ≡ due_after (due_of self.old) text.old }
     {
@@ -81,9 +82,10 @@ impl Due {
         }
     }
 
-    /// The byte that takes the place of the next byte of a text.
+    /// The byte that takes the place of the next byte of a text, which is no letter or digit that is to be replaced.
     #[inline(always)]
     fn take(&mut self, byte: u8) -> u8
+        requires { single_stand_in byte ≡ byte }
         ensures written { result ≡ slice_index (due_at (due_of self.old) byte) 0 }
         ensures due { due_of self.new ≡ drop 1 (due_at (due_of self.old) byte) }
     {
@@ -99,11 +101,12 @@ impl Due {
 /// The stand-in of a character that begins with this byte, as a number, the first byte lowest.
 #[inline(always)]
 fn begin(first: u8) -> u32
+    requires { single_stand_in first ≡ first }
     ensures { result ≡ number_l 256 (stand_in first) }
 {
     let longer = STAND_INS[usize::from(first % 64)];
     if first < 0xC0 {
-        u32::from(single(first))
+        u32::from(first)
     } else {
         longer
     }
@@ -131,6 +134,7 @@ fn replace_singles(text: &mut [u8]) -> bool
     match text.len() {
         32.. => replace_blocks::<32>(text),
         8.. => replace_blocks::<8>(text),
+        4.. => replace_blocks::<4>(text),
         _ => replace_bytes(text),
     }
 }
