@@ -1,4 +1,6 @@
 pub mod StoodTexts
+pub mod Singles
+pub mod StandInNumbers
 pub mod RedactedPayloads
 pub mod OneRedaction
 pub mod ReplacedParts

@@ -1,23 +1,79 @@
-ghost use Rattle.std.specs.Prelude.{◌≡◌, ◌∷◌, slice_index, drop};
-ghost use Rattle.wsn_redact.specs.StandIns.{single_stand_in, stand_in, due_at, stood, due_after};
+ghost use Rattle.std.specs.Prelude.{◌≡◌, ℕ, ◌+◌, ◌<◌, ◌≤◌, [], length, map, slice_index, drop, IsTrue, IsAscii, if◌then◌else◌};
+ghost use Rattle.std.specs.Simd.Lanes.{number_l};
+ghost use Rattle.wsn_redact.specs.StandIns.{is_from, single_stand_in, stand_in, due_at, stood, due_after};
 ghost use Rattle.wsn_redact.specs.Dues.{due_of};
+
+use std::simd::prelude::*;
+
+/// The number of bytes that are passed over at once where other bytes aren't ASCII.
+const SOME: usize = 16;
+
+/// The stand-ins of characters that begin with the bytes 0xC0 to 0xFF, each as a number, the first byte lowest. A byte
+/// with which no character begins is its own.
+const STAND_INS: [u32; 64] = [
+    0xC0, 0xC1, 0xA9C3, 0xA9C3, 0xA9C3, 0xA9C3, 0xA9C3, 0xA9C3, 0xA9C3, 0xA9C3, 0xA9C3, 0xA9C3,
+    0xA9C3, 0xA9C3, 0xA9C3, 0xA9C3, 0xA9C3, 0xA9C3, 0xA9C3, 0xA9C3, 0xA9C3, 0xA9C3, 0xA9C3, 0xA9C3,
+    0xA9C3, 0xA9C3, 0xA9C3, 0xA9C3, 0xA9C3, 0xA9C3, 0xA9C3, 0xA9C3, 0x80A0E0, 0xAC82E2, 0xAC82E2,
+    0xAC82E2, 0xAC82E2, 0xAC82E2, 0xAC82E2, 0xAC82E2, 0xAC82E2, 0xAC82E2, 0xAC82E2, 0xAC82E2,
+    0xAC82E2, 0x8080ED, 0xAC82E2, 0xAC82E2, 0x808090F0, 0x808080F1, 0x808080F1, 0x808080F1,
+    0x808080F4, 0xF5, 0xF6, 0xF7, 0xF8, 0xF9, 0xFA, 0xFB, 0xFC, 0xFD, 0xFE, 0xFF,
+];
 
 /// The bytes of a begun stand-in that are due.
 #[derive(Clone, Copy, Debug)]
-pub enum Due {
-    /// No stand-in has begun.
-    Nothing,
-    /// Its last byte.
-    One(u8),
-    /// Its last two bytes.
-    Two(u8, u8),
-    /// Its last three bytes.
-    Three(u8, u8, u8),
+pub struct Due {
+    /// As a number, the next byte lowest; 0 if none is due.
+    bytes: u32,
 }
 
 impl Due {
+    /// No stand-in has begun.
+    pub fn new() -> Due
+        ensures { due_of result ≡ [] }
+    {
+        Due { bytes: 0 }
+    }
+
     /// Replaces a part of a text, in place.
     pub fn replace(&mut self, text: &mut [u8])
+        ensures written { text.new ≡ stood (due_of self.old) text.old }
+        ensures due { due_of self.new ≡ due_after (due_of self.old) text.old }
+    {
+        let ascii = replace_singles(text);
+        if !ascii || self.bytes != 0 {
+            self.replace_longer(text);
+        }
+    }
+
+    /// The same, if the letters and digits are replaced.
+    fn replace_longer(&mut self, text: &mut [u8])
+        requires { map single_stand_in text.old ≡ text.old }
+        ensures written { text.new ≡ stood (due_of self.old) text.old }
+        ensures due { due_of self.new ≡ due_after (due_of self.old) text.old }
+    {
+        let mut at = 0;
+        while at < text.len() {
+            let end = text.len().min(at + SOME);
+            self.replace_some(&mut text[at..end]);
+            at = end;
+        }
+    }
+
+    /// The same of a few bytes.
+    #[inline(always)]
+    fn replace_some(&mut self, text: &mut [u8])
+        requires { map single_stand_in text.old ≡ text.old }
+        ensures written { text.new ≡ stood (due_of self.old) text.old }
+        ensures due { due_of self.new ≡ due_after (due_of self.old) text.old }
+    {
+        if self.bytes != 0 || !is_ascii_some(text) {
+            self.replace_each(text);
+        }
+    }
+
+    /// The same, byte by byte.
+    fn replace_each(&mut self, text: &mut [u8])
+        requires { map single_stand_in text.old ≡ text.old }
         ensures written { text.new ≡ stood (due_of self.old) text.old }
         ensures due { due_of self.new ≡ due_after (due_of self.old) text.old }
     {
@@ -26,39 +82,38 @@ impl Due {
         }
     }
 
-    /// The byte that takes the place of the next byte of a text.
+    /// The byte that takes the place of the next byte of a text, which is no letter or digit that is to be replaced.
+    #[inline(always)]
     fn take(&mut self, byte: u8) -> u8
+        requires { single_stand_in byte ≡ byte }
         ensures written { result ≡ slice_index (due_at (due_of self.old) byte) 0 }
         ensures due { due_of self.new ≡ drop 1 (due_at (due_of self.old) byte) }
     {
-        let (first, rest) = match *self {
-            Due::Nothing => begin(byte),
-            Due::One(a) => (a, Due::Nothing),
-            Due::Two(a, b) => (a, Due::One(b)),
-            Due::Three(a, b, c) => (a, Due::Two(b, c)),
-        };
-        *self = rest;
+        if self.bytes == 0 {
+            self.bytes = begin(byte);
+        }
+        let first = (self.bytes % 256) as u8;
+        self.bytes /= 256;
         first
     }
 }
 
-/// The stand-in of a character that begins with this byte: its first byte, and the others.
-fn begin(first: u8) -> (u8, Due)
-    ensures { result.0 ∷ due_of result.1 ≡ stand_in first }
+/// The stand-in of a character that begins with this byte, as a number, the first byte lowest.
+#[inline(always)]
+fn begin(first: u8) -> u32
+    requires { single_stand_in first ≡ first }
+    ensures { result ≡ number_l 256 (stand_in first) }
 {
-    match first {
-        0xC2..=0xDF => (0xC3, Due::One(0xA9)),
-        0xE0 => (0xE0, Due::Two(0xA0, 0x80)),
-        0xED => (0xED, Due::Two(0x80, 0x80)),
-        0xE1..=0xEF => (0xE2, Due::Two(0x82, 0xAC)),
-        0xF0 => (0xF0, Due::Three(0x90, 0x80, 0x80)),
-        0xF1..=0xF3 => (0xF1, Due::Three(0x80, 0x80, 0x80)),
-        0xF4 => (0xF4, Due::Three(0x80, 0x80, 0x80)),
-        _ => (single(first), Due::Nothing),
+    let longer = STAND_INS[usize::from(first % 64)];
+    if first < 0xC0 {
+        u32::from(first)
+    } else {
+        longer
     }
 }
 
 /// What a letter or a digit becomes; any other byte stays.
+#[inline(always)]
 pub fn single(byte: u8) -> u8
     ensures { result ≡ single_stand_in byte }
 {
@@ -68,4 +123,90 @@ pub fn single(byte: u8) -> u8
         b'0'..=b'9' => b'0',
         _ => byte,
     }
+}
+
+/// Replaces the letters and digits of a text, in place, and returns whether all its bytes are ASCII.
+#[inline(always)]
+fn replace_singles(text: &mut [u8]) -> bool
+    ensures written { text.new ≡ map single_stand_in text.old }
+    ensures ascii { IsTrue result → IsAscii text.old }
+{
+    match text.len() {
+        32.. => replace_blocks::<32>(text),
+        8.. => replace_blocks::<8>(text),
+        4.. => replace_blocks::<4>(text),
+        _ => replace_bytes(text),
+    }
+}
+
+/// The same by blocks of N bytes. The last one overlaps the one before it, so it is read before that one is written.
+#[inline(always)]
+fn replace_blocks<const N: usize>(text: &mut [u8]) -> bool
+    requires lanes { (0 < N) × (N ≤ 64) }
+    requires long { N ≤ length text.old }
+    ensures written { text.new ≡ map single_stand_in text.old }
+    ensures ascii { IsTrue result → IsAscii text.old }
+{
+    let last = text.len() - N;
+    let end = Simd::<u8, N>::from_slice(&text[last..]);
+    let mut seen = end;
+    let mut at = 0;
+    while at < last {
+        let block = Simd::<u8, N>::from_slice(&text[at..]);
+        single_stand_ins(block).copy_to_slice(&mut text[at..]);
+        seen = seen | block;
+        at += N;
+    }
+    single_stand_ins(end).copy_to_slice(&mut text[last..]);
+    is_ascii(seen)
+}
+
+/// The same byte by byte.
+#[inline(always)]
+fn replace_bytes(text: &mut [u8]) -> bool
+    ensures written { text.new ≡ map single_stand_in text.old }
+    ensures ascii { IsTrue result → IsAscii text.old }
+{
+    let mut ascii = true;
+    for i in 0..text.len() {
+        ascii &= text[i] < 0x80;
+        text[i] = single(text[i]);
+    }
+    ascii
+}
+
+/// Whether these are `SOME` bytes, and all are ASCII.
+#[inline(always)]
+fn is_ascii_some(text: &[u8]) -> bool
+    ensures { IsTrue result → IsAscii text.now }
+{
+    text.len() == SOME && is_ascii(u8x16::from_slice(text))
+}
+
+/// What the bytes of a block become by themselves.
+#[inline(always)]
+fn single_stand_ins<const N: usize>(block: Simd<u8, N>) -> Simd<u8, N>
+    ensures { result ≡ map single_stand_in block.entry }
+{
+    let block = with_range(block, b'a', b'z', b'x');
+    let block = with_range(block, b'A', b'Z', b'X');
+    with_range(block, b'0', b'9', b'0')
+}
+
+/// The block with another byte in place of each from `low` to `high`.
+#[inline(always)]
+fn with_range<const N: usize>(block: Simd<u8, N>, low: u8, high: u8, other: u8) -> Simd<u8, N>
+    ensures { result ≡ map (λ b. if is_from low high b then other else b) block.entry }
+{
+    let within = block.simd_ge(Simd::splat(low)) & block.simd_le(Simd::splat(high));
+    within.select(Simd::splat(other), block)
+}
+
+/// Whether all bytes of a block are ASCII.
+#[inline(always)]
+fn is_ascii<const N: usize>(block: Simd<u8, N>) -> bool
+    requires { N ≤ 64 }
+    ensures { IsTrue result → IsAscii block.entry }
+{
+    block.simd_ge(Simd::splat(0x80)).to_bitmask() == 0
 }

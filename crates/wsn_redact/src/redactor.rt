@@ -39,7 +39,7 @@ impl Redactor {
         ensures none { result.done ≡ 0 }
     {
         Redactor {
-            due: Due::Nothing,
+            due: Due::new(),
             text: false,
             reason: Utf8::new(),
             inside: false,
@@ -99,11 +99,11 @@ impl Redactor {
         match op {
             Op::Text => {
                 self.text = true;
-                self.due = Due::Nothing;
+                self.due = Due::new();
             }
             Op::Binary => self.text = false,
             Op::Close => {
-                self.due = Due::Nothing;
+                self.due = Due::new();
                 self.reason = Utf8::new();
             }
             Op::Continue | Op::Ping | Op::Pong => {}

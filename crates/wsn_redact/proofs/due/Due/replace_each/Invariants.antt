@@ -1,7 +1,7 @@
 use Rattle.std.proofs.Common.{◌≡◌, ◌++◌, take, drop}
 use Rattle.wsn_redact.specs.StandIns.{stood, due_after}
 use Rattle.wsn_redact.specs.Dues.{due_of}
-use Rattle.wsn_redact.proofs.due.Due.replace.Given as goal
+use Rattle.wsn_redact.proofs.due.Due.replace_each.Given as goal
 
 -- The bytes before `i` are replaced, the others are unchanged.
 abbrev pub invariant-loop-i : goal.invariant-loop-i
