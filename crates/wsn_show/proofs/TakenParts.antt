@@ -8,7 +8,7 @@ use Rattle.wsn_wire.specs.declared.opcode.Op.{Op}
 use Rattle.wsn_wire.specs.Frame.{Frame, is_control, stream}
 use Rattle.wsn_rules.specs.declared.detail.Detail.{Detail}
 use Rattle.wsn_rules.specs.declared.head_info.HeadInfo.{HeadInfo}
-use Rattle.wsn_rules.specs.BadCharacter.{last_of, open_payload}
+use Rattle.wsn_rules.specs.BadCharacter.{open_payload}
 use Rattle.wsn_rules.specs.Group.{unfinished, first_op, kind_of, payload_of}
 use Rattle.wsn_rules.specs.Heads.{info_of}
 use Rattle.wsn_rules.specs.Lawful.{IsLawful}
@@ -70,7 +70,6 @@ module _ (role : Role) (limits : Limits) (fs : List Frame) (f : Frame) (head : H
   after_data : (message : MessageSoFar) → f.fin ≡ true → is_control f.op ≡ false → unfinished fs ≡ [] → KeepsMessage message fs [] → KeepsMessage message (fs ++ f ∷ []) []
   after_data message final other none kept =
       kept_after_final message fs f (ap not other) final (kept.frames ∙ ap (λ (gs : List Frame). length gs) none) (kept.bytes ∙ ap (λ (gs : List Frame). length (payload_of gs)) none)
-      (kept.earlier ∙ ap (λ (gs : List Frame). last_of 48 (payload_of gs)) none)
       (subst (λ (gs : List Frame). HasFirst message.payload (payload_of gs ++ [])) none kept.payload)
 
   -- It leaves no message open, or that which was.

@@ -1,5 +1,5 @@
 -- What is kept of a stream: the open message, the frame that has begun, and the last bytes of the message's payload.
-use Rattle.std.specs.Prelude.{◌≡◌, ◌≢◌, ℕ, ◌≤◌, ◌⊎◌, ⊤, true, false, Option, None, Some, List, [], ◌∷◌, ◌++◌, length, if◌then◌else◌}
+use Rattle.std.specs.Prelude.{◌≡◌, ◌≢◌, ℕ, ◌<◌, ◌≤◌, ◌⊎◌, ⊤, true, false, Option, None, Some, List, [], ◌∷◌, ◌++◌, length, if◌then◌else◌}
 use Rattle.wsn_wire.specs.declared.opcode.Op.{Op}
 use Rattle.wsn_wire.specs.declared.opcode.Op.TheVariants.{Text, Binary}
 use Rattle.wsn_wire.specs.Frame.{Frame, is_control, stream}
@@ -17,11 +17,12 @@ use Rattle.wsn_show.specs.LastPayloads.{HasLastPayload, payload_at}
 -- ---- the open message
 
 -- After the frames fs, this is kept of the open message: the number of its frames and of their payload bytes, the last of
--- these bytes, the first bytes of their payload and of `part`, and if there is one its first frame's opcode and offset.
+-- these if they are too many to be held, the first bytes of their payload and of `part`, and if there is one its first
+-- frame's opcode and offset.
 pub record KeepsMessage (message : MessageSoFar) (fs : List Frame) (part : List ℕ) : Type 0 where
   pub frames : message.frames ≡ length (unfinished fs)
   pub bytes : message.bytes ≡ length (payload_of (unfinished fs))
-  pub earlier : HasEarlier message.earlier (payload_of (unfinished fs))
+  pub earlier : 4096 < message.bytes → HasEarlier message.earlier (payload_of (unfinished fs))
   pub payload : HasFirst message.payload (payload_of (unfinished fs) ++ part)
   pub op : unfinished fs ≢ [] → message.op ≡ first_op (unfinished fs)
   pub offset : unfinished fs ≢ [] → message.offset ≡ open_offset fs

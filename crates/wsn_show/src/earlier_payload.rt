@@ -64,9 +64,16 @@ impl EarlierPayload {
     pub fn end(&self) -> KeptBytes<EARLIER_MAX>
         ensures { result ≡ last_of 48 self.now.held }
     {
-        let held = self.held.as_slice();
-        let mut end = KeptBytes::new();
-        end.add(&held[held.len().saturating_sub(EARLIER_MAX)..]);
-        end
+        end_of(self.held.as_slice())
     }
+}
+
+/// The last 48 of these bytes.
+#[tactic(none)]
+pub fn end_of(bytes: &[u8]) -> KeptBytes<EARLIER_MAX>
+    ensures { result ≡ last_of 48 bytes.now }
+{
+    let mut end = KeptBytes::new();
+    end.add(&bytes[bytes.len().saturating_sub(EARLIER_MAX)..]);
+    end
 }

@@ -201,6 +201,9 @@ impl StreamParts {
             .payload
             .count()
             .saturating_add(bytes.len() as u64);
-        Some(self.last.bad_character(count, self.message.earlier.end()))
+        Some(
+            self.last
+                .bad_character(count, self.message.end_of_complete()),
+        )
     }
 }

@@ -9,7 +9,7 @@ use Rattle.wsn_rules.proofs.OpenPayloads.{payload_so_far}
 use Rattle.wsn_text.specs.Utf8.{IsFirstBad}
 use Rattle.wsn_scan.specs.Positions.{Position, BetweenFrames, InFrame}
 use Rattle.wsn_show.specs.LastPayloads.{HasLastPayload, GoesWrongAt, character_at, character_held, payload_at}
-use Rattle.wsn_show.specs.StreamParts.{Keeps}
+use Rattle.wsn_show.specs.StreamParts.{Keeps, data_part}
 use Rattle.wsn_show.proofs.KeptParts.{part_of_data}
 use Rattle.wsn_show.proofs.LastPayloads.{payload_in_data, payload_goes_on}
 use Rattle.wsn_show.proofs.stream_parts.StreamParts.character_in_frame.Goals as goal
@@ -47,7 +47,7 @@ returns-clause-character c fs at rest wrong keeps = by at wrong keeps
         let sum = c.saturating_add-count.ensures in
         let few = wrong.few_bytes in
         let ends = bad.1 in
-        let earlier : c.end.result ≡ earlier_end fs = c.end.ensures ∙ keeps.message.earlier in
+        let earlier : c.end_of_complete.result ≡ earlier_end fs = c.end_of_complete.ensures fs (data_part (InFrame head payload)) keeps.message in
         ap Some (c.bad_character.ensures all bad.0 (subst (HasLastPayload c.add.new.self) is_all added) (omega (arith, text_size, parts, own, front, counted, sum, few))
         (subst (λ (bs : List ℕ). IsFirstBad bs bad.0) (sym text) bad.2) (omega (arith, ends, text_size)) ∙ ap (λ (bs : List ℕ). bad_character bs all) earlier)
 
