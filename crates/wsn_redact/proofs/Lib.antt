@@ -39,3 +39,4 @@ pub mod SameReports
 pub mod SameLines
 pub mod CapturesTwice
 pub mod AlikeCaptureRedactions
+pub mod AlikeShown
