@@ -13,7 +13,8 @@ AreAlikeEvents (Control op body) (Control other_op other) = (op ≡ other_op) ×
 AreAlikeEvents event other = ⊥
 
 -- Items at one offset: events that are alike, of as many frames, and if they are unfinished, with as many bytes missing;
--- the same heads; the same refusals, with as many bytes of evidence, whatever their bad characters are; as many bytes that are left over.
+-- the same heads; the same refusals, with as many bytes of evidence, whatever their bad characters are; as many bytes that
+-- are left over.
 abbrev pub AreAlikeItems : Item → Item → Type 0
 AreAlikeItems (Event offset event frames) (Event place other count) =
     (offset ≡ place) × AreAlikeEvents event other × (frames ≡ count)
