@@ -5,7 +5,7 @@ ghost use Rattle.std.specs.List.{AllByRecursion};
 ghost use Rattle.wsn_wire.specs.declared.endpoint.Role.{Role};
 ghost use Rattle.wsn_wire.specs.Frame.{Frame, IsBytes};
 ghost use Rattle.wsn_text.specs.Utf8.{◌–◌};
-ghost use Rattle.wsn_rules.specs.Limits.{Limits};
+ghost use Rattle.wsn_rules.specs.Limits.{Limits, InRange};
 ghost use Rattle.wsn_redact.specs.StandIns.{IsRedacted};
 ghost use Rattle.wsn_redact.specs.Redaction.{IsRedaction};
 ghost use Rattle.wsn_redact.specs.RedactedCaptures.{IsRedactedCapture};
@@ -45,6 +45,17 @@ pub fn law_redaction_is_alike()
     ensures texts { (text redacted : List ℕ) → IsRedacted text redacted → AreAlikeTexts text redacted }
     ensures streams { (role : Role) (limits : Limits) (bytes redacted : List ℕ) → IsBytes bytes →
         IsRedaction role limits bytes redacted → AreAlikeStreams role limits bytes redacted }
+{}
+
+/// Each stream of bytes is alike to itself, and to those that are alike to it or to one that is.
+pub fn law_alike_is_an_equivalence()
+    ensures same { (role : Role) (limits : Limits) (bytes : List ℕ) → InRange limits → IsBytes bytes →
+        AreAlikeStreams role limits bytes bytes }
+    ensures back { (role : Role) (limits : Limits) (bytes other : List ℕ) → InRange limits → IsBytes bytes →
+        IsBytes other → AreAlikeStreams role limits bytes other → AreAlikeStreams role limits other bytes }
+    ensures onward { (role : Role) (limits : Limits) (bytes other third : List ℕ) → InRange limits → IsBytes bytes →
+        IsBytes other → IsBytes third → AreAlikeStreams role limits bytes other →
+        AreAlikeStreams role limits other third → AreAlikeStreams role limits bytes third }
 {}
 
 /// Any two texts of as many small letters are alike: of a password of small letters only its length is left.
