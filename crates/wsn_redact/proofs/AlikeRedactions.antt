@@ -140,6 +140,15 @@ texts_alike text other redacted other_redacted (inr a) r s =
     let y : IsRedacted other (one.redacted ++ single_stand_in a.other_bad ∷ []) = inr (record { front = a.other_front; bad = a.other_bad; front_redacted = one.redacted; text_is = a.other_is; goes_wrong = a.other_goes_wrong; is_front = one.also; redacted_is = refl }) in
     one_redacted text redacted (one.redacted ++ single_stand_in a.bad ∷ []) r x ∙ ap (λ (b : ℕ). one.redacted ++ b ∷ []) (single_alike a.bad a.other_bad a.bad_alike) ∙ one_redacted other (one.redacted ++ single_stand_in a.other_bad ∷ []) other_redacted y s
 
+-- The redaction of both.
+pub one_redaction_of_texts : (text other : List ℕ) → AreAlikeTexts text other → (redacted : List ℕ) × IsRedacted text redacted × IsRedacted other redacted
+one_redaction_of_texts text other (inl a) = let one = one_text text other a in (one.redacted, inl one.is, inl one.also)
+one_redaction_of_texts text other (inr a) =
+    let one = one_text a.front a.other_front a.fronts in
+    let x : IsRedacted text (one.redacted ++ single_stand_in a.bad ∷ []) = inr (record { front = a.front; bad = a.bad; front_redacted = one.redacted; text_is = a.text_is; goes_wrong = a.goes_wrong; is_front = one.is; redacted_is = refl }) in
+    let y : IsRedacted other (one.redacted ++ single_stand_in a.bad ∷ []) = inr (record { front = a.other_front; bad = a.other_bad; front_redacted = one.redacted; text_is = a.other_is; goes_wrong = a.other_goes_wrong; is_front = one.also; redacted_is = ap (λ (b : ℕ). one.redacted ++ b ∷ []) (single_alike a.bad a.other_bad a.bad_alike) }) in
+    (one.redacted ++ single_stand_in a.bad ∷ [], x, y)
+
 -- ---- frames that differ in nothing but their payloads
 
 pub zeros_alike : (xs ys : List ℕ) → length xs ≡ length ys → zeros_for xs ≡ zeros_for ys

@@ -22,29 +22,33 @@ use Rattle.wsn_rules.specs.Meaning.MeantEvent.{Message, Control}
 use Rattle.wsn_rules.specs.Recut.{step_of, plan_of}
 use Rattle.wsn_rules.specs.Summary.{ends_message, is_close}
 use Rattle.wsn_rules.specs.declared.step.Step.TheVariants as Step
-use Rattle.wsn_rules.specs.BadCharacter.{BadCharacter}
-use Rattle.wsn_rules.specs.Evidence.{Evidence}
+use Rattle.wsn_rules.specs.BadCharacter.{BadCharacter, character_of}
+use Rattle.wsn_rules.specs.Evidence.{Evidence, EvidentByPayload, IsOfText}
 use Rattle.wsn_rules.specs.ShownStream.{Item, Shown, items_of_bytes, frame_so_far, items_of_part, items_of_head, IsLeftOfRest, IsLeftOf, IsLeftOver, shown_after, from_first, since_open, open_offset, open_item, open_items, event_offset, event_frames, items_of_final, shown_at, shown_of, shown_head, AreShownFrames, interrupted, IsShownEvidence, IsShownRefusal, IsShownVerdict, IsShownStream}
 use Rattle.wsn_rules.specs.ShownStream.Item.{Event, Head, Unfinished, UnfinishedHead, RefusedFrame, Unread, Tail}
-use Rattle.wsn_rules.specs.Verdict.{IsVerdict}
+use Rattle.wsn_rules.specs.Verdict.{IsVerdict, IsRefused}
 use Rattle.wsn_rules.proofs.HeadsGoOn.{begins_longer}
 use Rattle.wsn_rules.proofs.OneHead.{one_begun, one_following}
 use Rattle.wsn_frame.proofs.HeadsAtOnce.{no_items}
 use Rattle.std.proofs.lemmas.Bool.{cases_lt, cond-true, lt-ltb}
 use Rattle.std.proofs.lemmas.List.{take_at, drop_at, take-append-le}
 use Rattle.wsn_wire.specs.declared.refusal.Reason.{Reason}
+use Rattle.wsn_wire.specs.declared.refusal.Reason.TheVariants.{TextBad}
+use Rattle.wsn_wire.specs.Frame.{first_byte}
+use Rattle.wsn_wire.proofs.FrameLemmas.{first_byte_fields}
+use Rattle.wsn_redact.specs.Redaction.{is_of_text}
 use Rattle.wsn_rules.proofs.OneVerdict.{one_verdict}
 use Rattle.wsn_rules.proofs.Prefixes.{append_cancel}
 use Rattle.wsn_redact.specs.Redaction.{with_payload, judged}
 use Rattle.wsn_redact.specs.AlikeStreams.{AreAlikePayloads, AreAlikeBegun, AreAlikeRests, AreAlikeStreams}
-use Rattle.wsn_redact.specs.AlikeItems.{AreAlikeEvents, AreAlikeItems, AreAlikeInTurn, AreShownAlike}
-use Rattle.wsn_redact.proofs.OneRedaction.{frame_length}
+use Rattle.wsn_redact.specs.AlikeItems.{AreAlikeEvents, AreAlikeItems, AreAlikeBadCharacters, AreAlikeInTurn, AreShownAlike}
+use Rattle.wsn_redact.proofs.AlikeSizes.{frame_size}
+use Rattle.wsn_redact.proofs.AlikeBadCharacters.{texts_of, characters_alike}
+use Rattle.wsn_redact.proofs.RefusedEvidence.{in_payload, of_text_is}
+use Rattle.wsn_redact.proofs.RedactedSteps.{may_begun}
 use Rattle.wsn_redact.proofs.AlikeRedactions.{AreLikewise, likewise_push, open_likewise, same_first, same_earlier, payload_size, frames_likewise}
 
 -- ---- frames that differ in nothing but their payloads
-
-frame_size : (f g : Frame) → g ≡ with_payload f g.payload → length f.payload ≡ length g.payload → length (frame_bytes f) ≡ length (frame_bytes g)
-frame_size f g is size = sym (ap (λ (h : Frame). length (frame_bytes h)) is ∙ frame_length f g.payload (sym size))
 
 pub stream_size : (fs gs : List Frame) → AreLikewise fs gs → length (stream fs) ≡ length (stream gs)
 stream_size [] [] are = refl
@@ -335,6 +339,56 @@ module _ (role : Role) (limits : Limits) where
       let all = begun_rest_size fs gs seen other a in
       shown_size fs reason seen shown c a.info a.begins r ∙ (λ i. if nat_lt 0 (size i) then size i else all i) ∙ sym (shown_size gs reason other other_shown d a.info a.other_begins s)
 
+  -- ---- the bad character
+
+  -- A refusal for a bad text is for a frame of a text message.
+  of_text : (fs : List Frame) (reason : Reason) (seen : List ℕ) (info : HeadInfo) (b : BeginsWithHead role limits fs seen info) → 0 < length b.following → Evidence role limits (unfinished fs) reason seen → reason ≡ TextBad → is_of_text (unfinished fs) info.op ≡ true
+  of_text fs reason seen info b some evidence is =
+      let row = in_payload role limits fs seen info b some reason evidence in
+      let own = subst (λ (r : Reason). EvidentByPayload (unfinished fs) r (first_byte info.fin info.op) info.len (wire_payload info.key b.following)) is row in
+      of_text_is (unfinished fs) info.op (may_begun role limits fs seen info b) (subst (IsOfText (unfinished fs)) (first_byte_fields info.fin info.op).opcode_is own.0)
+
+  none_of : (following other : List ℕ) → length following ≡ length other → other ≡ [] → following ≡ []
+  none_of following other size none = no_items following (size ∙ ap (λ (bs : List ℕ). length bs) none)
+
+  bad_characters : (fs gs : List Frame) (reason : Reason) (seen other shown other_shown : List ℕ) (c d : Option BadCharacter) → HasNoClose fs → AreLikewise fs gs → Evidence role limits (unfinished fs) reason seen → AreAlikeRests role limits fs gs seen other → IsShownEvidence role limits fs reason seen shown c → IsShownEvidence role limits gs reason other other_shown d → AreAlikeBadCharacters c d
+  bad_characters fs gs reason seen other shown other_shown c d no_close are evidence (inl (closed, other_closed, size)) r s = absurd (closed_or_not fs closed no_close)
+  bad_characters fs gs reason seen other shown other_shown c d no_close are evidence (inr (inl (opened, other_opened, no_head, same))) (inl (own, begun, some, is, bad)) s = absurd (no_head.0 own begun)
+  bad_characters fs gs reason seen other shown other_shown c d no_close are evidence (inr (inl (opened, other_opened, no_head, same))) (inr r) (inl (own, begun, some, is, bad)) = absurd (no_head.1 own begun)
+  bad_characters fs gs reason seen other shown other_shown c d no_close are evidence (inr (inl (opened, other_opened, no_head, same))) (inr r) (inr s) =
+      subst (λ (x : Option BadCharacter). AreAlikeBadCharacters x d) (sym r.2) (subst (AreAlikeBadCharacters None) (sym s.2) tt)
+  bad_characters fs gs reason seen other shown other_shown c d no_close are evidence (inr (inr (opened, other_opened, a))) (inr r) (inr s) =
+      subst (λ (x : Option BadCharacter). AreAlikeBadCharacters x d) (sym r.2) (subst (AreAlikeBadCharacters None) (sym s.2) tt)
+  bad_characters fs gs reason seen other shown other_shown c d no_close are evidence (inr (inr (opened, other_opened, a))) (inl (own, begun, some, is, bad)) (inr s) =
+      let mine : begun.following ≡ a.begins.following = one_following role limits fs seen own a.info begun a.begins in
+      absurd (some (mine ∙ none_of a.begins.following a.other_begins.following (begun_size fs gs seen other a) (s.0 a.info a.other_begins)))
+  bad_characters fs gs reason seen other shown other_shown c d no_close are evidence (inr (inr (opened, other_opened, a))) (inr r) (inl (own, begun, some, is, bad)) =
+      let its : begun.following ≡ a.other_begins.following = one_following role limits gs other own a.info begun a.other_begins in
+      absurd (some (its ∙ none_of a.other_begins.following a.begins.following (sym (begun_size fs gs seen other a)) (r.0 a.info a.begins)))
+  bad_characters fs gs reason seen other shown other_shown c d no_close are evidence (inr (inr (opened, other_opened, a))) (inl (info, begun, some, is, bad)) (inl (other_info, other_begun, other_some, also, other_bad)) =
+      let one : info ≡ a.info = one_begun role limits fs seen info a.info begun a.begins in
+      let two : other_info ≡ a.info = one_begun role limits gs other other_info a.info other_begun a.other_begins in
+      let mine : begun.following ≡ a.begins.following = one_following role limits fs seen info a.info begun a.begins in
+      let its : other_begun.following ≡ a.other_begins.following = one_following role limits gs other other_info a.info other_begun a.other_begins in
+      let part = wire_payload a.info.key a.begins.following in
+      let other_part = wire_payload a.info.key a.other_begins.following in
+      let x : c ≡ character_of reason fs a.info part = bad ∙ (λ i. character_of reason fs (one i) (is i)) ∙ ap (λ (bs : List ℕ). character_of reason fs a.info bs) (λ i. wire_payload (one i).key (mine i)) in
+      let y : d ≡ character_of reason gs a.info other_part = other_bad ∙ (λ i. character_of reason gs (two i) (also i)) ∙ ap (λ (bs : List ℕ). character_of reason gs a.info bs) (λ i. wire_payload (two i).key (its i)) in
+      let size = payload_size (unfinished fs) (unfinished gs) a.info.op part other_part a.payloads in
+      let more : 0 < length a.begins.following = elim (cases_lt 0 (length a.begins.following)) [ inl more ↦ more | inr empty ↦ absurd (some (mine ∙ no_items a.begins.following (omega (arith, empty)))) ] in
+      let it = characters_alike reason fs gs a.info part other_part are size (λ textbad. texts_of (unfinished fs) (unfinished gs) a.info.op part other_part (of_text fs reason seen a.info a.begins more evidence textbad) a.payloads) in
+      subst (λ (z : Option BadCharacter). AreAlikeBadCharacters z d) (sym x) (subst (AreAlikeBadCharacters (character_of reason fs a.info part)) (sym y) it)
+
+  -- The bytes up to the offending one, after the frames.
+  seen_evidence : (bytes : List ℕ) (fs : List Frame) (place : ℕ) (reason : Reason) → IsRefused role limits bytes fs place reason → Evidence role limits (unfinished fs) reason (drop (length (stream fs)) (take (place + 1) bytes))
+  seen_evidence bytes fs place reason is =
+      let e = is.is_evident in
+      let stop = e.at_place in
+      let split : bytes ≡ (stream fs ++ e.seen) ++ e.later = e.whole ∙ sym (append_assoc (stream fs) e.seen e.later) in
+      let seen_is : drop (length (stream fs)) (take (place + 1) bytes) ≡ e.seen =
+      ap (λ (bs : List ℕ). drop (length (stream fs)) (take (place + 1) bs)) split ∙ ap (λ (bs : List ℕ). drop (length (stream fs)) bs) (take_at (stream fs ++ e.seen) e.later (place + 1) (omega (arith, stop, length-append (stream fs) e.seen))) ∙ drop_at (stream fs) e.seen (length (stream fs)) refl in
+      subst (Evidence role limits (unfinished fs) reason) (sym seen_is) e.evidence
+
   -- ---- a stream
 
   pub alike_heads : (bytes other : List ℕ) (fs gs : List Frame) (v w : Verdict) (heads other_heads : List HeadInfo) → AreAlikeStreams role limits bytes other → IsVerdict role limits bytes fs v → IsVerdict role limits other gs w → AreHeads role limits bytes fs heads → AreHeads role limits other gs other_heads → heads ≡ other_heads
@@ -371,7 +425,8 @@ module _ (role : Role) (limits : Limits) where
   verdicts_shown_alike detail bytes other fs gs (Cut summary) shown others is are rests r s = subst (λ (x : List Shown). AreShownAlike x others) (sym r) (subst (AreShownAlike []) (sym s) tt)
   verdicts_shown_alike detail bytes other fs gs (Refused q) shown others is are rests r s =
       let size = evidence_size fs gs q.reason (drop (length (stream fs)) (take (q.place + 1) bytes)) (drop (length (stream gs)) (take (q.place + 1) other)) r.evidence s.evidence r.character s.character is.no_close rests r.is_evidence s.is_evidence in
-      let frame : AreAlikeInTurn (RefusedFrame (length (stream fs)) q r.evidence r.character ∷ []) (RefusedFrame (length (stream gs)) q s.evidence s.character ∷ []) = ((stream_size fs gs are, refl, size), tt) in
+      let bad = bad_characters fs gs q.reason (drop (length (stream fs)) (take (q.place + 1) bytes)) (drop (length (stream gs)) (take (q.place + 1) other)) r.evidence s.evidence r.character s.character is.no_close are (seen_evidence bytes fs q.place q.reason is) rests r.is_evidence s.is_evidence in
+      let frame : AreAlikeInTurn (RefusedFrame (length (stream fs)) q r.evidence r.character ∷ []) (RefusedFrame (length (stream gs)) q s.evidence s.character ∷ []) = ((stream_size fs gs are, refl, size, bad), tt) in
       let it = shown_with (q.place + 1) (q.place + 1) _ _ refl (turn_append (interrupted detail fs) (interrupted detail gs) _ _ (interrupted_alike detail fs gs are) frame) in
       subst (λ (x : List Shown). AreShownAlike x others) (sym r.is) (subst (AreShownAlike (shown_after (q.place + 1) (interrupted detail fs ++ RefusedFrame (length (stream fs)) q r.evidence r.character ∷ []))) (sym s.is) it)
 

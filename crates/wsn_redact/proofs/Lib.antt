@@ -39,4 +39,6 @@ pub mod SameReports
 pub mod SameLines
 pub mod CapturesTwice
 pub mod AlikeCaptureRedactions
+pub mod AlikeSizes
+pub mod AlikeBadCharacters
 pub mod AlikeShown

@@ -1,6 +1,7 @@
 -- What is shown of two streams that differ only in what was said: the same items at the same offsets, of the same kinds
 -- and sizes, of as many frames. RFC 6455 sections 5.2 to 5.6 and 7.1.
-use Rattle.std.specs.Prelude.{◌≡◌, ℕ, List, [], ◌∷◌, length}
+use Rattle.std.specs.Prelude.{◌≡◌, ℕ, Option, None, Some, List, [], ◌∷◌, length}
+use Rattle.wsn_rules.specs.BadCharacter.{BadCharacter}
 use Rattle.wsn_rules.specs.Meaning.{MeantEvent}
 use Rattle.wsn_rules.specs.Meaning.MeantEvent.{Message, Control}
 use Rattle.wsn_rules.specs.ShownStream.{Item, Shown}
@@ -12,8 +13,15 @@ AreAlikeEvents (Message kind payload) (Message other_kind other) = (kind ≡ oth
 AreAlikeEvents (Control op body) (Control other_op other) = (op ≡ other_op) × (length body ≡ length other)
 AreAlikeEvents event other = ⊥
 
+-- Neither has a bad character; or both have one, at the same offset and place in the payload, of as many bytes.
+abbrev pub AreAlikeBadCharacters : Option BadCharacter → Option BadCharacter → Type 0
+AreAlikeBadCharacters None None = Unit {0}
+AreAlikeBadCharacters (Some c) (Some d) =
+    (c.offset ≡ d.offset) × (c.in_payload ≡ d.in_payload) × (length c.bytes ≡ length d.bytes)
+AreAlikeBadCharacters c d = ⊥
+
 -- Items at one offset: events that are alike, of as many frames, and if they are unfinished, with as many bytes missing;
--- the same heads; the same refusals, with as many bytes of evidence, whatever their bad characters are; as many bytes that
+-- the same heads; the same refusals, with as many bytes of evidence and bad characters that are alike; as many bytes that
 -- are left over.
 abbrev pub AreAlikeItems : Item → Item → Type 0
 AreAlikeItems (Event offset event frames) (Event place other count) =
@@ -23,7 +31,7 @@ AreAlikeItems (Unfinished offset event frames lacks) (Unfinished place other cou
     (offset ≡ place) × AreAlikeEvents event other × (frames ≡ count) × (lacks ≡ other_lacks)
 AreAlikeItems (UnfinishedHead offset) (UnfinishedHead place) = offset ≡ place
 AreAlikeItems (RefusedFrame offset refusal evidence bad) (RefusedFrame place other other_evidence other_bad) =
-    (offset ≡ place) × (refusal ≡ other) × (length evidence ≡ length other_evidence)
+    (offset ≡ place) × (refusal ≡ other) × (length evidence ≡ length other_evidence) × AreAlikeBadCharacters bad other_bad
 AreAlikeItems (Unread offset bytes) (Unread place others) = (offset ≡ place) × (length bytes ≡ length others)
 AreAlikeItems (Tail offset bytes) (Tail place others) = (offset ≡ place) × (length bytes ≡ length others)
 AreAlikeItems item other = ⊥
