@@ -1,6 +1,6 @@
 -- Streams that are alike have one redaction.
 use Rattle.std.proofs.Common.{◌≡◌, ℕ, suc, ◌+◌, ◌≤◌, Bool, true, false, List, [], ◌∷◌, ◌++◌, length, take, drop, if◌then◌else◌, inl, inr, refl, sym, ap, ◌∙◌, subst, append_assoc, length-append, length-drop, append-nil, arith}
-use Rattle.std.specs.List.{AllByRecursion, concat, flat_map, list_any}
+use Rattle.std.specs.List.{AllByRecursion, flat_map, list_any}
 use Rattle.std.specs.Prelude.{filter, ◌||◌}
 use Rattle.std.proofs.lemmas.Grind.{common_steps}
 use Rattle.wsn_wire.specs.declared.endpoint.Role.{Role}
@@ -21,8 +21,8 @@ use Rattle.wsn_rules.proofs.OneHead.{one_begun}
 use Rattle.wsn_rules.proofs.OneVerdict.{one_verdict}
 use Rattle.wsn_rules.proofs.Prefixes.{append_cancel}
 use Rattle.wsn_redact.specs.StandIns.{single_stand_in, stand_in, stand_in_of, IsRedactedText, IsRedacted}
-use Rattle.wsn_redact.specs.Redaction.{zeros_for, is_text, is_of_text, IsRedactedPart, IsRedactedData, IsRedactedBody, IsRedactedPayload, with_payload, AreRedacted, IsRedactedBegun, IsRedactedRest, judged, unjudged, IsRedactionAt, IsRedaction}
-use Rattle.wsn_redact.specs.AlikeStreams.{IsIn, AreOfOneKind, single_kinds, first_kinds, AreAlikeCharacters, AreAlikeInPairs, AreAlikeBeginnings, AreAlikeToBad, AreAlikeTexts, AreAlikeData, AreAlikePayloads, AreAlikeFrames, AreAlikeBegun, AreAlikeRests, AreAlikeStreams}
+use Rattle.wsn_redact.specs.Redaction.{zeros_for, is_text, is_of_text, IsRedactedData, IsRedactedPayload, with_payload, AreRedacted, IsRedactedBegun, IsRedactedRest, judged, unjudged, IsRedactionAt, IsRedaction}
+use Rattle.wsn_redact.specs.AlikeStreams.{IsIn, AreOfOneKind, single_kinds, first_kinds, AreAlikeCharacters, AreAlikeInPairs, AreAlikeBeginnings, AreAlikeTexts, AreAlikeData, AreAlikePayloads, AreAlikeFrames, AreAlikeBegun, AreAlikeRests, AreAlikeStreams}
 use Rattle.wsn_redact.proofs.StoodTexts.{one_redacted}
 use Rattle.wsn_redact.proofs.RedactedLawful.{two_low, row_e1, row_ee, row_f1}
 

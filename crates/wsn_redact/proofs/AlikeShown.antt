@@ -1,21 +1,18 @@
 -- What is shown of streams that are alike is alike.
-use Rattle.std.proofs.Common.{◌≡◌, ◌≢◌, ℕ, suc, ◌+◌, ◌-◌, ◌<◌, Bool, true, false, Option, None, Some, List, [], ◌∷◌, ◌++◌, length, take, drop, if◌then◌else◌, inl, inr, refl, sym, ap, ◌∙◌, subst, append_assoc, take-append-drop, length-append, length-drop, arith}
+use Rattle.std.proofs.Common.{◌≡◌, ℕ, suc, ◌+◌, ◌-◌, ◌<◌, Bool, true, false, Option, None, Some, List, [], ◌∷◌, ◌++◌, length, take, drop, if◌then◌else◌, inl, inr, refl, sym, ap, ◌∙◌, subst, append_assoc, take-append-drop, length-append, length-drop, arith}
 use Rattle.std.specs.Prelude.{map, nat_lt, ◌||◌}
 use Rattle.std.specs.List.{list_any}
 use Rattle.wsn_wire.specs.declared.endpoint.Role.{Role}
-use Rattle.wsn_wire.specs.declared.opcode.Op.{Op}
-use Rattle.wsn_wire.specs.declared.opcode.Op.TheVariants.{Continue, Text, Binary, Close, Ping, Pong}
-use Rattle.wsn_wire.specs.Frame.{Frame, is_control, head_bytes, frame_bytes, stream, wire_payload}
+use Rattle.wsn_wire.specs.Frame.{Frame, is_control, frame_bytes, stream, wire_payload}
 use Rattle.wsn_wire.proofs.FrameLemmas.{length-wire_payload}
 use Rattle.wsn_rules.specs.declared.detail.Detail.{Detail}
 use Rattle.wsn_rules.specs.declared.detail.Detail.TheVariants.{Events, Frames}
 use Rattle.wsn_rules.specs.declared.head_info.HeadInfo.{HeadInfo}
-use Rattle.wsn_rules.specs.declared.verdict.Refusal.{Refusal}
 use Rattle.wsn_rules.specs.declared.verdict.Verdict.{Verdict}
 use Rattle.wsn_rules.specs.declared.verdict.Verdict.TheVariants.{Accepted, Cut, Refused}
 use Rattle.wsn_rules.specs.Limits.{Limits}
 use Rattle.wsn_rules.specs.Accepted.{HasNoClose, EndsWithClose}
-use Rattle.wsn_rules.specs.Group.{after_last, is_data, unfinished, first_op, kind_at, kind_of, payload_of}
+use Rattle.wsn_rules.specs.Group.{after_last, is_data, unfinished, kind_at, kind_of, payload_of}
 use Rattle.wsn_rules.specs.Heads.{info_of, heads_from, heads_of, BeginsWithHead, IsBegun, AreHeads}
 use Rattle.wsn_rules.specs.Meaning.{event_at}
 use Rattle.wsn_rules.specs.Meaning.MeantEvent.{Message, Control}
@@ -24,8 +21,8 @@ use Rattle.wsn_rules.specs.Summary.{ends_message, is_close}
 use Rattle.wsn_rules.specs.declared.step.Step.TheVariants as Step
 use Rattle.wsn_rules.specs.BadCharacter.{BadCharacter, character_of}
 use Rattle.wsn_rules.specs.Evidence.{Evidence, EvidentByPayload, IsOfText}
-use Rattle.wsn_rules.specs.ShownStream.{Item, Shown, items_of_bytes, frame_so_far, items_of_part, items_of_head, IsLeftOfRest, IsLeftOf, IsLeftOver, shown_after, from_first, since_open, open_offset, open_item, open_items, event_offset, event_frames, items_of_final, shown_at, shown_of, shown_head, AreShownFrames, interrupted, IsShownEvidence, IsShownRefusal, IsShownVerdict, IsShownStream}
-use Rattle.wsn_rules.specs.ShownStream.Item.{Event, Head, Unfinished, UnfinishedHead, RefusedFrame, Unread, Tail}
+use Rattle.wsn_rules.specs.ShownStream.{Item, Shown, items_of_bytes, frame_so_far, items_of_part, items_of_head, IsLeftOfRest, IsLeftOf, IsLeftOver, shown_after, from_first, since_open, open_offset, open_item, open_items, event_offset, event_frames, items_of_final, shown_at, shown_of, shown_head, AreShownFrames, interrupted, IsShownEvidence, IsShownVerdict, IsShownStream}
+use Rattle.wsn_rules.specs.ShownStream.Item.{Event, Unfinished, UnfinishedHead, RefusedFrame, Unread, Tail}
 use Rattle.wsn_rules.specs.Verdict.{IsVerdict, IsRefused}
 use Rattle.wsn_rules.proofs.HeadsGoOn.{begins_longer}
 use Rattle.wsn_rules.proofs.OneHead.{one_begun, one_following}
@@ -40,8 +37,8 @@ use Rattle.wsn_redact.specs.Redaction.{is_of_text}
 use Rattle.wsn_rules.proofs.OneVerdict.{one_verdict}
 use Rattle.wsn_rules.proofs.Prefixes.{append_cancel}
 use Rattle.wsn_redact.specs.Redaction.{with_payload, judged}
-use Rattle.wsn_redact.specs.AlikeStreams.{AreAlikePayloads, AreAlikeBegun, AreAlikeRests, AreAlikeStreams}
-use Rattle.wsn_redact.specs.AlikeItems.{AreAlikeEvents, AreAlikeItems, AreAlikeBadCharacters, AreAlikeInTurn, AreShownAlike}
+use Rattle.wsn_redact.specs.AlikeStreams.{AreAlikeBegun, AreAlikeRests, AreAlikeStreams}
+use Rattle.wsn_redact.specs.AlikeItems.{AreAlikeItems, AreAlikeBadCharacters, AreAlikeInTurn, AreShownAlike}
 use Rattle.wsn_redact.proofs.AlikeSizes.{frame_size}
 use Rattle.wsn_redact.proofs.AlikeBadCharacters.{texts_of, characters_alike}
 use Rattle.wsn_redact.proofs.RefusedEvidence.{in_payload, of_text_is}

@@ -1,5 +1,5 @@
 -- Frames that differ in nothing but their payloads, as long, have as many bytes.
-use Rattle.std.proofs.Common.{◌≡◌, ℕ, List, length, sym, ap, ◌∙◌}
+use Rattle.std.proofs.Common.{◌≡◌, length, sym, ap, ◌∙◌}
 use Rattle.wsn_wire.specs.Frame.{Frame, frame_bytes}
 use Rattle.wsn_redact.specs.Redaction.{with_payload}
 use Rattle.wsn_redact.proofs.OneRedaction.{frame_length}

@@ -1,14 +1,14 @@
 -- Streams and texts that are written out, and are alike or aren't.
-use Rattle.std.proofs.Common.{◌≡◌, ℕ, ◌≤◌, true, List, [], ◌∷◌, ◌++◌, length, inl, inr, refl, sym, ap, ◌∙◌, subst, arith, drop}
-use Rattle.std.specs.List.{AllByRecursion, concat, slice_index}
+use Rattle.std.proofs.Common.{◌≡◌, ℕ, ◌≤◌, true, List, [], ◌∷◌, length, inl, inr, refl, sym, ap, ◌∙◌, subst, arith, drop}
+use Rattle.std.specs.List.{AllByRecursion, slice_index}
 use Rattle.wsn_wire.specs.declared.endpoint.Role.{Role}
-use Rattle.wsn_text.specs.Utf8.{◌–◌, IsText, BeginsText}
+use Rattle.wsn_text.specs.Utf8.{◌–◌, IsText}
 use Rattle.wsn_text.proofs.Prefixes.{text_begins}
 use Rattle.wsn_text.proofs.Rests.{text-nil, text_push}
 use Rattle.wsn_wire.specs.Frame.{IsBytes}
 use Rattle.wsn_rules.specs.Limits.{Limits, InRange}
 use Rattle.wsn_rules.proofs.Computed.{all_bytes, bytes_by_test}
-use Rattle.wsn_redact.specs.StandIns.{stand_in, IsRedacted, stood, due_at}
+use Rattle.wsn_redact.specs.StandIns.{IsRedacted, stood}
 use Rattle.wsn_redact.specs.Redaction.{IsRedaction}
 use Rattle.wsn_redact.specs.AlikeStreams.{IsIn, AreAlikeTexts, AreAlikeStreams}
 use Rattle.wsn_redact.proofs.StoodTexts.{stood_is}

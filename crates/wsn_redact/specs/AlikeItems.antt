@@ -1,6 +1,6 @@
 -- What is shown of two streams that differ only in what was said: the same items at the same offsets, of the same kinds
 -- and sizes, of as many frames. RFC 6455 sections 5.2 to 5.6 and 7.1.
-use Rattle.std.specs.Prelude.{◌≡◌, ℕ, Option, None, Some, List, [], ◌∷◌, length}
+use Rattle.std.specs.Prelude.{◌≡◌, Option, None, Some, List, [], ◌∷◌, length}
 use Rattle.wsn_rules.specs.BadCharacter.{BadCharacter}
 use Rattle.wsn_rules.specs.Meaning.{MeantEvent}
 use Rattle.wsn_rules.specs.Meaning.MeantEvent.{Message, Control}
