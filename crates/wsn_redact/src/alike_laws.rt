@@ -1,4 +1,5 @@
-//! Laws of `specs/AlikeStreams.antt` and `specs/AlikeCaptures.antt`. The functions do nothing when called; their contracts are proved.
+//! What a redaction leaves: laws of `specs/AlikeStreams.antt`, `specs/AlikeItems.antt` and `specs/AlikeCaptures.antt`. The
+//! functions do nothing when called; their contracts are proved.
 
 ghost use Rattle.std.specs.Prelude.{◌≡◌, ℕ, List, [], ◌∷◌, length};
 ghost use Rattle.std.specs.List.{AllByRecursion};
@@ -20,8 +21,8 @@ ghost use Rattle.wsn_rules.specs.Verdict.{IsVerdict};
 ghost use Rattle.wsn_redact.specs.AlikeItems.{AreShownAlike, AreAlikeInTurn};
 ghost use Rattle.wsn_redact.specs.AlikeStreams.{IsIn, AreAlikeTexts, AreAlikeStreams};
 
-/// Nothing of what was said is left: texts that are alike have one redaction, and so have streams that are alike. Who
-/// reads a redaction learns no more of a stream than which streams are alike to it.
+/// Nothing else is left: texts that are alike have one redaction, and so have streams that are alike. Who reads a
+/// redaction learns no more of a stream than which streams are alike to it.
 pub fn law_alike_streams_have_one_redaction()
     ensures texts { (text other redacted other_redacted : List ℕ) → AreAlikeTexts text other →
         IsRedacted text redacted → IsRedacted other other_redacted → redacted ≡ other_redacted }
@@ -30,8 +31,8 @@ pub fn law_alike_streams_have_one_redaction()
         IsRedaction role limits other other_redacted → redacted ≡ other_redacted }
 {}
 
-/// Nothing else is lost: streams of bytes with one redaction are alike, and so are texts. So `AreAlikeStreams` says exactly which
-/// streams a redaction may be of.
+/// Nothing else is lost: streams of bytes with one redaction are alike, and so are texts. So `AreAlikeStreams` says
+/// exactly which streams a redaction may be of.
 pub fn law_streams_with_one_redaction_are_alike()
     ensures texts { (text other redacted : List ℕ) → IsRedacted text redacted → IsRedacted other redacted →
         AreAlikeTexts text other }
@@ -47,7 +48,7 @@ pub fn law_redaction_is_alike()
         IsRedaction role limits bytes redacted → AreAlikeStreams role limits bytes redacted }
 {}
 
-/// Each stream of bytes is alike to itself, and to those that are alike to it or to one that is.
+/// Of streams of bytes, being alike is an equivalence.
 pub fn law_alike_is_an_equivalence()
     ensures same { (role : Role) (limits : Limits) (bytes : List ℕ) → InRange limits → IsBytes bytes →
         AreAlikeStreams role limits bytes bytes }
