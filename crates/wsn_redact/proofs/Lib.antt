@@ -42,3 +42,4 @@ pub mod AlikeCaptureRedactions
 pub mod AlikeSizes
 pub mod AlikeBadCharacters
 pub mod AlikeShown
+pub mod LongerRedactions
