@@ -1,10 +1,9 @@
 -- Captures have one redaction exactly if they are alike.
-use Rattle.std.proofs.Common.{◌≡◌, ℕ, ◌⊎◌, List, [], ◌∷◌, ◌++◌, length, inl, inr, refl, sym, ap, ◌∙◌, subst, arith}
+use Rattle.std.proofs.Common.{◌≡◌, ℕ, List, [], ◌∷◌, ◌++◌, inl, inr, refl, sym, ap, ◌∙◌, subst}
 use Rattle.std.specs.Prelude.{codes}
 use Rattle.std.proofs.lemmas.List.{append_cancel_left}
 use Rattle.hex.specs.Hex.{encode_lower}
 use Rattle.wsn_wire.specs.declared.endpoint.Role.{Role}
-use Rattle.wsn_wire.specs.declared.endpoint.Role.TheVariants.{Client, Server}
 use Rattle.wsn_rules.specs.Limits.{Limits}
 use Rattle.wsn_rules.specs.Entries.{Entry, without_cr, bytes_prefix, end_mark, GivesEntry, AreEntries}
 use Rattle.wsn_rules.specs.Entries.Entry.{Nothing, Bytes, Mark}
@@ -14,11 +13,11 @@ use Rattle.wsn_capture.proofs.AcceptedTexts.{taken_given}
 use Rattle.wsn_redact.specs.declared.extension_names.Within.TheVariants.{Name}
 use Rattle.wsn_redact.specs.ExtensionNames.{names_in}
 use Rattle.wsn_redact.specs.Redaction.{IsRedaction}
-use Rattle.wsn_redact.specs.RedactedCaptures.{extensions_prefix, SaysElse, IsRedactedNothing, IsRedactedText, cr_of, IsRedactedLine, AreRedactedLines, IsRedactedCapture}
+use Rattle.wsn_redact.specs.RedactedCaptures.{extensions_prefix, SaysElse, IsRedactedNothing, IsRedactedText, cr_of, AreRedactedLines, IsRedactedCapture}
 use Rattle.wsn_redact.specs.AlikeLines.{IsAlike, AreAlike}
 use Rattle.wsn_redact.specs.AlikeCaptures.{AreAlikeComments, AreAlikeIn, AreAlikeInLines, AreAlikeCaptures}
 use Rattle.wsn_redact.proofs.OneRedactedCapture.{one_nothing, bytes_off, nothing_off, mark_off, stays_or_extensions, stays_or_else}
-use Rattle.wsn_redact.proofs.RedactedEntries.{HasBytes, AllBytes, first_bytes, other_bytes, line_text, text_alike, entries_given, all_bytes, others_bytes, others_given, others_alike}
+use Rattle.wsn_redact.proofs.RedactedEntries.{AllBytes, first_bytes, other_bytes, line_text, text_alike, entries_given, all_bytes, others_bytes, others_given, others_alike}
 use Rattle.wsn_redact.proofs.CapturesTwice.{hash_says}
 use Rattle.wsn_redact.proofs.AlikeRedactions.{alike_is_one}
 use Rattle.wsn_redact.proofs.RedactionsAlike.{one_redaction_alike}

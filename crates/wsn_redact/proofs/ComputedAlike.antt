@@ -1,16 +1,18 @@
 -- Streams and texts that are written out, and are alike or aren't.
-use Rattle.std.proofs.Common.{◌≡◌, ℕ, ◌≤◌, true, List, [], ◌∷◌, ◌++◌, length, inl, inr, refl, sym, ap, ◌∙◌, subst, arith, drop}
-use Rattle.std.specs.List.{AllByRecursion, concat, slice_index}
+use Rattle.std.proofs.Common.{◌≡◌, ℕ, ◌≤◌, true, List, [], ◌∷◌, length, inl, inr, refl, sym, ap, ◌∙◌, subst, arith, drop}
+use Rattle.std.specs.List.{AllByRecursion, slice_index}
 use Rattle.wsn_wire.specs.declared.endpoint.Role.{Role}
-use Rattle.wsn_text.specs.Utf8.{◌–◌, IsText, BeginsText}
+use Rattle.wsn_text.specs.Utf8.{◌–◌, IsText}
 use Rattle.wsn_text.proofs.Prefixes.{text_begins}
 use Rattle.wsn_text.proofs.Rests.{text-nil, text_push}
-use Rattle.wsn_rules.specs.Limits.{Limits}
+use Rattle.wsn_wire.specs.Frame.{IsBytes}
+use Rattle.wsn_rules.specs.Limits.{Limits, InRange}
 use Rattle.wsn_rules.proofs.Computed.{all_bytes, bytes_by_test}
-use Rattle.wsn_redact.specs.StandIns.{stand_in, IsRedacted, stood, due_at}
+use Rattle.wsn_redact.specs.StandIns.{IsRedacted, stood}
 use Rattle.wsn_redact.specs.Redaction.{IsRedaction}
 use Rattle.wsn_redact.specs.AlikeStreams.{IsIn, AreAlikeTexts, AreAlikeStreams}
 use Rattle.wsn_redact.proofs.StoodTexts.{stood_is}
+use Rattle.wsn_redact.proofs.EveryRedaction.{some_redaction_of}
 use Rattle.wsn_redact.proofs.AlikeRedactions.{letter_alone, alike_is_one}
 use Rattle.wsn_redact.proofs.RedactionsAlike.{texts_back, one_redaction_alike}
 
@@ -43,3 +45,21 @@ letters_alike text other each also size =
     let r : IsRedacted text (stood [] text) = inl (stood_is text (text_begins text (letters_text text each))) in
     let s : IsRedacted other (stood [] other) = inl (stood_is other (text_begins other (letters_text other also))) in
     texts_back text other (stood [] text) r (subst (λ (bs : List ℕ). IsRedacted other bs) (sym (letters_stood text other each also size)) s)
+
+-- ---- an equivalence
+
+module _ (role : Role) (limits : Limits) (range : InRange limits) where
+  pub same_alike : (bytes : List ℕ) → IsBytes bytes → AreAlikeStreams role limits bytes bytes
+  same_alike bytes all = let r = some_redaction_of role limits range bytes all in one_redaction_alike role limits bytes bytes r.0 all all r.1 r.1
+
+  -- The redaction of one is that of the other.
+  on_other : (bytes other redacted : List ℕ) → IsBytes other → AreAlikeStreams role limits bytes other → IsRedaction role limits bytes redacted → IsRedaction role limits other redacted
+  on_other bytes other redacted all a r = let s = some_redaction_of role limits range other all in subst (λ (bs : List ℕ). IsRedaction role limits other bs) (sym (alike_is_one role limits bytes other redacted s.0 a r s.1)) s.1
+
+  pub back_alike : (bytes other : List ℕ) → IsBytes bytes → IsBytes other → AreAlikeStreams role limits bytes other → AreAlikeStreams role limits other bytes
+  back_alike bytes other all also a = let r = some_redaction_of role limits range bytes all in one_redaction_alike role limits other bytes r.0 also all (on_other bytes other r.0 also a r.1) r.1
+
+  pub onward_alike : (bytes other third : List ℕ) → IsBytes bytes → IsBytes other → IsBytes third → AreAlikeStreams role limits bytes other → AreAlikeStreams role limits other third → AreAlikeStreams role limits bytes third
+  onward_alike bytes other third all also and_third a b =
+      let r = some_redaction_of role limits range bytes all in
+      one_redaction_alike role limits bytes third r.0 all and_third r.1 (on_other other third r.0 and_third b (on_other bytes other r.0 also a r.1))

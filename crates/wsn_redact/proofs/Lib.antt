@@ -41,3 +41,7 @@ pub mod SameReports
 pub mod SameLines
 pub mod CapturesTwice
 pub mod AlikeCaptureRedactions
+pub mod AlikeSizes
+pub mod AlikeBadCharacters
+pub mod AlikeShown
+pub mod LongerRedactions

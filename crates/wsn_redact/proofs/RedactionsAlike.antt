@@ -6,7 +6,6 @@ use Rattle.wsn_wire.specs.declared.endpoint.Role.{Role}
 use Rattle.wsn_wire.specs.declared.opcode.Op.{Op}
 use Rattle.wsn_wire.specs.declared.opcode.Op.TheVariants.{Continue, Text, Binary, Close, Ping, Pong}
 use Rattle.wsn_wire.specs.Frame.{Frame, IsBytes, stream, wire_payload}
-use Rattle.wsn_wire.proofs.FrameLemmas.{fronts_agree}
 use Rattle.wsn_text.specs.Utf8.{IsCharacter, BeginsText}
 use Rattle.wsn_text.proofs.Prefixes.{begins-nil}
 use Rattle.wsn_rules.specs.declared.head_info.HeadInfo.{HeadInfo}
@@ -23,7 +22,7 @@ use Rattle.wsn_rules.proofs.OneHead.{one_begun}
 use Rattle.wsn_rules.proofs.OneVerdict.{all_of_verdict, one_verdict}
 use Rattle.wsn_rules.proofs.Prefixes.{append_cancel}
 use Rattle.wsn_redact.specs.StandIns.{single_stand_in, stand_in, stand_in_of, IsRedactedText, IsRedacted, stood, BeginsCharacter}
-use Rattle.wsn_redact.specs.Redaction.{zeros_for, is_text, is_of_text, IsRedactedPayload, IsRedactedBegun, IsRedactedRest, with_payload, redacted_payload, redacted_frames, judged, unjudged, IsRedaction}
+use Rattle.wsn_redact.specs.Redaction.{zeros_for, is_text, is_of_text, IsRedactedPayload, IsRedactedBegun, IsRedactedRest, with_payload, redacted_frames, judged, unjudged, IsRedaction}
 use Rattle.wsn_redact.specs.AlikeStreams.{AreOfOneKind, first_kinds, AreAlikeBeginnings, AreAlikeTexts, AreAlikeData, AreAlikePayloads, AreAlikeFrames, AreAlikeBegun, AreAlikeRests, AreAlikeStreams}
 use Rattle.wsn_redact.proofs.StoodTexts.{length-stood, stand_in_some, stand_in_length, is_stood, stood_is, redacted_begins, none_begun, character_stood, text_stood, one_end}
 use Rattle.wsn_redact.proofs.RedactedPayloads.{payload_is, payload_length, lawful_text, are_redacted, one_frames}
@@ -37,7 +36,7 @@ use Rattle.wsn_redact.proofs.TextsStay.{begins_alike}
 use Rattle.wsn_redact.proofs.PayloadsAlike.{body_of}
 use Rattle.wsn_redact.proofs.RefusedStays.{wire_twice}
 use Rattle.wsn_redact.proofs.SameVerdicts.{verdict_stays}
-use Rattle.wsn_redact.proofs.TwiceIsOnce.{whole_text, head_before, head_after, IsDivided, divided, redaction_twice}
+use Rattle.wsn_redact.proofs.TwiceIsOnce.{whole_text, head_before, head_after, divided, redaction_twice}
 use Rattle.wsn_redact.proofs.AlikeRedactions.{first_alike, begun_by}
 use Rattle.wsn_redact.proofs.KindsOfBytes.{single_back, first_back}
 

@@ -4,6 +4,7 @@ pub mod Redaction
 pub mod Redacting
 -- streams that differ only in what was said
 pub mod AlikeStreams
+pub mod AlikeItems
 -- the redaction of a capture
 pub mod ExtensionNames
 pub mod RedactedCaptures

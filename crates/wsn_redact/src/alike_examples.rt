@@ -1,8 +1,10 @@
-//! Examples of streams that are alike and that aren't, computed from the definitions in `specs/AlikeStreams.antt`.
+//! Examples of streams and comments that are alike and that aren't, computed from the definitions in
+//! `specs/AlikeStreams.antt` and `specs/AlikeCaptures.antt`.
 
 ghost use Rattle.std.specs.Prelude.{[], ◌∷◌, codes};
 ghost use Rattle.wsn_wire.specs.declared.endpoint.Role.TheVariants.{Client, Server};
 ghost use Rattle.wsn_rules.specs.Examples.{greatest};
+ghost use Rattle.wsn_redact.specs.AlikeCaptures.{AreAlikeComments};
 ghost use Rattle.wsn_redact.specs.AlikeStreams.{AreAlikeStreams};
 
 /// Streams that differ only in what was said.
@@ -37,4 +39,12 @@ pub fn of_streams_that_differ()
     ensures opcode { ¬ (AreAlikeStreams Server greatest (0x81 ∷ 0x01 ∷ 0x61 ∷ []) (0x82 ∷ 0x01 ∷ 0x61 ∷ [])) }
     ensures key { ¬ (AreAlikeStreams Client greatest (0x81 ∷ 0x80 ∷ 0x01 ∷ 0x02 ∷ 0x03 ∷ 0x04 ∷ []) (0x81 ∷ 0x80 ∷ 0x01 ∷ 0x02 ∷ 0x03 ∷ 0x05 ∷ [])) }
     ensures code { ¬ (AreAlikeStreams Server greatest (0x88 ∷ 0x02 ∷ 0x03 ∷ 0xe8 ∷ []) (0x88 ∷ 0x02 ∷ 0x03 ∷ 0xe9 ∷ [])) }
+{}
+
+/// Comments of a capture: of a list of extensions the names count, of a time all, of others nothing.
+pub fn of_comments()
+    ensures values { AreAlikeComments (codes "# extensions: a; key=secret") (codes "# extensions: a; key=42") }
+    ensures names { ¬ (AreAlikeComments (codes "# extensions: a") (codes "# extensions: b")) }
+    ensures times { ¬ (AreAlikeComments (codes "# 1.5") (codes "# 2.5")) }
+    ensures others { AreAlikeComments (codes "# path: /login?token=abc") (codes "# cookie: id=1234567") }
 {}
