@@ -3,7 +3,6 @@ use Rattle.std.specs.Prelude.{◌≡◌, ◌++◌, ℕ, Bool, true, false, Resul
 use Rattle.std.specs.declared.alloc.Global.{Global}
 use Rattle.wsn_io.specs.Transfer.{Incoming, Outgoing}
 use Rattle.wsn_io.specs.declared.stop.Stop.{Stop}
-use Rattle.wsn_io.specs.declared.stop.Stop.TheVariants as stop
 use Rattle.wsn_capture.specs.declared.capture_report.CaptureReport.{CaptureReport}
 use Rattle.wsn_rules.specs.declared.verdict.Verdict.{Verdict}
 use Rattle.wsn_print.specs.StopText.{stop_line}
@@ -11,6 +10,7 @@ use Rattle.wsn_print.specs.FaultText.{line_fault_line}
 use Rattle.wsn_capture.specs.LineFaults.{fault_word}
 use Rattle.wsn_capture.specs.declared.capture_stop.CaptureStop.{CaptureStop}
 use Rattle.wsn_capture.specs.declared.capture_stop.CaptureStop.TheVariants as capture
+use Rattle.wsn_io.specs.declared.stop.Stop.TheVariants as stop
 use Rattle.wsn_redact.specs.declared.capture_redacting.RedactStop.{RedactStop}
 use Rattle.wsn_show.specs.declared.showing.ShowStop.{ShowStop}
 use Rattle.wsn_print.specs.declared.style.Style.{Style}

@@ -38,7 +38,7 @@ S 89008178\
 22222222222222222222222222222222222222222222222222222222222222222222222222222222\n";
 
 /// A capture with a path and a server's text of two letters and a digit.
-const TOLD: &[u8] = b"# path: /chat\nS 810348\nS 6931\n";
+const SAID: &[u8] = b"# path: /chat\nS 810348\nS 6931\n";
 
 /// The same without what was said.
 const REDACTED: &[u8] = b"#\nS 810358\nS 7830\n";
@@ -117,7 +117,7 @@ fn a_redaction_fills_every_room(rt: HostRuntime) {
 #[test]
 fn what_was_said_is_left_out(rt: HostRuntime) {
     let (mut scratch, mut output, mut message) = ([0; 64], [0; 64], [0; 32]);
-    let answer = wsn_page_redact(&EVENTS, TOLD, &mut scratch, &mut output, &mut message);
+    let answer = wsn_page_redact(&EVENTS, SAID, &mut scratch, &mut output, &mut message);
     assert_eq!(rt; (answer.status, answer.message), (0, 0));
     assert_eq!(rt; output.get(..answer.output), Some(REDACTED));
     let stream = b"\x81\x03Hi1";
