@@ -3,7 +3,7 @@ use Rattle.std.proofs.Common.{◌≡◌, ℕ, suc, ◌+◌, ◌-◌, ◌<◌, �
 use Rattle.std.specs.Prelude.{nat_eq, IsTrue, IsAscii}
 use Rattle.std.proofs.lemmas.Bool.{cases_lt, and_parts}
 use Rattle.std.proofs.lemmas.Grind.{common_steps}
-use Rattle.std.proofs.lemmas.List.{length-map, get_or-map, length-take-le, map-append, take-map, take_at, drop_at, take_all, drop_all, take-take, take-append-le, take-append-drop, drop-drop, get_or_past, get_or_at, set_at, drop_more, take_more}
+use Rattle.std.proofs.lemmas.List.{length-map, length-take-le, map-append, take-map, take_at, drop_at, take_all, drop_all, take-take, take-append-le, take-append-drop, drop-drop, get_or_past, get_or_at, set_at, drop_more, take_more}
 use Rattle.std.proofs.lemmas.Nat.{le_or_l, le_or_r}
 use Rattle.std.proofs.lemmas.Simd.{put_chunk_is, get_or-zip2, get_or-chunk}
 use Rattle.std.proofs.Math.Seq.{take-add}
@@ -241,9 +241,6 @@ ascii_byte bytes now i ascii within is before all k below =
     ]
 
 -- ---- a part of a text whose letters and digits are replaced
-
-pub at_singles : (bytes : List ℕ) (i : ℕ) → i < length bytes → singles bytes ≡ bytes → single_stand_in (get_or bytes i 0) ≡ get_or bytes i 0
-at_singles bytes i within same = sym (get_or-map single_stand_in bytes i 0 0 within) ∙ ap (λ (bs : List ℕ). get_or bs i 0) same
 
 drop-singles : (n : ℕ) (bytes : List ℕ) → drop n (singles bytes) ≡ singles (drop n bytes)
 drop-singles zero bytes = refl

@@ -1,5 +1,5 @@
 -- Stand-ins as numbers, the first byte lowest.
-use Rattle.std.proofs.Common.{◌≡◌, ℕ, zero, suc, ◌+◌, ◌*◌, ◌/◌, ◌%◌, ◌<◌, ◌≤◌, ◌≢◌, ◌&&◌, Bool, true, false, eqb, List, [], ◌∷◌, if◌then◌else◌, slice_index, drop, inl, inr, refl, sym, ap, ◌∙◌, subst, arith, eqb-true}
+use Rattle.std.proofs.Common.{◌≡◌, ℕ, zero, suc, ◌+◌, ◌*◌, ◌/◌, ◌%◌, ◌<◌, ◌≢◌, ◌&&◌, Bool, true, false, eqb, List, [], ◌∷◌, if◌then◌else◌, slice_index, drop, inl, inr, refl, sym, ap, ◌∙◌, subst, arith, eqb-true}
 use Rattle.std.specs.Prelude.{◌==◌}
 use Rattle.std.proofs.lemmas.Bool.{and_parts, cases_lt}
 use Rattle.std.proofs.lemmas.Grind.{common_steps}
@@ -11,7 +11,7 @@ use Rattle.wsn_redact.specs.Dues.{bytes_in}
 -- ---- the table
 
 abbrev is_listed : ℕ → Bool
-is_listed n = eqb (slice_index STAND_INS n) (number_l 256 (stand_in (192 + n)))
+is_listed n = eqb (slice_index STAND_INS n) (number_l 256 (stand_in n))
 
 abbrev are_listed : ℕ → Bool
 are_listed zero = true
@@ -26,16 +26,8 @@ listed_at (suc n) c h lt =
       | inr above ↦ let e : c ≡ n = omega arith in subst (λ (k : ℕ). is_listed k ≡ true) (sym e) parts.0
     ]
 
-pub listed : (b : ℕ) → 192 ≤ b → b < 256 → slice_index STAND_INS (b % 64) ≡ number_l 256 (stand_in b)
-listed b from to =
-    let place : 192 + b % 64 ≡ b = omega (arith, from, to) in
-    eqb-true _ _ (listed_at 64 (b % 64) refl (omega arith)) ∙ ap (λ (c : ℕ). number_l 256 (stand_in c)) place
-
-shorter : (b : ℕ) → b < 192 → stand_in b ≡ single_stand_in b ∷ []
-shorter b to = grind (arith, common_steps)
-
-pub of_single : (b : ℕ) → b < 192 → single_stand_in b ≡ number_l 256 (stand_in b)
-of_single b to = (omega arith) ∙ ap (λ (bs : List ℕ). number_l 256 bs) (sym (shorter b to))
+pub listed : (b : ℕ) → b < 256 → slice_index STAND_INS b ≡ number_l 256 (stand_in b)
+listed b to = eqb-true _ _ (listed_at 256 b refl to)
 
 -- ---- the bytes of a number
 
@@ -92,3 +84,6 @@ three n small =
 pub rest_due : (n b : ℕ) → n ≢ 0 → n < 4294967296 → bytes_in 4 (n / 256) ≡ drop 1 (due_at (bytes_in 4 n) b)
 rest_due n b some small =
     three (n / 256) (omega (arith, small)) ∙ sym (ap (λ (bs : List ℕ). drop 1 (due_at bs b)) (some_bytes 3 n some))
+
+pub first_due : (n b : ℕ) → n ≢ 0 → n % 256 ≡ slice_index (due_at (bytes_in 4 n) b) 0
+first_due n b some = sym (ap (λ (bs : List ℕ). slice_index (due_at bs b) 0) (some_bytes 3 n some))
