@@ -2,7 +2,7 @@
 use Rattle.std.proofs.Common.{◌≡◌, ℕ, zero, suc, ◌+◌, ◌-◌, ◌<◌, ◌≤◌, Bool, true, false, Some, List, [], ◌∷◌, ◌++◌, length, take, drop, if◌then◌else◌, inl, inr, refl, sym, ap, ◌∙◌, subst, arith}
 use Rattle.std.specs.Str.Lossy.{utf8_valid_len}
 use Rattle.std.proofs.lemmas.Bool.{cases_lt}
-use Rattle.std.proofs.lemmas.List.{take_all}
+use Rattle.std.proofs.lemmas.List.{take_all, length-drop}
 use Rattle.wsn_wire.specs.declared.opcode.Op.{Op}
 use Rattle.wsn_wire.specs.declared.opcode.Op.TheVariants.{Continue, Text, Binary, Close, Ping, Pong}
 use Rattle.wsn_wire.specs.declared.refusal.Reason.{Reason}
@@ -11,7 +11,7 @@ use Rattle.wsn_wire.specs.Frame.{Frame, head_bytes, frame_bytes}
 use Rattle.wsn_text.specs.Utf8.{IsText}
 use Rattle.wsn_text.proofs.LongestText.{valid_is_longest}
 use Rattle.wsn_rules.specs.declared.head_info.HeadInfo.{HeadInfo}
-use Rattle.wsn_rules.specs.BadCharacter.{payload_offset, placed_payloads, open_payload, message_payload, first_offset, bytes_of, bad_character, character_of}
+use Rattle.wsn_rules.specs.BadCharacter.{payload_offset, placed_payloads, open_payload, message_payload, last_of, first_offset, bytes_of, earlier_end, bad_character, character_of}
 use Rattle.wsn_rules.specs.Group.{is_data, unfinished, payload_of}
 use Rattle.wsn_rules.specs.Heads.{info_of}
 use Rattle.wsn_rules.specs.PlacedByte.{PlacedByte, placed}
@@ -144,8 +144,14 @@ message_places fs gs info part other are size = places_append (open_payload fs) 
 
 -- ---- the character
 
+end_size : (xs ys : List ℕ) → length xs ≡ length ys → length (last_of 48 xs) ≡ length (last_of 48 ys)
+end_size xs ys same =
+    let mine = length-drop (length xs - 48) xs in
+    let its = length-drop (length ys - 48) ys in
+    mine ∙ (λ i. same i - (same i - 48)) ∙ sym its
+
 pub bad_alike : (fs gs : List Frame) (info : HeadInfo) (part other : List ℕ) → AreLikewise fs gs → length part ≡ length other → AreAlikeTexts (payload_of (unfinished fs) ++ part) (payload_of (unfinished gs) ++ other)
-    → AreAlikeBadCharacters (Some (bad_character (message_payload fs info part))) (Some (bad_character (message_payload gs info other)))
+    → AreAlikeBadCharacters (Some (bad_character (earlier_end fs) (message_payload fs info part))) (Some (bad_character (earlier_end gs) (message_payload gs info other)))
 bad_alike fs gs info part other are size texts =
     let xs = message_payload fs info part in
     let ys = message_payload gs info other in
@@ -153,8 +159,12 @@ bad_alike fs gs info part other are size texts =
     let valid : utf8_valid_len (bytes_of xs) ≡ utf8_valid_len (bytes_of ys) =
     ap utf8_valid_len (payload_so_far fs info part) ∙ valid_alike (payload_of (unfinished fs) ++ part) (payload_of (unfinished gs) ++ other) texts ∙ sym (ap utf8_valid_len (payload_so_far gs info other)) in
     let n = utf8_valid_len (bytes_of xs) in
-    let there : HaveSamePlaces (drop n xs) (drop (utf8_valid_len (bytes_of ys)) ys) = subst (λ (m : ℕ). HaveSamePlaces (drop n xs) (drop m ys)) valid (places_drop n xs ys same) in
-    (places_first (drop n xs) (drop (utf8_valid_len (bytes_of ys)) ys) there, valid, bytes_size (drop n xs) (drop (utf8_valid_len (bytes_of ys)) ys) there)
+    let there : HaveSamePlaces (drop n xs) (drop (utf8_valid_len (bytes_of ys)) ys) = subst (λ (m : ℕ). HaveSamePlaces (drop n xs) (drop m ys)) valid (places_drop n xs ys same) in (
+      places_first (drop n xs) (drop (utf8_valid_len (bytes_of ys)) ys) there,
+      valid,
+      bytes_size (drop n xs) (drop (utf8_valid_len (bytes_of ys)) ys) there,
+      end_size (payload_of (unfinished fs)) (payload_of (unfinished gs)) (same_earlier (unfinished fs) (unfinished gs) (open_likewise fs gs are)),
+    )
 
 data_texts : (c : Bool) (earlier other_earlier payload other : List ℕ) → c ≡ true → AreAlikeData c earlier other_earlier payload other → AreAlikeTexts (earlier ++ payload) (other_earlier ++ other)
 data_texts true earlier other_earlier payload other is a = a.1

@@ -13,11 +13,13 @@ AreAlikeEvents (Message kind payload) (Message other_kind other) = (kind ≡ oth
 AreAlikeEvents (Control op body) (Control other_op other) = (op ≡ other_op) × (length body ≡ length other)
 AreAlikeEvents event other = ⊥
 
--- Neither has a bad character; or both have one, at the same offset and place in the payload, of as many bytes.
+-- Neither has a bad character; or both have one, at the same offset and place in the payload, of as many bytes, with as
+-- many of earlier frames.
 abbrev pub AreAlikeBadCharacters : Option BadCharacter → Option BadCharacter → Type 0
 AreAlikeBadCharacters None None = Unit {0}
 AreAlikeBadCharacters (Some c) (Some d) =
     (c.offset ≡ d.offset) × (c.in_payload ≡ d.in_payload) × (length c.bytes ≡ length d.bytes)
+    × (length c.earlier ≡ length d.earlier)
 AreAlikeBadCharacters c d = ⊥
 
 -- Items at one offset: events that are alike, of as many frames, and if they are unfinished, with as many bytes missing;
