@@ -2,7 +2,8 @@
 //! (Streams: `wsn_tests`.)
 //!
 //! A rule's test is found by its printed word: faults of lines (`bad_hex`) and `input_limit` in `capture_lines`, outcomes
-//! in `capture_reports`. `side_readers` tests one side of a capture as a reader, and `side_commands` the commands on it.
+//! in `capture_reports`. `tails` has the bytes after a Close. `side_readers` tests one side of a capture as a reader, and
+//! `side_commands` the commands on it.
 //!
 //! Each command has a file: `judge_command`, `frames_command`, `normal_command`, `same_command` (with a view:
 //! `same_view`), `closing_command`.
@@ -47,3 +48,5 @@ mod same_view;
 mod side_commands;
 #[cfg(test)]
 mod side_readers;
+#[cfg(test)]
+mod tails;
