@@ -36,3 +36,4 @@ pub mod RedactedEntries
 pub mod SameReports
 pub mod SameLines
 pub mod CapturesTwice
+pub mod EveryCapture
