@@ -1,6 +1,6 @@
 -- Streams that are alike have one redaction.
 use Rattle.std.proofs.Common.{◌≡◌, ℕ, suc, ◌+◌, ◌≤◌, Bool, true, false, List, [], ◌∷◌, ◌++◌, length, take, drop, if◌then◌else◌, inl, inr, refl, sym, ap, ◌∙◌, subst, append_assoc, length-append, length-drop, append-nil, arith}
-use Rattle.std.specs.List.{AllByRecursion, concat, flat_map, list_any}
+use Rattle.std.specs.List.{AllByRecursion, flat_map, list_any}
 use Rattle.std.specs.Prelude.{filter, ◌||◌}
 use Rattle.std.proofs.lemmas.Grind.{common_steps}
 use Rattle.wsn_wire.specs.declared.endpoint.Role.{Role}
@@ -21,8 +21,8 @@ use Rattle.wsn_rules.proofs.OneHead.{one_begun}
 use Rattle.wsn_rules.proofs.OneVerdict.{one_verdict}
 use Rattle.wsn_rules.proofs.Prefixes.{append_cancel}
 use Rattle.wsn_redact.specs.StandIns.{single_stand_in, stand_in, stand_in_of, IsRedactedText, IsRedacted}
-use Rattle.wsn_redact.specs.Redaction.{zeros_for, is_text, is_of_text, IsRedactedPart, IsRedactedData, IsRedactedBody, IsRedactedPayload, with_payload, AreRedacted, IsRedactedBegun, IsRedactedRest, judged, unjudged, IsRedactionAt, IsRedaction}
-use Rattle.wsn_redact.specs.AlikeStreams.{IsIn, AreOfOneKind, single_kinds, first_kinds, AreAlikeCharacters, AreAlikeInPairs, AreAlikeBeginnings, AreAlikeToBad, AreAlikeTexts, AreAlikeData, AreAlikePayloads, AreAlikeFrames, AreAlikeBegun, AreAlikeRests, AreAlike}
+use Rattle.wsn_redact.specs.Redaction.{zeros_for, is_text, is_of_text, IsRedactedData, IsRedactedPayload, with_payload, AreRedacted, IsRedactedBegun, IsRedactedRest, judged, unjudged, IsRedactionAt, IsRedaction}
+use Rattle.wsn_redact.specs.AlikeStreams.{IsIn, AreOfOneKind, single_kinds, first_kinds, AreAlikeCharacters, AreAlikeInPairs, AreAlikeBeginnings, AreAlikeTexts, AreAlikeData, AreAlikePayloads, AreAlikeFrames, AreAlikeBegun, AreAlikeRests, AreAlikeStreams}
 use Rattle.wsn_redact.proofs.StoodTexts.{one_redacted}
 use Rattle.wsn_redact.proofs.RedactedLawful.{two_low, row_e1, row_ee, row_f1}
 
@@ -56,6 +56,10 @@ first_low b to = grind (arith, common_steps)
 -- The kinds of letters and digits, by their last value.
 low_alike : (b c : ℕ) → b ≤ 0x7F → c ≤ 0x7F → single_stand_in b ≡ single_stand_in c → stand_in b ≡ stand_in c
 low_alike b c b_low c_low same = first_low b b_low ∙ ap (λ (x : ℕ). x ∷ []) same ∙ sym (first_low c c_low)
+
+-- The stand-in of a small letter.
+pub letter_alone : (b : ℕ) → IsIn ((0x61 – 0x7A) ∷ []) b → stand_in b ≡ 0x78 ∷ []
+letter_alone b is = let x = in_one (0x61 – 0x7A) b is in let to = x.1 in first_low b (omega (arith, to)) ∙ ap (λ (y : ℕ). y ∷ []) (single_small b x.0 x.1)
 
 three : (b : ℕ) → IsIn ((0xE1 – 0xEC) ∷ (0xEE – 0xEF) ∷ []) b → stand_in b ≡ 0xE2 ∷ 0x82 ∷ 0xAC ∷ []
 three b (inl is) = row_e1 b is.0 is.1
@@ -135,6 +139,15 @@ texts_alike text other redacted other_redacted (inr a) r s =
     let x : IsRedacted text (one.redacted ++ single_stand_in a.bad ∷ []) = inr (record { front = a.front; bad = a.bad; front_redacted = one.redacted; text_is = a.text_is; goes_wrong = a.goes_wrong; is_front = one.is; redacted_is = refl }) in
     let y : IsRedacted other (one.redacted ++ single_stand_in a.other_bad ∷ []) = inr (record { front = a.other_front; bad = a.other_bad; front_redacted = one.redacted; text_is = a.other_is; goes_wrong = a.other_goes_wrong; is_front = one.also; redacted_is = refl }) in
     one_redacted text redacted (one.redacted ++ single_stand_in a.bad ∷ []) r x ∙ ap (λ (b : ℕ). one.redacted ++ b ∷ []) (single_alike a.bad a.other_bad a.bad_alike) ∙ one_redacted other (one.redacted ++ single_stand_in a.other_bad ∷ []) other_redacted y s
+
+-- The redaction of both.
+pub one_redaction_of_texts : (text other : List ℕ) → AreAlikeTexts text other → (redacted : List ℕ) × IsRedacted text redacted × IsRedacted other redacted
+one_redaction_of_texts text other (inl a) = let one = one_text text other a in (one.redacted, inl one.is, inl one.also)
+one_redaction_of_texts text other (inr a) =
+    let one = one_text a.front a.other_front a.fronts in
+    let x : IsRedacted text (one.redacted ++ single_stand_in a.bad ∷ []) = inr (record { front = a.front; bad = a.bad; front_redacted = one.redacted; text_is = a.text_is; goes_wrong = a.goes_wrong; is_front = one.is; redacted_is = refl }) in
+    let y : IsRedacted other (one.redacted ++ single_stand_in a.bad ∷ []) = inr (record { front = a.other_front; bad = a.other_bad; front_redacted = one.redacted; text_is = a.other_is; goes_wrong = a.other_goes_wrong; is_front = one.also; redacted_is = ap (λ (b : ℕ). one.redacted ++ b ∷ []) (single_alike a.bad a.other_bad a.bad_alike) }) in
+    (one.redacted ++ single_stand_in a.bad ∷ [], x, y)
 
 -- ---- frames that differ in nothing but their payloads
 
@@ -330,7 +343,7 @@ module _ (role : Role) (limits : Limits) where
       let same = one_verdict role limits bytes r.frames fs r.verdict v r.is_verdict is in
       subst (λ (w : Verdict). IsRedactionAt role limits bytes fs w redacted) same.1 (subst (λ (hs : List Frame). IsRedactionAt role limits bytes hs r.verdict redacted) same.0 r.is)
 
-  pub alike_is_one : (bytes other redacted other_redacted : List ℕ) → AreAlike role limits bytes other → IsRedaction role limits bytes redacted → IsRedaction role limits other other_redacted → redacted ≡ other_redacted
+  pub alike_is_one : (bytes other redacted other_redacted : List ℕ) → AreAlikeStreams role limits bytes other → IsRedaction role limits bytes redacted → IsRedaction role limits other other_redacted → redacted ≡ other_redacted
   alike_is_one bytes other redacted other_redacted a r s =
       let fs = a.frames in
       let gs = a.other_frames in

@@ -120,7 +120,7 @@ names_twice list = names_again Name Name list tt
 
 -- ---- comments
 
-hash_says : SaysElse (codes "#")
+pub hash_says : SaysElse (codes "#")
 hash_says = (
   λ none. let size : 1 ≡ 0 = ap (λ (l : List ℕ). length l) none in omega (arith, size),
   no_stay,

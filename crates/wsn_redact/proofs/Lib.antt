@@ -30,10 +30,17 @@ pub mod SameVerdicts
 pub mod TwiceIsOnce
 pub mod AlikeRedactions
 pub mod KindsOfBytes
+pub mod RedactionsAlike
+pub mod ComputedAlike
 pub mod RedactedBytes
 pub mod PlainEnds
 pub mod RedactedEntries
 pub mod SameReports
 pub mod SameLines
 pub mod CapturesTwice
+pub mod AlikeCaptureRedactions
+pub mod AlikeSizes
+pub mod AlikeBadCharacters
+pub mod AlikeShown
+pub mod LongerRedactions
 pub mod EveryCapture

@@ -39,13 +39,13 @@ pub no_reset : (list : List ℕ) (role : Role) → reset_comment role ≡ extens
 no_reset list Client same = let third : 114 ≡ 101 = ap (λ (l : List ℕ). slice_index l 2) same in omega (arith, third)
 no_reset list Server same = let third : 114 ≡ 101 = ap (λ (l : List ℕ). slice_index l 2) same in omega (arith, third)
 
-stays_or_extensions : (text list : List ℕ) → ((text ≡ []) ⊎ Stays text) → HasExtensions text list → ⊥
+pub stays_or_extensions : (text list : List ℕ) → ((text ≡ []) ⊎ Stays text) → HasExtensions text list → ⊥
 stays_or_extensions text list (inl none) has = let size : 0 ≡ suc (length (codes " extensions: " ++ list)) = ap (λ (l : List ℕ). length l) (sym none ∙ has) in omega (arith, size)
 stays_or_extensions text list (inr (inl (seconds, gives))) has = no_time list seconds gives.1 (sym gives.0 ∙ has)
 stays_or_extensions text list (inr (inr (inl is))) has = no_reset list Client (sym is ∙ has)
 stays_or_extensions text list (inr (inr (inr is))) has = no_reset list Server (sym is ∙ has)
 
-stays_or_else : (text : List ℕ) → ((text ≡ []) ⊎ Stays text) → SaysElse text → ⊥
+pub stays_or_else : (text : List ℕ) → ((text ≡ []) ⊎ Stays text) → SaysElse text → ⊥
 stays_or_else text (inl none) says = says.0 none
 stays_or_else text (inr stays) says = says.1 stays
 
@@ -126,7 +126,7 @@ both P of_client of_server Client = of_client
 both P of_client of_server Server = of_server
 
 -- both streams stay the same after the bytes of a line
-bytes_off : (role : Role) (bytes also : List ℕ) (others more : List Entry) → length bytes ≡ length also
+pub bytes_off : (role : Role) (bytes also : List ℕ) (others more : List Entry) → length bytes ≡ length also
     → ((r : Role) → sent r (Bytes role bytes ∷ others) ≡ sent r (Bytes role also ∷ more)) → (bytes ≡ also) × ((r : Role) → sent r others ≡ sent r more)
 bytes_off Client bytes also others more size same =
     let parts = same_front bytes also (sent Client others) (sent Client more) size (same Client) in
@@ -135,11 +135,11 @@ bytes_off Server bytes also others more size same =
     let parts = same_front bytes also (sent Server others) (sent Server more) size (same Server) in
     (parts.0, both (λ r. sent r others ≡ sent r more) (same Client) parts.1)
 
-nothing_off : (others more : List Entry) → ((r : Role) → sent r (Nothing ∷ others) ≡ sent r (Nothing ∷ more)) → (r : Role) → sent r others ≡ sent r more
+pub nothing_off : (others more : List Entry) → ((r : Role) → sent r (Nothing ∷ others) ≡ sent r (Nothing ∷ more)) → (r : Role) → sent r others ≡ sent r more
 nothing_off others more same Client = same Client
 nothing_off others more same Server = same Server
 
-mark_off : (role : Role) (others more : List Entry) → ((r : Role) → sent r (Mark role ∷ others) ≡ sent r (Mark role ∷ more)) → (r : Role) → sent r others ≡ sent r more
+pub mark_off : (role : Role) (others more : List Entry) → ((r : Role) → sent r (Mark role ∷ others) ≡ sent r (Mark role ∷ more)) → (r : Role) → sent r others ≡ sent r more
 mark_off Client others more same Client = same Client
 mark_off Client others more same Server = same Server
 mark_off Server others more same Client = same Client

@@ -1,15 +1,14 @@
 -- The redaction of a stream has the same verdict, with the same counts.
-use Rattle.std.proofs.Common.{◌≡◌, ℕ, suc, ◌-◌, Bool, true, false, Option, None, Some, List, [], ◌∷◌, ◌++◌, length, take, drop, if◌then◌else◌, refl, sym, ap, ◌∙◌, subst, arith}
+use Rattle.std.proofs.Common.{◌≡◌, ℕ, suc, ◌-◌, Bool, true, false, Option, Some, List, [], ◌∷◌, ◌++◌, length, take, drop, if◌then◌else◌, refl, sym, ap, ◌∙◌, arith}
 use Rattle.std.specs.Prelude.{filter}
 use Rattle.wsn_wire.specs.declared.endpoint.Role.{Role}
 use Rattle.wsn_wire.specs.declared.opcode.Op.{Op}
 use Rattle.wsn_wire.specs.declared.opcode.Op.TheVariants.{Continue, Text, Binary, Close, Ping, Pong}
 use Rattle.wsn_wire.specs.Frame.{Frame, IsBytes, stream}
-use Rattle.wsn_rules.specs.declared.verdict.Summary.{Summary}
 use Rattle.wsn_rules.specs.declared.verdict.Verdict.{Verdict}
 use Rattle.wsn_rules.specs.declared.verdict.Verdict.TheVariants.{Accepted, Cut, Refused}
 use Rattle.wsn_rules.specs.Limits.{Limits}
-use Rattle.wsn_rules.specs.Group.{unfinished, payload_of}
+use Rattle.wsn_rules.specs.Group.{unfinished}
 use Rattle.wsn_rules.specs.Lawful.{IsLawful}
 use Rattle.wsn_rules.specs.Summary.{size_of_open, ends_message, is_close, is_ping, is_pong, close_code, close_of, counted}
 use Rattle.wsn_rules.specs.Verdict.{IsVerdict}

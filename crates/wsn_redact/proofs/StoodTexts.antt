@@ -94,7 +94,7 @@ begun_stood (b ∷ bytes) begins =
     let none : begun ++ [] ≡ begun = append-nil begun in
     first_due b bytes ∙ ap (λ (bs : List ℕ). stood (stand_in b) bs) (sym none) ∙ due_first (stand_in b) begun [] few ∙ append-nil (take (length begun) (stand_in b))
 
-character_stood : (character rest : List ℕ) → IsCharacter character → stood [] (character ++ rest) ≡ stand_in_of character ++ stood [] rest
+pub character_stood : (character rest : List ℕ) → IsCharacter character → stood [] (character ++ rest) ≡ stand_in_of character ++ stood [] rest
 character_stood [] rest fits = refl
 character_stood (b ∷ bytes) rest fits =
     let character : List ℕ = b ∷ bytes in

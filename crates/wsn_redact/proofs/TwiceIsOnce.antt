@@ -74,7 +74,7 @@ data_again false earlier later payload part whole r = zeros_again payload part r
 
 module _ (group redacted : List Frame) (same : SameGroup group redacted) (payload part : List ℕ) where
   -- The whole text so far.
-  whole_text : (op : Op) → MayBegin group op → (is_of_text group op ≡ true → BeginsText (payload_of group)) → IsRedactedPayload group op payload part → is_of_text group op ≡ true → IsRedacted (payload_of group ++ payload) (payload_of redacted ++ part)
+  pub whole_text : (op : Op) → MayBegin group op → (is_of_text group op ≡ true → BeginsText (payload_of group)) → IsRedactedPayload group op payload part → is_of_text group op ≡ true → IsRedacted (payload_of group ++ payload) (payload_of redacted ++ part)
   whole_text op may begins r is =
       subst (λ (bs : List ℕ). IsRedacted (payload_of group ++ payload) (bs ++ part)) (sym (text_before group redacted op same may is)) (payload_part group op payload part is (begins is) r)
 
@@ -169,11 +169,11 @@ module _ (role : Role) (limits : Limits) (fs gs : List Frame) (lawful : IsLawful
 
 module _ (role : Role) (limits : Limits) where
   -- The parts of a redaction, which the same verdict divides.
-  record IsDivided (gs : List Frame) (rest later redacted : List ℕ) (v : Verdict) : Type 0 where
-    rest_is : drop (length (stream gs)) (judged v redacted) ≡ rest
-    later_is : unjudged v redacted ≡ later
+  pub record IsDivided (gs : List Frame) (rest later redacted : List ℕ) (v : Verdict) : Type 0 where
+    pub rest_is : drop (length (stream gs)) (judged v redacted) ≡ rest
+    pub later_is : unjudged v redacted ≡ later
 
-  divided : (bytes : List ℕ) (fs gs : List Frame) (rest redacted : List ℕ) (v : Verdict) → IsVerdict role limits bytes fs v → length (stream gs) ≡ length (stream fs) → length rest ≡ length (drop (length (stream fs)) (judged v bytes)) → redacted ≡ stream gs ++ (rest ++ zeros_for (unjudged v bytes))
+  pub divided : (bytes : List ℕ) (fs gs : List Frame) (rest redacted : List ℕ) (v : Verdict) → IsVerdict role limits bytes fs v → length (stream gs) ≡ length (stream fs) → length rest ≡ length (drop (length (stream fs)) (judged v bytes)) → redacted ≡ stream gs ++ (rest ++ zeros_for (unjudged v bytes))
       → IsDivided gs rest (zeros_for (unjudged v bytes)) redacted v
   divided bytes fs gs rest redacted (Accepted s) is streams size whole = record {
     rest_is = ap (λ (bs : List ℕ). drop (length (stream gs)) bs) whole ∙ drop_at (stream gs) (rest ++ []) (length (stream gs)) refl ∙ append-nil rest;

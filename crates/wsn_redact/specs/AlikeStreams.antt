@@ -1,5 +1,5 @@
 -- Streams that differ only in what was said: in the letters, digits and longer characters of texts, in the payloads of
--- binary messages, pings and pongs, and in the bytes after their end. Nothing here names a redaction. RFC 6455 sections
+-- binary messages, pings and pongs, and in the bytes after their end. Nothing here speaks of redactions. RFC 6455 sections
 -- 5.2 to 5.6, 7.1 and 8.1.
 use Rattle.std.specs.Prelude.{◌≡◌, ℕ, ◌≤◌, ◌⊎◌, ⊤, Bool, true, false, List, [], ◌∷◌, ◌++◌, length, take, drop}
 use Rattle.std.specs.List.{concat}
@@ -147,7 +147,7 @@ AreAlikeRests role limits fs gs rest other =
 
 -- Two streams with the same verdict and as many bytes. Their lawful frames are alike, and so is what follows these up to
 -- the offending byte. Nothing is said of the bytes after it.
-pub record AreAlike (role : Role) (limits : Limits) (bytes other : List ℕ) : Type 0 where
+pub record AreAlikeStreams (role : Role) (limits : Limits) (bytes other : List ℕ) : Type 0 where
   pub verdict : Verdict
   pub frames : List Frame
   pub other_frames : List Frame

@@ -4,10 +4,12 @@ pub mod Redaction
 pub mod Redacting
 -- streams that differ only in what was said
 pub mod AlikeStreams
+pub mod AlikeItems
 -- the redaction of a capture
 pub mod ExtensionNames
 pub mod RedactedCaptures
 pub mod AlikeLines
+pub mod AlikeCaptures
 pub mod CaptureRedactors
 pub mod RedactingCaptures
 pub mod PassedRedactions

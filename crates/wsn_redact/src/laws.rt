@@ -1,6 +1,6 @@
 //! Laws of the definitions in `specs/`. The functions do nothing when called; their contracts are proved.
 
-ghost use Rattle.std.specs.Prelude.{◌≡◌, ℕ, ◌↔◌, List, [], length};
+ghost use Rattle.std.specs.Prelude.{◌≡◌, ℕ, ◌↔◌, List, [], ◌++◌, length};
 ghost use Rattle.wsn_wire.specs.declared.endpoint.Role.{Role};
 ghost use Rattle.wsn_text.specs.Utf8.{IsText, BeginsText};
 ghost use Rattle.wsn_wire.specs.Frame.{Frame, IsBytes, stream};
@@ -30,6 +30,13 @@ pub fn law_one_redaction()
         IsRedaction role limits bytes redacted → IsRedaction role limits bytes other → redacted ≡ other }
     ensures size { (role : Role) (limits : Limits) (bytes redacted : List ℕ) →
         IsRedaction role limits bytes redacted → length redacted ≡ length bytes }
+{}
+
+/// The redaction of a longer stream continues that of the shorter one: what has been written stays right.
+pub fn law_longer_redaction()
+    ensures { (role : Role) (limits : Limits) (bytes more redacted longer : List ℕ) →
+        IsRedaction role limits bytes redacted → IsRedaction role limits (bytes ++ more) longer →
+        (later : List ℕ) × (longer ≡ redacted ++ later) }
 {}
 
 /// The redaction of an accepted stream is accepted, and the same heads are reported of it: its frames have the same

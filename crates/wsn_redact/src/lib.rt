@@ -10,6 +10,7 @@
 //! written.
 #![tactic(auto)]
 
+pub mod alike_examples;
 pub mod alike_laws;
 pub mod capture_examples;
 pub mod capture_laws;
