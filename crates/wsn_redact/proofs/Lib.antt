@@ -45,3 +45,4 @@ pub mod AlikeSizes
 pub mod AlikeBadCharacters
 pub mod AlikeShown
 pub mod LongerRedactions
+pub mod EveryCapture

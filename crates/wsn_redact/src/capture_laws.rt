@@ -2,7 +2,7 @@
 //! their contracts are proved.
 
 ghost use Rattle.std.specs.Prelude.{◌≡◌, ◌↔◌, ℕ, Option, List, length};
-ghost use Rattle.wsn_rules.specs.Limits.{Limits};
+ghost use Rattle.wsn_rules.specs.Limits.{Limits, InRange};
 ghost use Rattle.wsn_rules.specs.Entries.{Entry, AreEntries};
 ghost use Rattle.wsn_rules.specs.Reports.{IsReport};
 ghost use Rattle.wsn_rules.specs.declared.report.Report.{Report};
@@ -19,8 +19,10 @@ pub fn law_one_redacted_comment()
         redacted ≡ other }
 {}
 
-/// A capture has one redaction at most, with as many lines.
+/// A capture whose lines are accepted has exactly one redaction, with as many lines.
 pub fn law_one_redacted_capture()
+    ensures some { (limits : Limits) (lines : List (List ℕ)) (entries : List Entry) → InRange limits →
+        AreAcceptedLines limits lines entries → (redacted : List (List ℕ)) × IsRedactedCapture limits lines redacted }
     ensures one { (limits : Limits) (lines redacted others : List (List ℕ)) →
         IsRedactedCapture limits lines redacted → IsRedactedCapture limits lines others → redacted ≡ others }
     ensures size { (limits : Limits) (lines redacted : List (List ℕ)) →
