@@ -1,0 +1,74 @@
+ghost use Rattle.std.specs.Prelude.{◌≡◌, [], OnOk};
+ghost use Rattle.std.specs.Io.KnownBytes.{Keeps};
+ghost use Rattle.wsn_color.specs.Painting.{all_given};
+
+use crate::brush::Brush;
+use crate::line::Layout;
+use crate::queue::Queue;
+use std::io::{self, ErrorKind, Write};
+use std::marker::Model;
+
+/// A writer that colours the lines that it is given: it writes them to another writer, with codes around their parts, and
+/// ends each colour before the line feed. Of a line it holds back at most 31 bytes of a word, until `flush`.
+///
+/// It takes no ESC: a write that begins with one fails, so that every code is the painter's own.
+#[derive(Drop)]
+pub struct Painter<W: Write> {
+    writer: W,
+    brush: Brush,
+    queue: Queue,
+}
+
+impl<W: Write> Model for Painter<W> {
+    ghost use Rattle.std.specs.Prelude.{drop};
+    ghost use Rattle.wsn_color.specs.Painting.{Painted};
+
+    ghost Value = { Painted };
+
+    ghost view = { λ p. record {
+      written = W.contents p.writer;
+      queued = drop p.queue.sent p.queue.bytes.items;
+      word = p.brush.word.items;
+    } };
+}
+
+impl<W: Write> Painter<W> {
+    /// A painter of such lines, to which nothing has been given.
+    pub fn new(writer: W, layout: Layout) -> Self
+        ensures written { result.written ≡ W.contents writer }
+        ensures queued { result.queued ≡ [] }
+        ensures word { result.word ≡ [] }
+    {
+        Painter {
+            writer,
+            brush: Brush::new(layout),
+            queue: Queue::new(),
+        }
+    }
+}
+
+impl<W: Write> Write for Painter<W> {
+    ghost contents = { λ p. all_given p };
+
+    fn write(&mut self, bytes: &[u8]) -> io::Result<usize> {
+        self.queue.write_to(&mut self.writer)?;
+        let count = self.brush.take(bytes, &mut self.queue.bytes);
+        if count == 0 && !bytes.is_empty() {
+            return Err(ErrorKind::InvalidData.into());
+        }
+        let _later = self.queue.write_to(&mut self.writer);
+        Ok(count)
+    }
+
+    /// Writes all that was given, and ends all colours.
+    fn flush(&mut self) -> io::Result<()>
+        ensures bytes { Keeps (all_given self.old) (all_given self.new) }
+        ensures queued { OnOk result (self.new.queued ≡ []) }
+        ensures word { OnOk result (self.new.word ≡ []) }
+    {
+        self.queue.write_to(&mut self.writer)?;
+        self.brush.end_tones(&mut self.queue.bytes);
+        self.queue.write_to(&mut self.writer)?;
+        self.writer.flush()
+    }
+}
