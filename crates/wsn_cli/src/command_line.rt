@@ -11,7 +11,8 @@ use crate::error_words::shown_in_errors;
 use crate::escaped::Escaped;
 use crate::mistake::Mistake;
 use crate::options::{
-    at_of, check_digits, color_of, comparison_of, file_of, format_of, limits_of, role_of, side_of, style_of,
+    at_of, check_digits, color_of, comparison_of, file_of, format_of, limits_of, role_of, side_of,
+    style_of,
 };
 use crate::recut_options::recut_of;
 use crate::request::{Asked, Request, Usage};

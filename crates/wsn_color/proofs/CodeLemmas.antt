@@ -1,6 +1,6 @@
 -- A text without codes, in parts.
 use Rattle.std.proofs.Common.{◌≡◌, ℕ, ◌==◌, Bool, true, false, not, ◌&&◌, List, [], ◌∷◌, ◌++◌, refl, sym, ap, ◌∙◌, append_assoc}
-use Rattle.wsn_color.specs.Codes.{HasNoEscape, IsComplete, added_with, begun_after, begun_with, without_after, without_codes}
+use Rattle.wsn_color.specs.Codes.{IsComplete, IsInWords, added_with, begun_after, begun_with, colored_after, colored_with, has_plain_ends, without_after, without_codes}
 
 pub without_after-append : (begun xs ys : List ℕ) →
     without_after begun (xs ++ ys) ≡ without_after begun xs ++ without_after (begun_after begun xs) ys
@@ -21,21 +21,57 @@ without_codes-append xs ys complete =
 pub complete-append : (xs ys : List ℕ) → IsComplete xs → IsComplete ys → IsComplete (xs ++ ys)
 complete-append xs ys one two = begun_after-append [] xs ys ∙ ap (λ (begun : List ℕ). begun_after begun ys) one ∙ two
 
-no_escape : (b rest : Bool) → (not b && rest) ≡ true → (b ≡ false) × (rest ≡ true)
-no_escape true rest h = absurd cc
-no_escape false rest h = (refl, h)
+-- ---- colours
+
+pub colored_after-append : (colored : Bool) (begun xs ys : List ℕ) →
+    colored_after colored begun (xs ++ ys) ≡ colored_after (colored_after colored begun xs) (begun_after begun xs) ys
+colored_after-append colored begun [] ys = refl
+colored_after-append colored begun (x ∷ xs) ys = colored_after-append (colored_with colored begun x) (begun_with begun x) xs ys
+
+both : (a b c : Bool) → a ≡ true → (b && c) ≡ true → (b ≡ true) × (c ≡ true)
+both a true c e h = (refl, h)
+both a false c e h = absurd cc
+
+and_true : (a b : Bool) → a ≡ true → b ≡ true → (a && b) ≡ true
+and_true a b p q = rw (p, q) refl
+
+pub has_plain_ends-append : (colored : Bool) (begun xs ys : List ℕ) → has_plain_ends colored begun xs ≡ true
+    → has_plain_ends (colored_after colored begun xs) (begun_after begun xs) ys ≡ true → has_plain_ends colored begun (xs ++ ys) ≡ true
+has_plain_ends-append colored begun [] ys one two = two
+has_plain_ends-append colored begun (x ∷ xs) ys one two =
+    let parts = both true (not (x == 10 && colored)) (has_plain_ends (colored_with colored begun x) (begun_with begun x) xs) refl one in
+    and_true _ _ parts.0 (has_plain_ends-append (colored_with colored begun x) (begun_with begun x) xs ys parts.1 two)
+
+-- ---- bytes of words
+
+in_word : (b : Bool) (c : Bool) (rest : Bool) → ((not b && not c) && rest) ≡ true → (b ≡ false) × (c ≡ false) × (rest ≡ true)
+in_word true c rest h = absurd cc
+in_word false true rest h = absurd cc
+in_word false false rest h = (refl, refl, h)
 
 -- A byte that isn't ESC is no part of a code.
 pub added-plain : (x : ℕ) → (x == 27) ≡ false → (added_with [] x ≡ x ∷ []) × (begun_with [] x ≡ [])
 added-plain x other = (rw other refl, rw other refl)
 
-pub without_codes-plain : (xs : List ℕ) → HasNoEscape xs → (without_codes xs ≡ xs) × IsComplete xs
-without_codes-plain [] h = (refl, refl)
-without_codes-plain (x ∷ xs) h =
-    let both = no_escape (x == 27) _ h in
-    let here = added-plain x both.0 in
-    let rest = without_codes-plain xs both.1 in (
-      ap (λ (begun : List ℕ). added_with [] x ++ without_after begun xs) here.1
-          ∙ ap (λ (added : List ℕ). added ++ without_codes xs) here.0 ∙ ap (λ (text : List ℕ). x ∷ text) rest.0,
-      ap (λ (begun : List ℕ). begun_after begun xs) here.1 ∙ rest.1,
-    )
+-- Bytes of words are text that is coloured as what comes before it.
+pub record IsWord (xs : List ℕ) : Type 0 where
+  pub without : without_codes xs ≡ xs
+  pub complete : IsComplete xs
+  pub next : (colored : Bool) → colored_after colored [] xs ≡ colored
+  pub ends : (colored : Bool) → has_plain_ends colored [] xs ≡ true
+
+pub is_word : (xs : List ℕ) → IsInWords xs → IsWord xs
+is_word [] h = record { without = refl; complete = refl; next = λ colored. refl; ends = λ colored. refl }
+is_word (x ∷ xs) h =
+    let parts = in_word (x == 27) (x == 10) _ h in
+    let here = added-plain x parts.0 in
+    let rest = is_word xs parts.2 in
+    record {
+      without =
+          ap (λ (begun : List ℕ). added_with [] x ++ without_after begun xs) here.1
+          ∙ ap (λ (added : List ℕ). added ++ without_codes xs) here.0 ∙ ap (λ (text : List ℕ). x ∷ text) rest.without;
+      complete = ap (λ (begun : List ℕ). begun_after begun xs) here.1 ∙ rest.complete;
+      next = λ colored. ap (λ (begun : List ℕ). colored_after colored begun xs) here.1 ∙ rest.next colored;
+      ends = λ colored. and_true _ _ (ap (λ (b : Bool). not (b && colored)) parts.1)
+          (ap (λ (begun : List ℕ). has_plain_ends colored begun xs) here.1 ∙ rest.ends colored);
+    }

@@ -1,7 +1,8 @@
--- The codes that colour a terminal's text (SGR of ECMA-48, section 8.3.117), and a text without them.
-use Rattle.std.specs.Prelude.{◌≡◌, ℕ, ◌==◌, ◌||◌, Bool, true, false, not, List, [], ◌∷◌, ◌++◌, if◌then◌else◌}
+-- The codes that colour a terminal's text (SGR of ECMA-48, section 8.3.117), a text without them, and what they colour.
+use Rattle.std.specs.Prelude.{◌≡◌, ℕ, ◌==◌, ◌||◌, ◌&&◌, Bool, true, false, not, List, [], ◌∷◌, ◌++◌, if◌then◌else◌}
 use Rattle.std.specs.Char.{is_ascii_digit}
 use Rattle.std.specs.List.{list_all}
+use Rattle.std.specs.Str.{bytes_eq}
 
 -- A code is ESC, `[`, digits and `;`, and `m`: whether what has begun of one goes on with this byte.
 abbrev pub goes_on : List ℕ → ℕ → Bool
@@ -43,6 +44,31 @@ begun_after begun (byte ∷ text) = begun_after (begun_with begun byte) text
 abbrev pub IsComplete : List ℕ → Type 0
 IsComplete text = begun_after [] text ≡ []
 
--- No byte of the text is ESC.
-abbrev pub HasNoEscape : List ℕ → Type 0
-HasNoEscape text = list_all (λ byte. not (byte == 27)) text ≡ true
+-- The byte is neither ESC nor LF.
+abbrev pub is_in_word : ℕ → Bool
+is_in_word byte = not (byte == 27) && not (byte == 10)
+
+-- No byte of the text is ESC or LF.
+abbrev pub IsInWords : List ℕ → Type 0
+IsInWords text = list_all is_in_word text ≡ true
+
+-- ---- colours
+
+-- whether what has begun of a code, and `m`, ends all colours
+abbrev pub is_reset : List ℕ → Bool
+is_reset begun = bytes_eq begun (27 ∷ 91 ∷ 48 ∷ [])
+
+-- Whether text is coloured after this byte, by whether it was before: every code but ESC `[0m` colours what follows.
+abbrev pub colored_with : Bool → List ℕ → ℕ → Bool
+colored_with colored begun byte = if ends begun byte then not (is_reset begun) else colored
+
+-- whether what comes after the text is coloured, after what has begun of a code
+abbrev pub colored_after : Bool → List ℕ → List ℕ → Bool
+colored_after colored begun [] = colored
+colored_after colored begun (byte ∷ text) = colored_after (colored_with colored begun byte) (begun_with begun byte) text
+
+-- whether no LF of the text is coloured
+abbrev pub has_plain_ends : Bool → List ℕ → List ℕ → Bool
+has_plain_ends colored begun [] = true
+has_plain_ends colored begun (byte ∷ text) =
+    not (byte == 10 && colored) && has_plain_ends (colored_with colored begun byte) (begun_with begun byte) text

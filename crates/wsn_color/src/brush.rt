@@ -1,7 +1,7 @@
-ghost use Rattle.std.specs.Prelude.{◌≡◌, ◌≢◌, ℕ, ◌+◌, ◌<◌, ◌≤◌, [], ◌∷◌, ◌++◌, length, take, IsTrue};
+ghost use Rattle.std.specs.Prelude.{◌≡◌, ◌≢◌, Bool, ℕ, ◌+◌, ◌<◌, ◌≤◌, [], ◌∷◌, ◌++◌, false, length, take, IsTrue};
 ghost use Rattle.arrayvec.specs.ArrayVec.{array_vec_len};
-ghost use Rattle.wsn_color.specs.Codes.{HasNoEscape, IsComplete, without_codes};
-ghost use Rattle.wsn_color.specs.Painting.{Paints};
+ghost use Rattle.wsn_color.specs.Codes.{IsInWords};
+ghost use Rattle.wsn_color.specs.Painting.{Paints, is_of_line};
 
 use crate::line::{Layout, Line};
 use crate::queue::{Bytes, QUEUE};
@@ -21,7 +21,7 @@ pub(crate) struct Brush {
     layout: Layout,
     line: Line,
     word: ArrayVec<u8, WORD>,
-    ghost plain: { HasNoEscape word.items },
+    ghost plain: { IsInWords word.items },
     ghost short: { array_vec_len word < 32 },
 }
 
@@ -33,10 +33,27 @@ fn put(queue: &mut Bytes, bytes: &[u8])
     let _fits = queue.try_extend_from_slice(bytes);
 }
 
+/// Adds a word in a tone, which ends after the word if it isn't one of lines.
+fn put_toned(queue: &mut Bytes, word: &[u8], tone: Tone)
+    requires room { array_vec_len queue.old + length word.now + 14 ≤ 4096 }
+    requires plain { IsInWords word.now }
+    ensures paints { (colored : Bool) →
+        Paints colored queue.old.items word.now [] (is_of_line tone) queue.new.items [] }
+    ensures few { array_vec_len queue.new ≤ array_vec_len queue.old + length word.now + 14 }
+{
+    put(queue, tone.code());
+    put(queue, word);
+    if tone.is_of_line() {
+        return;
+    }
+    put(queue, plain_code());
+}
+
 impl Brush {
     /// A brush before the first line.
     pub fn new(layout: Layout) -> Self
-        ensures { result.word.items ≡ [] }
+        ensures word { result.word.items ≡ [] }
+        ensures plain { result.line.is_toned ≡ false }
     {
         Brush {
             layout,
@@ -45,17 +62,11 @@ impl Brush {
         }
     }
 
-    /// The bytes of the word that is being read.
-    pub fn word(&self) -> &[u8]
-        ensures { result.now ≡ self.now.word.items }
-    {
-        self.word.as_slice()
-    }
-
     /// Takes bytes up to the first ESC, as many as the queue has room for, and returns their number.
     pub fn take(&mut self, bytes: &[u8], queue: &mut Bytes) -> usize
         ensures within { result ≤ length bytes.now }
-        ensures paints { Paints queue.old.items self.old.word.items (take result bytes.now) queue.new.items self.new.word.items }
+        ensures paints { Paints self.old.line.is_toned queue.old.items self.old.word.items (take result bytes.now)
+            self.new.line.is_toned queue.new.items self.new.word.items }
     {
         let mut taken = 0;
         while taken < bytes.len() && queue.len() <= QUEUE - STEP {
@@ -73,7 +84,8 @@ impl Brush {
     fn take_byte(&mut self, byte: u8, queue: &mut Bytes)
         requires plain { byte ≢ 27 }
         requires room { array_vec_len queue.old + 64 ≤ 4096 }
-        ensures paints { Paints queue.old.items self.old.word.items (byte ∷ []) queue.new.items self.new.word.items }
+        ensures paints { Paints self.old.line.is_toned queue.old.items self.old.word.items (byte ∷ [])
+            self.new.line.is_toned queue.new.items self.new.word.items }
     {
         if byte == b'\n' {
             self.end_tones(queue);
@@ -98,8 +110,10 @@ impl Brush {
     /// Ends the word, and the tone if there is one.
     pub fn end_tones(&mut self, queue: &mut Bytes)
         requires room { array_vec_len queue.old + 53 ≤ 4096 }
-        ensures paints { Paints queue.old.items self.old.word.items [] queue.new.items self.new.word.items }
+        ensures paints { Paints self.old.line.is_toned queue.old.items self.old.word.items []
+            self.new.line.is_toned queue.new.items self.new.word.items }
         ensures empty { self.new.word.items ≡ [] }
+        ensures plain { self.new.line.is_toned ≡ false }
         ensures few { array_vec_len queue.new ≤ array_vec_len queue.old + 53 }
     {
         self.release(queue);
@@ -111,17 +125,14 @@ impl Brush {
     /// Queues what is held of the word, in its tone.
     fn release(&mut self, queue: &mut Bytes)
         requires room { array_vec_len queue.old + 46 ≤ 4096 }
-        ensures paints { Paints queue.old.items self.old.word.items [] queue.new.items self.new.word.items }
+        ensures paints { Paints self.old.line.is_toned queue.old.items self.old.word.items []
+            self.new.line.is_toned queue.new.items self.new.word.items }
         ensures empty { self.new.word.items ≡ [] }
         ensures few { array_vec_len queue.new ≤ array_vec_len queue.old + 46 }
     {
-        let tone = self.line.decide(self.word.as_slice());
-        if let Some(tone) = tone {
-            put(queue, tone.code());
-        }
-        put(queue, self.word.as_slice());
-        if tone == Some(Tone::Label) {
-            put(queue, plain_code());
+        match self.line.decide(self.word.as_slice()) {
+            None => put(queue, self.word.as_slice()),
+            Some(tone) => put_toned(queue, self.word.as_slice(), tone),
         }
         self.word.clear();
     }

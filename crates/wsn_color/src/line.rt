@@ -1,3 +1,6 @@
+ghost use Rattle.std.specs.Prelude.{◌≡◌, false};
+ghost use Rattle.wsn_color.specs.Painting.{colored_by};
+
 use crate::tone::Tone;
 
 /// Which lines are painted.
@@ -70,13 +73,15 @@ pub(crate) struct Line {
     place: usize,
     /// Whether the word's tone is known.
     is_decided: bool,
-    /// Whether a tone has begun that doesn't end before the line.
+    /// Whether a tone has begun that hasn't ended.
     is_toned: bool,
 }
 
 impl Line {
     /// A line of which no byte has come.
-    pub fn new(layout: Layout) -> Self {
+    pub fn new(layout: Layout) -> Self
+        ensures { result.is_toned ≡ false }
+    {
         Line {
             layout,
             opening: Opening::Other,
@@ -120,7 +125,9 @@ impl Line {
     }
 
     /// Takes the word that was read, of which at most the beginning is given, and returns the tone that begins with it.
-    pub fn decide(&mut self, word: &[u8]) -> Option<Tone> {
+    pub fn decide(&mut self, word: &[u8]) -> Option<Tone>
+        ensures { self.new.is_toned ≡ colored_by self.old.is_toned result }
+    {
         if !self.is_open() {
             return None;
         }
@@ -129,12 +136,16 @@ impl Line {
             self.opening = Opening::of(word);
         }
         self.is_decided = true;
-        self.is_toned = self.is_toned || matches!(tone, Some(tone) if tone != Tone::Label);
+        if let Some(tone) = tone {
+            self.is_toned = tone.is_of_line();
+        }
         tone
     }
 
     /// Goes on after this byte: to the next word, if one ended before it.
-    pub fn pass(&mut self, byte: u8) {
+    pub fn pass(&mut self, byte: u8)
+        ensures { self.new.is_toned ≡ self.old.is_toned }
+    {
         if self.ends_word(byte) {
             self.place = self.place.saturating_add(1);
             self.is_decided = false;
@@ -142,7 +153,10 @@ impl Line {
     }
 
     /// Ends the tone of the line. `false` if there is none.
-    pub fn take_tone(&mut self) -> bool {
+    pub fn take_tone(&mut self) -> bool
+        ensures before { result ≡ self.old.is_toned }
+        ensures after { self.new.is_toned ≡ false }
+    {
         let is_toned = self.is_toned;
         self.is_toned = false;
         is_toned

@@ -1,6 +1,7 @@
-ghost use Rattle.std.specs.Prelude.{◌≡◌, [], OnOk};
-ghost use Rattle.std.specs.Io.KnownBytes.{Keeps};
-ghost use Rattle.wsn_color.specs.Painting.{all_given};
+ghost use Rattle.std.specs.Prelude.{◌≡◌, false, [], OnOk};
+ghost use Rattle.std.specs.Io.{WritesAtMost};
+ghost use Rattle.std.specs.Io.KnownBytes.{Keeps, WriteAppends};
+ghost use Rattle.wsn_color.specs.Painting.{HasPlainEnds, IsKnownPlain, all_given};
 
 use crate::brush::Brush;
 use crate::line::Layout;
@@ -29,6 +30,7 @@ impl<W: Write> Model for Painter<W> {
       written = W.contents p.writer;
       queued = drop p.queue.sent p.queue.bytes.items;
       word = p.brush.word.items;
+      colored = p.brush.line.is_toned;
     } };
 }
 
@@ -38,6 +40,8 @@ impl<W: Write> Painter<W> {
         ensures written { result.written ≡ W.contents writer }
         ensures queued { result.queued ≡ [] }
         ensures word { result.word ≡ [] }
+        ensures plain { result.colored ≡ false }
+        ensures ends { IsKnownPlain false (W.contents writer) → HasPlainEnds result }
     {
         Painter {
             writer,
@@ -50,7 +54,13 @@ impl<W: Write> Painter<W> {
 impl<W: Write> Write for Painter<W> {
     ghost contents = { λ p. all_given p };
 
-    fn write(&mut self, bytes: &[u8]) -> io::Result<usize> {
+    /// Writes what is queued, takes as many bytes as there is room for, and writes what they give. It takes bytes only up to
+    /// the first ESC, and fails if that is the first byte.
+    fn write(&mut self, bytes: &[u8]) -> io::Result<usize>
+        ensures bound { WritesAtMost result bytes.now }
+        ensures bytes { WriteAppends (all_given self.old) (all_given self.new) result bytes.now }
+        ensures plain { HasPlainEnds self.old → HasPlainEnds self.new }
+    {
         self.queue.write_to(&mut self.writer)?;
         let count = self.brush.take(bytes, &mut self.queue.bytes);
         if count == 0 && !bytes.is_empty() {
@@ -65,6 +75,8 @@ impl<W: Write> Write for Painter<W> {
         ensures bytes { Keeps (all_given self.old) (all_given self.new) }
         ensures queued { OnOk result (self.new.queued ≡ []) }
         ensures word { OnOk result (self.new.word ≡ []) }
+        ensures plain { HasPlainEnds self.old → HasPlainEnds self.new }
+        ensures off { OnOk result (self.new.colored ≡ false) }
     {
         self.queue.write_to(&mut self.writer)?;
         self.brush.end_tones(&mut self.queue.bytes);

@@ -1,7 +1,6 @@
-ghost use Rattle.std.specs.Prelude.{◌≡◌, ℕ, ◌≤◌, List, [], drop, OnOk};
-ghost use Rattle.std.specs.Io.KnownBytes.{Keeps};
+ghost use Rattle.std.specs.Prelude.{◌≡◌, ◌≤◌, [], drop, OnOk};
 ghost use Rattle.arrayvec.specs.ArrayVec.{array_vec_len};
-ghost use Rattle.wsn_color.specs.Painting.{all_given};
+ghost use Rattle.std.specs.Io.KnownBytes.{Keeps, append_known};
 
 use arrayvec::ArrayVec;
 use std::io::{self, ErrorKind, Write};
@@ -37,9 +36,8 @@ impl Queue {
     pub fn write_to<W: Write>(&mut self, writer: &mut W) -> io::Result<()>
         ensures bytes { OnOk result (self.new.bytes.items ≡ []) }
         ensures sent { OnOk result (self.new.sent ≡ 0) }
-        ensures given { (word : List ℕ) → Keeps
-            (all_given (record { written = W.contents writer.old; queued = drop self.old.sent self.old.bytes.items; word = word }))
-            (all_given (record { written = W.contents writer.new; queued = drop self.new.sent self.new.bytes.items; word = word })) }
+        ensures text { Keeps (append_known (W.contents writer.old) (drop self.old.sent self.old.bytes.items))
+            (append_known (W.contents writer.new) (drop self.new.sent self.new.bytes.items)) }
     {
         while self.sent < self.bytes.len() {
             match writer.write(&self.bytes.as_slice()[self.sent..]) {

@@ -1,5 +1,6 @@
-ghost use Rattle.std.specs.Prelude.{◌≡◌, ◌≤◌, [], length};
-ghost use Rattle.wsn_color.specs.Codes.{IsComplete, without_codes};
+ghost use Rattle.std.specs.Prelude.{◌≡◌, ◌≤◌, Bool, true, false, [], length};
+ghost use Rattle.wsn_color.specs.Codes.{IsComplete, colored_after, has_plain_ends, without_codes};
+ghost use Rattle.wsn_color.specs.Painting.{is_of_line};
 
 /// How a part of a line is shown.
 #[derive(Clone, Copy, Debug, PartialEq, Eq)]
@@ -20,16 +21,27 @@ pub(crate) enum Tone {
 pub(crate) fn plain_code() -> &'static [u8]
     ensures complete { IsComplete result.now }
     ensures empty { without_codes result.now ≡ [] }
+    ensures plain { (colored : Bool) → colored_after colored [] result.now ≡ false }
+    ensures ends { (colored : Bool) → has_plain_ends colored [] result.now ≡ true }
     ensures short { length result.now ≤ 7 }
 {
     b"\x1b[0m"
 }
 
 impl Tone {
+    /// Whether the tone is that of the rest of its line, and not of one word.
+    pub(crate) fn is_of_line(self) -> bool
+        ensures { result ≡ is_of_line self }
+    {
+        !matches!(self, Tone::Label)
+    }
+
     /// The code with which the tone begins.
     pub(crate) fn code(self) -> &'static [u8]
         ensures complete { IsComplete result.now }
         ensures empty { without_codes result.now ≡ [] }
+        ensures colored { (colored : Bool) → colored_after colored [] result.now ≡ true }
+        ensures ends { (colored : Bool) → has_plain_ends colored [] result.now ≡ true }
         ensures short { length result.now ≤ 7 }
     {
         match self {

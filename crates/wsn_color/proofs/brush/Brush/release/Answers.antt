@@ -1,24 +1,17 @@
-use Rattle.std.proofs.Common.{List, ℕ, [], ◌++◌, ap, refl, ◌∙◌}
-use Rattle.wsn_color.specs.Painting.{Paints}
-use Rattle.wsn_color.proofs.PaintingLemmas.{paints_code, paints_on, paints_same, paints_word}
+use Rattle.std.proofs.Common.{◌++◌, List, ℕ, [], refl, ap, ◌∙◌}
+use Rattle.wsn_color.proofs.PaintingLemmas.{paints_held_word, paints_on, paints_same, paints_word}
 use Rattle.wsn_color.proofs.brush.Brush.release.Goals as goal
-use Rattle.wsn_color.proofs.brush.Brush.release.Goals.{in-Some, in_default, then-eq, else-eq}
+use Rattle.wsn_color.proofs.brush.Brush.release.Goals.{in-None, in-Some}
 
--- The tone's code, the word, and the code that ends a label.
+-- The word, in its tone.
 pub returns-clause-paints : goal.returns-clause-paints
-returns-clause-paints c =
-    let q = c.args.queue.now.items in
-    let word = c.args.self.now.word.items in
-    let toned : Paints q word [] c.match-tone.queue.items word =
-    elim c.match-tone.branch [
-      | in-Some w ↦ paints_code _ _ _ _ (ap (λ it. it.items) w.queue-is ∙ w.put.ensures) w.code.ensures.complete w.code.ensures.empty
-      | in_default w ↦ paints_same _ _ _ _ (ap (λ it. it.items) w.queue-is) refl
-    ] in
-    let written : Paints c.match-tone.queue.items word [] c.put-2.new.queue.items c.clear.new.self.items =
-    paints_word _ _ _ _ c.args.self.now.plain (c.put-2.ensures ∙ ap (λ (text : List ℕ). c.match-tone.queue.items ++ text) c.as_slice-2.ensures.value) c.clear.ensures in
-    let ended : Paints c.put-2.new.queue.items c.clear.new.self.items [] c.if-eq.queue.items c.clear.new.self.items =
-    elim c.if-eq.branch [
-      | then-eq w ↦ paints_code _ _ _ _ (ap (λ it. it.items) w.queue-is ∙ w.put-then-eq.ensures) w.plain_code.ensures.complete w.plain_code.ensures.empty
-      | else-eq w ↦ paints_same _ _ _ _ (ap (λ it. it.items) w.queue-is) refl
-    ] in
-    paints_on _ _ [] _ _ [] _ _ (paints_on _ _ [] _ _ [] _ _ toned written) ended
+returns-clause-paints c = elim c.match-decide.branch [
+  | in-None w ↦
+      paints_on _ _ _ [] _ _ _ [] _ _ _
+      (paints_word _ _ _ _ _ c.args.self.now.plain (w.put.ensures ∙ ap (λ (text : List ℕ). c.args.queue.now.items ++ text) w.as_slice-in-None.ensures.value) c.clear.ensures)
+      (paints_same _ _ _ _ _ _ w.in-None.ensures (ap (λ it. it.items) w.queue-is) refl)
+  | in-Some w ↦
+      paints_on _ _ _ [] _ _ _ [] _ _ _
+      (paints_held_word _ _ _ _ _ _ _ w.as_slice-in-Some.ensures.value (w.put_toned.ensures.paints c.args.self.now.line.is_toned))
+      (paints_same _ _ _ _ _ _ w.in-Some.ensures (ap (λ it. it.items) w.queue-is) c.clear.ensures)
+]

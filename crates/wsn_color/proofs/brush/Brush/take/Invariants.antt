@@ -6,7 +6,7 @@ use Rattle.wsn_color.proofs.brush.Brush.take.Given as goal
 abbrev pub invariant-loop-taken : goal.invariant-loop-taken
 invariant-loop-taken l = record {
   within : l.taken ≤ length l.bytes;
-  paints : Paints l.fn.queue.items l.fn.self.word.items (take l.taken l.bytes) l.queue.items l.self.word.items;
+  paints : Paints l.fn.self.line.is_toned l.fn.queue.items l.fn.self.word.items (take l.taken l.bytes) l.self.line.is_toned l.queue.items l.self.word.items;
 }
 
 abbrev pub decreases-loop-taken : goal.decreases-loop-taken

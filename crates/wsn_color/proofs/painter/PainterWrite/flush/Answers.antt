@@ -1,35 +1,64 @@
 use Rattle.std.proofs.Common.{◌≡◌, [], drop, rules}
+use Rattle.std.specs.Io.KnownBytes.{append_known}
 use Rattle.std.proofs.KnownBytes.{Keeps-trans}
-use Rattle.wsn_color.specs.Painting.{all_given}
-use Rattle.wsn_color.proofs.PaintingLemmas.{appends_nothing, given_bytes, given_passed, painted}
+use Rattle.wsn_color.specs.Painting.{IsKnownPlain, all_given, given_by}
+use Rattle.wsn_color.proofs.PaintingLemmas.{appends_nothing, given_bytes, given_from, plain_bytes, plain_from, seen, text_kept}
 use Rattle.wsn_color.proofs.painter.PainterWrite.flush.Goals as goal
 
 pub returns-in_err-write_to-2-clause-bytes : goal.returns-in_err-write_to-2-clause-bytes
 returns-in_err-write_to-2-clause-bytes g c =
     let from = c.self.inside in
     let mid = c.write_to.new in
-    let end = c.write_to-2.new in
-    let old : painted (g.W.Write.contents from.writer) from.queue.bytes.items from.queue.sent from.brush.word.items ≡ c.args.self.now = search rules in
-    appends_nothing _ _ (
-    given_bytes c.args.self.now (g.W.Write.contents from.writer) (g.W.Write.contents mid.writer) (g.W.Write.contents end.writer)
-    from.queue.bytes.items from.queue.sent mid.self.bytes.items c.end_tones.new.queue.items mid.self.sent end.self.bytes.items end.self.sent
-    from.brush.word.items [] c.end_tones.new.self.word.items
-    old (c.write_to.ensures.given from.brush.word.items) c.in_ok-write_to.ensures.sent c.end_tones.ensures.paints
-    (c.write_to-2.ensures.given c.end_tones.new.self.word.items)
-    )
+    let start = seen (g.W.Write.contents from.writer) from.queue.bytes.items from.queue.sent from.brush.word.items from.brush.line.is_toned in
+    let is : start ≡ c.args.self.now = search rules in
+    let after = (append_known (g.W.Write.contents c.write_to-2.new.writer) (drop c.write_to-2.new.self.sent c.write_to-2.new.self.bytes.items)) in
+    appends_nothing (all_given c.args.self.now) (given_by after c.end_tones.new.self.word.items)
+    (given_from c.args.self.now start (given_by after c.end_tones.new.self.word.items) [] is
+    (given_bytes from.brush.line.is_toned (append_known (g.W.Write.contents from.writer) (drop from.queue.sent from.queue.bytes.items))
+    (g.W.Write.contents mid.writer) after
+    mid.self.sent mid.self.bytes.items from.brush.word.items []
+    c.end_tones.new.self.line.is_toned c.end_tones.new.queue.items c.end_tones.new.self.word.items
+    c.write_to.ensures.text c.in_ok-write_to.ensures.sent c.end_tones.ensures.paints c.write_to-2.ensures.text))
+
+pub returns-in_err-write_to-2-clause-plain : goal.returns-in_err-write_to-2-clause-plain
+returns-in_err-write_to-2-clause-plain g c =
+    let from = c.self.inside in
+    let mid = c.write_to.new in
+    let start = seen (g.W.Write.contents from.writer) from.queue.bytes.items from.queue.sent from.brush.word.items from.brush.line.is_toned in
+    let is : start ≡ c.args.self.now = search rules in
+    let after = (append_known (g.W.Write.contents c.write_to-2.new.writer) (drop c.write_to-2.new.self.sent c.write_to-2.new.self.bytes.items)) in
+    plain_from c.args.self.now start (IsKnownPlain c.end_tones.new.self.line.is_toned after) is
+    (plain_bytes from.brush.line.is_toned (append_known (g.W.Write.contents from.writer) (drop from.queue.sent from.queue.bytes.items))
+    (g.W.Write.contents mid.writer) after
+    mid.self.sent mid.self.bytes.items from.brush.word.items []
+    c.end_tones.new.self.line.is_toned c.end_tones.new.queue.items c.end_tones.new.self.word.items
+    c.write_to.ensures.text c.in_ok-write_to.ensures.sent c.end_tones.ensures.paints c.write_to-2.ensures.text)
 
 pub returns-clause-bytes : goal.returns-clause-bytes
 returns-clause-bytes g c =
     let from = c.self.inside in
     let mid = c.write_to.new in
-    let end = c.write_to-2.new in
-    let old : painted (g.W.Write.contents from.writer) from.queue.bytes.items from.queue.sent from.brush.word.items ≡ c.args.self.now = search rules in
-    let written = appends_nothing _ _ (
-    given_bytes c.args.self.now (g.W.Write.contents from.writer) (g.W.Write.contents mid.writer) (g.W.Write.contents end.writer)
-    from.queue.bytes.items from.queue.sent mid.self.bytes.items c.end_tones.new.queue.items mid.self.sent end.self.bytes.items end.self.sent
-    from.brush.word.items [] c.end_tones.new.self.word.items
-    old (c.write_to.ensures.given from.brush.word.items) c.in_ok-write_to.ensures.sent c.end_tones.ensures.paints
-    (c.write_to-2.ensures.given c.end_tones.new.self.word.items)
-    ) in
-    Keeps-trans (all_given c.args.self.now) _ _ written
-    (given_passed (g.W.Write.contents end.writer) (g.W.Write.contents c.flush.new.self) (drop end.self.sent end.self.bytes.items) c.end_tones.new.self.word.items c.flush.ensures.bytes)
+    let start = seen (g.W.Write.contents from.writer) from.queue.bytes.items from.queue.sent from.brush.word.items from.brush.line.is_toned in
+    let is : start ≡ c.args.self.now = search rules in
+    let after = (append_known (g.W.Write.contents c.flush.new.self) (drop c.write_to-2.new.self.sent c.write_to-2.new.self.bytes.items)) in
+    appends_nothing (all_given c.args.self.now) (given_by after c.end_tones.new.self.word.items)
+    (given_from c.args.self.now start (given_by after c.end_tones.new.self.word.items) [] is
+    (given_bytes from.brush.line.is_toned (append_known (g.W.Write.contents from.writer) (drop from.queue.sent from.queue.bytes.items))
+    (g.W.Write.contents mid.writer) after
+    mid.self.sent mid.self.bytes.items from.brush.word.items []
+    c.end_tones.new.self.line.is_toned c.end_tones.new.queue.items c.end_tones.new.self.word.items
+    c.write_to.ensures.text c.in_ok-write_to.ensures.sent c.end_tones.ensures.paints (Keeps-trans _ _ _ c.write_to-2.ensures.text (text_kept (g.W.Write.contents c.write_to-2.new.writer) (g.W.Write.contents c.flush.new.self) (drop c.write_to-2.new.self.sent c.write_to-2.new.self.bytes.items) c.flush.ensures.bytes))))
+
+pub returns-clause-plain : goal.returns-clause-plain
+returns-clause-plain g c =
+    let from = c.self.inside in
+    let mid = c.write_to.new in
+    let start = seen (g.W.Write.contents from.writer) from.queue.bytes.items from.queue.sent from.brush.word.items from.brush.line.is_toned in
+    let is : start ≡ c.args.self.now = search rules in
+    let after = (append_known (g.W.Write.contents c.flush.new.self) (drop c.write_to-2.new.self.sent c.write_to-2.new.self.bytes.items)) in
+    plain_from c.args.self.now start (IsKnownPlain c.end_tones.new.self.line.is_toned after) is
+    (plain_bytes from.brush.line.is_toned (append_known (g.W.Write.contents from.writer) (drop from.queue.sent from.queue.bytes.items))
+    (g.W.Write.contents mid.writer) after
+    mid.self.sent mid.self.bytes.items from.brush.word.items []
+    c.end_tones.new.self.line.is_toned c.end_tones.new.queue.items c.end_tones.new.self.word.items
+    c.write_to.ensures.text c.in_ok-write_to.ensures.sent c.end_tones.ensures.paints (Keeps-trans _ _ _ c.write_to-2.ensures.text (text_kept (g.W.Write.contents c.write_to-2.new.writer) (g.W.Write.contents c.flush.new.self) (drop c.write_to-2.new.self.sent c.write_to-2.new.self.bytes.items) c.flush.ensures.bytes)))
