@@ -29,7 +29,7 @@ fn is_set<E: Env>(env: &E, name: &str) -> bool {
 fn is_value<E: Env>(env: &E, name: &str, value: &[u8]) -> bool {
     let mut bytes = [0; VALUE];
     match env.var(name, &mut bytes) {
-        Ok(len) => bytes[..len] == *value,
+        Ok(len) => &bytes[..len] == value,
         Err(_) => false,
     }
 }

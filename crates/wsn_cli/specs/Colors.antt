@@ -1,5 +1,5 @@
 -- Which answers are coloured.
-use Rattle.std.specs.Prelude.{◌≡◌, ◌↔◌, ℕ, Option, None, Some, List, codes, option_and_then, if◌then◌else◌}
+use Rattle.std.specs.Prelude.{◌≡◌, ◌↔◌, Option, None, Some, codes, option_and_then, if◌then◌else◌}
 use Rattle.clap.specs.Words.{first_value}
 use Rattle.clap.specs.declared.parser.matches.Found.{Found}
 use Rattle.wsn_color.specs.Choices.{paints}

@@ -1,6 +1,7 @@
 -- A text without codes, in parts.
-use Rattle.std.proofs.Common.{◌≡◌, ℕ, ◌==◌, Bool, true, false, not, ◌&&◌, List, [], ◌∷◌, ◌++◌, refl, sym, ap, ◌∙◌, append_assoc}
-use Rattle.wsn_color.specs.Codes.{IsComplete, IsInWords, added_with, begun_after, begun_with, colored_after, colored_with, has_plain_ends, without_after, without_codes}
+use Rattle.std.proofs.Common.{◌≡◌, ◌≢◌, ℕ, ◌==◌, Bool, true, false, not, ◌&&◌, List, [], ◌∷◌, ◌++◌, refl, sym, ap, ◌∙◌, append_assoc}
+use Rattle.std.proofs.lemmas.Bool.{ne_eqb}
+use Rattle.wsn_color.specs.Codes.{HasNoEscape, IsComplete, IsInWords, added_with, begun_after, begun_with, colored_after, colored_with, has_plain_ends, without_after, without_codes}
 
 pub without_after-append : (begun xs ys : List ℕ) →
     without_after begun (xs ++ ys) ≡ without_after begun xs ++ without_after (begun_after begun xs) ys
@@ -43,6 +44,13 @@ has_plain_ends-append colored begun (x ∷ xs) ys one two =
     and_true _ _ parts.0 (has_plain_ends-append (colored_with colored begun x) (begun_with begun x) xs ys parts.1 two)
 
 -- ---- bytes of words
+
+-- One more byte that isn't ESC.
+pub no_escape-more : (xs : List ℕ) (b : ℕ) → HasNoEscape xs → b ≢ 27 → HasNoEscape (xs ++ b ∷ [])
+no_escape-more [] b h other = and_true (not (b == 27)) true (ap not (ne_eqb b 27 other)) refl
+no_escape-more (x ∷ xs) b h other =
+    let parts = both true (not (x == 27)) _ refl h in
+    and_true (not (x == 27)) _ parts.0 (no_escape-more xs b parts.1 other)
 
 in_word : (b : Bool) (c : Bool) (rest : Bool) → ((not b && not c) && rest) ≡ true → (b ≡ false) × (c ≡ false) × (rest ≡ true)
 in_word true c rest h = absurd cc

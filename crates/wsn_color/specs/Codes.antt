@@ -44,6 +44,10 @@ begun_after begun (byte ∷ text) = begun_after (begun_with begun byte) text
 abbrev pub IsComplete : List ℕ → Type 0
 IsComplete text = begun_after [] text ≡ []
 
+-- No byte of the text is ESC.
+abbrev pub HasNoEscape : List ℕ → Type 0
+HasNoEscape text = list_all (λ byte. not (byte == 27)) text ≡ true
+
 -- The byte is neither ESC nor LF.
 abbrev pub is_in_word : ℕ → Bool
 is_in_word byte = not (byte == 27) && not (byte == 10)

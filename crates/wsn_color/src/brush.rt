@@ -1,6 +1,6 @@
 ghost use Rattle.std.specs.Prelude.{◌≡◌, ◌≢◌, Bool, ℕ, ◌+◌, ◌<◌, ◌≤◌, [], ◌∷◌, ◌++◌, false, length, take, IsTrue};
 ghost use Rattle.arrayvec.specs.ArrayVec.{array_vec_len};
-ghost use Rattle.wsn_color.specs.Codes.{IsInWords};
+ghost use Rattle.wsn_color.specs.Codes.{HasNoEscape, IsInWords};
 ghost use Rattle.wsn_color.specs.Painting.{Paints, is_of_line};
 
 use crate::line::{Layout, Line};
@@ -65,6 +65,7 @@ impl Brush {
     /// Takes bytes up to the first ESC, as many as the queue has room for, and returns their number.
     pub fn take(&mut self, bytes: &[u8], queue: &mut Bytes) -> usize
         ensures within { result ≤ length bytes.now }
+        ensures escape { HasNoEscape (take result bytes.now) }
         ensures paints { Paints self.old.line.is_toned queue.old.items self.old.word.items (take result bytes.now)
             self.new.line.is_toned queue.new.items self.new.word.items }
     {

@@ -1,6 +1,7 @@
-ghost use Rattle.std.specs.Prelude.{◌≡◌, false, [], OnOk};
+ghost use Rattle.std.specs.Prelude.{◌≡◌, false, [], take, IfOk, OnOk};
 ghost use Rattle.std.specs.Io.{WritesAtMost};
 ghost use Rattle.std.specs.Io.KnownBytes.{Keeps, WriteAppends};
+ghost use Rattle.wsn_color.specs.Codes.{HasNoEscape};
 ghost use Rattle.wsn_color.specs.Painting.{HasPlainEnds, IsKnownPlain, all_given};
 
 use crate::brush::Brush;
@@ -9,8 +10,9 @@ use crate::queue::Queue;
 use std::io::{self, ErrorKind, Write};
 use std::marker::Model;
 
-/// A writer that colours the lines that it is given: it writes them to another writer, with codes around their parts, and
-/// ends each colour before the line feed. Of a line it holds back at most 31 bytes of a word, until `flush`.
+/// A writer that colours the lines that it is given: it writes them to another writer, with codes around their parts,
+/// and ends each colour before the line feed. Of a line it holds back at most 31 bytes of a word, until the word ends or
+/// `flush`.
 ///
 /// It takes no ESC: a write that begins with one fails, so that every code is the painter's own.
 #[derive(Drop)]
@@ -54,11 +56,13 @@ impl<W: Write> Painter<W> {
 impl<W: Write> Write for Painter<W> {
     ghost contents = { λ p. all_given p };
 
-    /// Writes what is queued, takes as many bytes as there is room for, and writes what they give. It takes bytes only up to
-    /// the first ESC, and fails if that is the first byte.
+    /// Writes what is queued, takes as many bytes as there is room for, and writes what they give. It takes bytes only
+    /// up to the first ESC, and fails if that is the first byte.
     fn write(&mut self, bytes: &[u8]) -> io::Result<usize>
         ensures bound { WritesAtMost result bytes.now }
         ensures bytes { WriteAppends (all_given self.old) (all_given self.new) result bytes.now }
+        ensures escape { IfOk result (λ count. HasNoEscape (take count bytes.now)) }
+        ensures progress { IfOk result (λ count. count ≡ 0 → bytes.now ≡ []) }
         ensures plain { HasPlainEnds self.old → HasPlainEnds self.new }
     {
         self.queue.write_to(&mut self.writer)?;
