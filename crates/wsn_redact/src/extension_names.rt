@@ -19,6 +19,7 @@ enum Within {
 
 impl Within {
     /// What the byte after this one is within.
+    #[tactic(none)]
     fn after(self, byte: u8) -> Within
         ensures { result ≡ within_after self byte }
     {
@@ -34,6 +35,7 @@ impl Within {
     }
 
     /// Whether a byte stays.
+    #[tactic(none)]
     fn keeps(self, byte: u8) -> bool
         ensures { result ≡ is_kept self byte }
     {
