@@ -1,4 +1,5 @@
 use crate::FAULT;
+use crate::canvas::Canvas;
 use crate::pipe::Pipe;
 use crate::stdio::{OneLine, diagnose_stop, hold_standard_input, open_named};
 use std::cell::RefCell;
@@ -6,7 +7,6 @@ use std::io::{self, Read, Write};
 use std::rt::Runtime;
 use std::str;
 use wsn_cli::{Escaped, Format, Layout};
-use wsn_color::Painter;
 use wsn_io::{BlockReader, BlockWriter, Input, Output, Stop, TiedWriter};
 use wsn_job::run_named_closing;
 use wsn_rules::Limits;
@@ -40,12 +40,9 @@ fn print_each_in<R: Runtime + AllocGlobal, W: Write + Drop>(
     output: W,
     layout: Option<Layout>,
 ) -> Option<u8> {
-    let Some(layout) = layout else {
-        return print_each(rt, limits, format, files, output);
-    };
-    let mut painter = Painter::new(output, layout);
-    let status = print_each(rt, limits, format, files, &mut painter);
-    painter.flush().ok().and(status)
+    let mut canvas = Canvas::new(output, layout);
+    let status = print_each(rt, limits, format, files, &mut canvas);
+    canvas.flush().ok().and(status)
 }
 
 /// Prints a line or an object for each of the captures; `None` if the output failed.

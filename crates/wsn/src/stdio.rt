@@ -3,6 +3,7 @@ ghost use Rattle.wsn_command.specs.Jobs.{MayRun};
 ghost use Rattle.wsn_cli.specs.Requests.{IsOwnSide};
 
 use crate::FAULT;
+use crate::canvas::Canvas;
 use crate::named_input::NamedInput;
 use crate::pipe::Pipe;
 use arrayvec::ArrayVec;
@@ -185,12 +186,9 @@ fn work_in<A: Allocator + Copy, R: Read + Drop, W: Write + Drop>(
     requires may_run { MayRun job.now }
     requires own { IsOwnSide job.now side }
 {
-    let Some(layout) = layout else {
-        return work(alloc, job, input, side, output, diagnosed);
-    };
-    let mut painter = Painter::new(output, layout);
-    let ran = work(alloc, job, input, side, &mut painter, diagnosed);
-    painter.flush().ok().and(ran)
+    let mut canvas = Canvas::new(output, layout);
+    let ran = work(alloc, job, input, side, &mut canvas, diagnosed);
+    canvas.flush().ok().and(ran)
 }
 
 /// Does a command's work over an input and an output; the output is flushed before each read. Returns the exit status and
