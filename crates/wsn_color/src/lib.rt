@@ -1,0 +1,17 @@
+//! Colours: a [`Painter`] writes what is written to it, with codes that colour parts of the lines. [`Layout`] says which
+//! lines they are, and [`ColorChoice`] when an answer is painted.
+//!
+//! `specs/Codes.antt` defines what a text is without codes and what they colour, `specs/Painting.antt` what a painter
+//! was given.
+#![tactic(auto)]
+
+mod brush;
+mod choice;
+mod line;
+mod painter;
+mod queue;
+mod tone;
+
+pub use choice::{ColorChoice, Terminal};
+pub use line::Layout;
+pub use painter::Painter;
