@@ -195,6 +195,7 @@ TYPED = [
     ("wsn same --role cl\tthe\\ o\tthe\\ o\t\n", "GOT <same> <--role> <client> <the one> <the one>"),
     ("wsn judge --role cl\t--cap\tthe\\ o\t\n", "GOT <judge> <--role> <client> <--capture> <the one>"),
     ("wsn closing the\\ o\t\n", "GOT <closing> <the one>"),
+    ("wsn show --co\talw\t\n", "GOT <show> <--color> <always>"),
 ]
 
 
@@ -216,7 +217,7 @@ def completion_in_zsh(folder):
     functions = TOP / "share/zsh/site-functions"
     setup = f"cd '{folder}'; fpath=('{functions}' $fpath); autoload -U compinit; compinit -u -D\n{SAYS}"
     for keys, wanted in TYPED:
-        keys, wanted = keys.replace("--role cl", "--role=cl"), wanted.replace("--role> <", "--role=")
+        keys, wanted = keys.replace("--role cl", "--role=cl"), re.sub("--(role|color)> <", r"--\1=", wanted)
         typed(["zsh", "-f", "-i"], setup, keys, wanted)
 
 

@@ -1,31 +1,48 @@
 use crate::FAULT;
+use crate::canvas::Canvas;
 use crate::pipe::Pipe;
 use crate::stdio::{OneLine, diagnose_stop, hold_standard_input, open_named};
 use std::cell::RefCell;
 use std::io::{self, Read, Write};
 use std::rt::Runtime;
 use std::str;
-use wsn_cli::{Escaped, Format};
+use wsn_cli::{Escaped, Format, Layout};
 use wsn_io::{BlockReader, BlockWriter, Input, Output, Stop, TiedWriter};
 use wsn_job::run_named_closing;
 use wsn_rules::Limits;
 
 /// Judges the captures in these files, prints a line or an object for each, and returns the exit status: the greatest of
-/// those of all. A file without an answer is reported on standard error, and the next one is read.
+/// those of all. A file without an answer is reported on standard error, and the next one is read. The lines are coloured by
+/// their layout.
 pub fn judge_each<R: Runtime + AllocGlobal>(
     rt: &R,
     limits: Limits,
     format: Format,
     files: &[String],
+    layout: Option<Layout>,
 ) -> u8 {
     let _held = hold_standard_input(rt);
     let mut output = Pipe::new(io::writer(rt));
-    let printed = print_each(rt, limits, format, files, &mut output);
+    let printed = print_each_in(rt, limits, format, files, &mut output, layout);
     match printed {
         Some(status) => status,
         None if output.has_no_reader() => FAULT,
         None => diagnose_stop(rt, Stop::Write),
     }
+}
+
+/// Prints a line or an object for each of the captures, coloured by its layout; `None` if the output failed.
+fn print_each_in<R: Runtime + AllocGlobal, W: Write + Drop>(
+    rt: &R,
+    limits: Limits,
+    format: Format,
+    files: &[String],
+    output: W,
+    layout: Option<Layout>,
+) -> Option<u8> {
+    let mut canvas = Canvas::new(output, layout);
+    let status = print_each(rt, limits, format, files, &mut canvas);
+    canvas.flush().ok().and(status)
 }
 
 /// Prints a line or an object for each of the captures; `None` if the output failed.

@@ -3,6 +3,7 @@ ghost use Rattle.wsn_command.specs.Jobs.{MayRun};
 ghost use Rattle.wsn_cli.specs.Requests.{IsOwnSide};
 
 use crate::FAULT;
+use crate::canvas::Canvas;
 use crate::named_input::NamedInput;
 use crate::pipe::Pipe;
 use arrayvec::ArrayVec;
@@ -14,8 +15,9 @@ use std::rt::Runtime;
 use std::{fs, str};
 use wsn_capture::SideReader;
 use wsn_cli::{
-    CaptureStart, Hint, How, Job, Mistake, Unread, UnreadFile, hint_on_run, plan_hint_of,
+    CaptureStart, Hint, How, Job, Layout, Mistake, Unread, UnreadFile, hint_on_run, plan_hint_of,
 };
+use wsn_color::Painter;
 use wsn_io::{BlockReader, BlockWriter, FirstBytes, Input, Output, Stop, TiedReader, TiedWriter};
 use wsn_job::{Ran, run, run_on_side};
 use wsn_plan::{PlanFileFault, read_plan_file};
@@ -44,9 +46,14 @@ pub fn diagnose_stop<R: Eprint>(rt: &R, stop: Stop) -> u8 {
     FAULT
 }
 
-/// Prints a text on standard output and returns the exit status. Nothing is reported if nobody reads it.
-pub fn show<R: Print + Eprint>(rt: &R, text: &str) -> u8 {
-    let Err(error) = rt.print(text) else {
+/// Prints a text on standard output, coloured by its layout, and returns the exit status. Nothing is reported if nobody
+/// reads it.
+pub fn show<R: Print + Eprint>(rt: &R, text: &str, layout: Option<Layout>) -> u8 {
+    let printed = match layout {
+        None => rt.print(text),
+        Some(layout) => paint(io::writer(rt), text, layout),
+    };
+    let Err(error) = printed else {
         return 0;
     };
     if error.kind() == ErrorKind::BrokenPipe {
@@ -56,19 +63,27 @@ pub fn show<R: Print + Eprint>(rt: &R, text: &str) -> u8 {
     }
 }
 
+/// Writes a text, coloured by its layout.
+fn paint<W: Write + Drop>(output: W, text: &str, layout: Layout) -> io::Result<()> {
+    let mut painter = Painter::new(output, layout);
+    painter.write_all(text.as_bytes())?;
+    painter.flush()
+}
+
 /// Does a command's work over the file with this name, or over standard input, and returns the exit status. With a side,
-/// the input is a capture, and the work is over what this endpoint sent.
+/// the input is a capture, and the work is over what this endpoint sent. The answer is coloured by its layout.
 pub fn perform<R: Runtime + AllocGlobal>(
     rt: &R,
     job: &Job,
     file: &Option<String>,
     side: Option<Role>,
+    layout: Option<Layout>,
 ) -> u8
     requires may_run { MayRun job.now }
     requires own { IsOwnSide job.now side }
 {
     match open(rt, file) {
-        Ok(input) => perform_on(rt, job, input, side),
+        Ok(input) => perform_on(rt, job, input, side, layout),
         Err(status) => status,
     }
 }
@@ -120,6 +135,7 @@ fn perform_on<R: Runtime + AllocGlobal, S: Read + Drop>(
     job: &Job,
     input: S,
     side: Option<Role>,
+    layout: Option<Layout>,
 ) -> u8
     requires may_run { MayRun job.now }
     requires own { IsOwnSide job.now side }
@@ -127,13 +143,14 @@ fn perform_on<R: Runtime + AllocGlobal, S: Read + Drop>(
     let mut first = CaptureStart::new(input);
     let mut diagnosed = OneLine::new();
     let mut output = Pipe::new(io::writer(rt));
-    let done = work(
+    let done = work_in(
         rt.alloc(),
         job,
         &mut first,
         side,
         &mut output,
         &mut diagnosed,
+        layout,
     );
     if output.has_no_reader() {
         return FAULT;
@@ -154,6 +171,24 @@ fn give_hint<R: Eprint>(rt: &R, hint: Option<Hint>) {
         let line = hint.line();
         let _ = eprintln!(rt; "{line}");
     }
+}
+
+/// Does a command's work as [`work`] does, and colours what is printed by its layout.
+fn work_in<A: Allocator + Copy, R: Read + Drop, W: Write + Drop>(
+    alloc: A,
+    job: &Job<A>,
+    input: R,
+    side: Option<Role>,
+    output: W,
+    diagnosed: &mut OneLine,
+    layout: Option<Layout>,
+) -> Option<Ran>
+    requires may_run { MayRun job.now }
+    requires own { IsOwnSide job.now side }
+{
+    let mut canvas = Canvas::new(output, layout);
+    let ran = work(alloc, job, input, side, &mut canvas, diagnosed);
+    canvas.flush().ok().and(ran)
 }
 
 /// Does a command's work over an input and an output; the output is flushed before each read. Returns the exit status and
@@ -224,6 +259,7 @@ pub fn recut_by<R: Runtime + AllocGlobal>(
                 &Job::Recut(role, limits, How::ByPlan(plan)),
                 input,
                 side,
+                None,
             )
         }
         Err(fault) => diagnose_plan(rt, plan, &fault, hint),

@@ -1,5 +1,6 @@
 pub mod Inputs
 pub mod Options
 pub mod Requests
+pub mod Colors
 pub mod RunHints
 pub mod ReadRequests

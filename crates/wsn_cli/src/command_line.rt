@@ -1,6 +1,7 @@
 ghost use Rattle.std.specs.Prelude.{◌≡◌, ℕ, List, IfOk, codes};
 ghost use Rattle.clap.specs.Words.{found_of};
 ghost use Rattle.wsn_command.specs.Jobs.{MayRun, job_role};
+ghost use Rattle.wsn_cli.specs.Colors.{IsReadColor};
 ghost use Rattle.wsn_cli.specs.Options.{AreInDigits};
 ghost use Rattle.wsn_cli.specs.Requests.{AreAskedLimits, CanBeDone, IsOwnSide, job_limits};
 ghost use Rattle.wsn_cli.specs.ReadRequests.{AreReadLimits, IsRead, IsReadJob, IsReadSideOf, IsReadStyle};
@@ -10,13 +11,15 @@ use crate::error_words::shown_in_errors;
 use crate::escaped::Escaped;
 use crate::mistake::Mistake;
 use crate::options::{
-    at_of, check_digits, comparison_of, file_of, format_of, limits_of, role_of, side_of, style_of,
+    at_of, check_digits, color_of, comparison_of, file_of, format_of, limits_of, role_of, side_of,
+    style_of,
 };
 use crate::recut_options::recut_of;
-use crate::request::{Request, Usage};
+use crate::request::{Asked, Request, Usage};
 use clap::error::ErrorKind;
 use clap::{ArgMatches, Error};
 use std::alloc::{AllocError, Global};
+use wsn_color::ColorChoice;
 use wsn_command::Job;
 use wsn_explain::{explanation, list_of_words, similar_words};
 use wsn_options::{SHARED, program};
@@ -235,20 +238,37 @@ fn request_of(alloc: Global, name: &str, matches: &ArgMatches<'_>) -> Result<Req
     }
 }
 
+/// What the command with this name asks for, and when its answer is coloured.
+fn asked_of(alloc: Global, name: &str, matches: &ArgMatches<'_>) -> Result<Asked, Usage>
+    ensures done { IfOk result (λ asked. CanBeDone asked.request) }
+    ensures read { IfOk result (λ asked. IsRead name.now (found_of matches.now) asked.request) }
+    ensures color { IfOk result (λ asked. IsReadColor (found_of matches.now) asked.color) }
+{
+    Ok(Asked {
+        request: request_of(alloc, name, matches)?,
+        color: color_of(matches),
+    })
+}
+
 /// Reads the words of a command line, the program's name first, and returns the request that they make: a command with
-/// its options, as the help lists them.
+/// its options, as the help lists them; and when its answer is coloured. Help and versions never are.
 ///
 /// The error says which rule the words break, or that an allocation failed. A job in a request may be run, and each
 /// request has the greatest input limit.
-pub fn asked(alloc: Global, words: &[String]) -> Result<Request, Usage>
-    ensures { IfOk result CanBeDone }
+pub fn asked(alloc: Global, words: &[String]) -> Result<Asked, Usage>
+    ensures { IfOk result (λ asked. CanBeDone asked.request) }
 {
     let matches = match program(alloc)?.try_get_matches_from(words) {
         Ok(matches) => matches,
-        Err(error) => return answered(alloc, words, &error),
+        Err(error) => {
+            return Ok(Asked {
+                request: answered(alloc, words, &error)?,
+                color: ColorChoice::Never,
+            });
+        }
     };
     match matches.subcommand() {
-        Some((name, command)) => request_of(alloc, name, command),
+        Some((name, command)) => asked_of(alloc, name, command),
         None => Err(Usage::Own(Mistake::Other)),
     }
 }

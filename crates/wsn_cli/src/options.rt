@@ -3,6 +3,7 @@ ghost use Rattle.std.specs.Char.{is_ascii_digit};
 ghost use Rattle.std.specs.List.{list_all};
 ghost use Rattle.clap.specs.Words.{found_of, first_value, matched_of, one_text};
 ghost use Rattle.wsn_wire.specs.declared.length_forms.Lengths.TheVariants.{Any};
+ghost use Rattle.wsn_cli.specs.Colors.{IsReadColor};
 ghost use Rattle.wsn_cli.specs.Inputs.{IsInputNamed};
 ghost use Rattle.wsn_cli.specs.Options.{AreInDigits, AreLeftOut, IsAsked, IsAskedMaximum, IsInDigits, words_of};
 ghost use Rattle.wsn_cli.specs.Requests.{AreAskedLimits};
@@ -12,6 +13,7 @@ use crate::mistake::Mistake;
 use crate::request::Usage;
 use clap::ArgMatches;
 use std::alloc::{AllocError, Global};
+use wsn_color::ColorChoice;
 use wsn_command::Comparison;
 use wsn_print::{Format, Style, ViewLimit};
 use wsn_rules::{Detail, INPUT_MAX, Limits, MESSAGE_MAX, Without};
@@ -117,6 +119,17 @@ pub fn format_of(matches: &ArgMatches<'_>) -> Format
         Format::Json
     } else {
         Format::Text
+    }
+}
+
+/// When the answer is coloured, from `--color`.
+pub fn color_of(matches: &ArgMatches<'_>) -> ColorChoice
+    ensures { IsReadColor (found_of matches.now) result }
+{
+    match matches.get_str("color") {
+        Some("always") => ColorChoice::Always,
+        Some("never") => ColorChoice::Never,
+        _ => ColorChoice::Auto,
     }
 }
 

@@ -1,7 +1,11 @@
+ghost use Rattle.std.specs.Prelude.{◌≡◌};
+ghost use Rattle.wsn_cli.specs.Colors.{asked_layout, format_layout, job_layout, request_layout};
+
 use crate::mistake::Mistake;
 use std::alloc::{AllocError, AllocFailed};
+use wsn_color::{ColorChoice, Layout, Terminal};
 use wsn_command::{Comparison, Job};
-use wsn_print::Format;
+use wsn_print::{Format, Style};
 use wsn_rules::Limits;
 use wsn_wire::Role;
 
@@ -36,8 +40,68 @@ pub enum Request {
         format: Format,
         files: Vec<String>,
     },
-    /// Print this text: help or the version.
+    /// Print this text: help, the version or an explanation.
     Help(String),
+}
+
+/// A request, and when its answer is coloured.
+#[derive(Drop)]
+pub struct Asked {
+    pub request: Request,
+    pub color: ColorChoice,
+}
+
+impl Asked {
+    /// Which lines of the answer are coloured where it is printed there; `None` for an answer in one colour.
+    pub fn layout(&self, terminal: Terminal) -> Option<Layout>
+        ensures { result ≡ asked_layout self.now terminal }
+    {
+        if self.color.paints(terminal) {
+            self.request.layout()
+        } else {
+            None
+        }
+    }
+}
+
+impl Request {
+    /// Which lines of the answer may be coloured; `None` for JSON, and for an answer that has no lines.
+    fn layout(&self) -> Option<Layout>
+        ensures { result ≡ request_layout self.now }
+    {
+        match self {
+            Request::Run { job, .. } => layout_of_job(job),
+            Request::Closings {
+                format: Format::Text,
+                ..
+            } => Some(Layout::Table),
+            Request::Help(_) => Some(Layout::Explanation),
+            _ => None,
+        }
+    }
+}
+
+/// Which lines of a job's answer may be coloured.
+fn layout_of_job(job: &Job) -> Option<Layout>
+    ensures { result ≡ job_layout job.now }
+{
+    match job {
+        Job::Judge(_, _, Format::Text)
+        | Job::Frames(_, _, Format::Text)
+        | Job::Closing(_, Format::Text) => Some(Layout::Answer),
+        Job::ShowStream(_, _, style) | Job::Show(_, style) => layout_of_style(style),
+        _ => None,
+    }
+}
+
+/// Which lines may be coloured of what is shown in this style.
+fn layout_of_style(style: &Style) -> Option<Layout>
+    ensures { result ≡ format_layout style.now.format }
+{
+    match style.format {
+        Format::Text => Some(Layout::Answer),
+        Format::Json => None,
+    }
 }
 
 /// Why the words of a command line make no request.

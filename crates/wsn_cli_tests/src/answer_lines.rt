@@ -20,7 +20,7 @@ fn answer_to(alloc: Global, line: &str) -> Result<String, AllocError> {
         words.push(String::from_str(alloc, word)?)?;
     }
     match &asked(alloc, words.as_slice()) {
-        Ok(request) => request_line(alloc, request),
+        Ok(asked) => request_line(alloc, &asked.request),
         Err(Usage::Clap(_)) => String::from_str(alloc, "clap"),
         Err(Usage::Own(mistake)) => format!(in alloc; "{mistake:?}"),
         Err(Usage::Memory) => String::from_str(alloc, "memory"),

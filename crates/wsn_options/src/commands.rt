@@ -1,19 +1,20 @@
 use crate::help;
 use crate::options::{
-    file, role, with_at, with_capture, with_events_view, with_file, with_files, with_json,
-    with_limits, with_role, with_view, with_wire, with_without,
+    file, role, with_at, with_capture, with_color, with_events_view, with_file, with_files,
+    with_json, with_limits, with_role, with_view, with_wire, with_without,
 };
 use crate::recut_options::with_recuts;
 use clap::{Arg, ArgAction, Command};
 use std::alloc::{AllocError, Global};
 
-/// A command: its name, its help texts, what it reads, and whether it prints an answer that can be JSON.
+/// A command: its name, its help texts, what it reads, and whether it prints an answer that can be JSON, or in colours.
 struct Described {
     name: &'static str,
     about: &'static str,
     details: &'static str,
     reads: Reads,
     has_json: bool,
+    has_color: bool,
 }
 
 /// What a command reads; its options depend on that.
@@ -47,6 +48,7 @@ static COMMANDS: [Described; 11] = [
         details: help::SHOW_DETAILS,
         reads: Reads::CaptureToShow,
         has_json: true,
+        has_color: true,
     },
     Described {
         name: "judge",
@@ -54,6 +56,7 @@ static COMMANDS: [Described; 11] = [
         details: help::JUDGE_DETAILS,
         reads: Reads::Stream,
         has_json: true,
+        has_color: true,
     },
     Described {
         name: "frames",
@@ -61,6 +64,7 @@ static COMMANDS: [Described; 11] = [
         details: help::FRAMES_DETAILS,
         reads: Reads::Stream,
         has_json: true,
+        has_color: true,
     },
     Described {
         name: "payload",
@@ -68,6 +72,7 @@ static COMMANDS: [Described; 11] = [
         details: help::PAYLOAD_DETAILS,
         reads: Reads::StreamAt,
         has_json: false,
+        has_color: false,
     },
     Described {
         name: "normal",
@@ -75,6 +80,7 @@ static COMMANDS: [Described; 11] = [
         details: help::NORMAL_DETAILS,
         reads: Reads::Stream,
         has_json: false,
+        has_color: false,
     },
     Described {
         name: "same",
@@ -82,6 +88,7 @@ static COMMANDS: [Described; 11] = [
         details: help::SAME_DETAILS,
         reads: Reads::Streams,
         has_json: true,
+        has_color: false,
     },
     Described {
         name: "plan",
@@ -89,6 +96,7 @@ static COMMANDS: [Described; 11] = [
         details: help::PLAN_DETAILS,
         reads: Reads::Stream,
         has_json: false,
+        has_color: false,
     },
     Described {
         name: "recut",
@@ -96,6 +104,7 @@ static COMMANDS: [Described; 11] = [
         details: help::RECUT_DETAILS,
         reads: Reads::StreamToCut,
         has_json: false,
+        has_color: false,
     },
     Described {
         name: "redact",
@@ -103,6 +112,7 @@ static COMMANDS: [Described; 11] = [
         details: help::REDACT_DETAILS,
         reads: Reads::CaptureToRedact,
         has_json: false,
+        has_color: false,
     },
     Described {
         name: "closing",
@@ -110,6 +120,7 @@ static COMMANDS: [Described; 11] = [
         details: help::CLOSING_DETAILS,
         reads: Reads::Captures,
         has_json: true,
+        has_color: true,
     },
     Described {
         name: "explain",
@@ -117,6 +128,7 @@ static COMMANDS: [Described; 11] = [
         details: help::EXPLAIN_DETAILS,
         reads: Reads::Words,
         has_json: false,
+        has_color: true,
     },
 ];
 
@@ -133,12 +145,17 @@ fn command<'a>(alloc: Global, described: &'a Described) -> Result<Command<'a>, A
         Reads::Captures => with_files(alloc, command),
         Reads::CaptureToShow => with_shown(alloc, command),
         Reads::CaptureToRedact => with_redacted(alloc, command),
-        Reads::Words => return with_words(alloc, command),
+        Reads::Words => return with_color(alloc, with_words(alloc, command)?),
     };
     let command = if described.has_json {
         with_json(alloc, command?)?
     } else {
         command?
+    };
+    let command = if described.has_color {
+        with_color(alloc, command)?
+    } else {
+        command
     };
     with_limits(alloc, command)
 }

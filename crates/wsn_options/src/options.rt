@@ -8,6 +8,8 @@ static ENCODINGS: [&str; 2] = ["shortest", "any"];
 
 static CONTROLS: [&str; 3] = ["ping", "pong", "close"];
 
+static COLORS: [&str; 3] = ["auto", "always", "never"];
+
 /// An option that takes a value.
 pub fn option<'a>(alloc: Global, name: &'a str, value: &'a str, help: &'a str) -> Arg<'a> {
     Arg::new(alloc, name)
@@ -101,6 +103,13 @@ pub fn with_json<'a>(alloc: Global, command: Command<'a>) -> Result<Command<'a>,
         .long("json")
         .action(ArgAction::SetTrue);
     command.arg(json.help("Print JSON objects, one a line"))
+}
+
+/// Adds `--color`.
+pub fn with_color<'a>(alloc: Global, command: Command<'a>) -> Result<Command<'a>, AllocError> {
+    let help =
+        "Colour all but JSON: auto (on a terminal, unless\nNO_COLOR is set or TERM is dumb), always, never\n[default: auto]";
+    command.arg(one_of(option(alloc, "color", "WHEN", help), &COLORS))
 }
 
 /// Adds `--capture`.
