@@ -36,14 +36,26 @@ impl EarlierPayload {
     }
 
     /// A frame ends, whose payload ends with these bytes.
+    #[inline(always)]
     #[tactic(none)]
     pub fn add(&mut self, bytes: &[u8])
         ensures { (came payload : List ℕ) → last_of 48 bytes.now ≡ last_of 48 payload → HasEarlier self.old came →
             HasEarlier self.new (came ++ payload) }
     {
-        let last = &bytes[bytes.len().saturating_sub(EARLIER_MAX)..];
-        self.make_room(last.len());
-        self.held.add(last);
+        match bytes.last_chunk::<EARLIER_MAX>() {
+            Some(last) => replace(&mut self.held, last),
+            None => self.add_short(bytes),
+        }
+    }
+
+    /// Adds bytes, too few to take the place of those that are held.
+    #[tactic(none)]
+    fn add_short(&mut self, bytes: &[u8])
+        requires { length bytes.now ≤ EARLIER_MAX }
+        ensures { last_of 48 self.new.held ≡ last_of 48 (self.old.held ++ bytes.now) }
+    {
+        self.make_room(bytes.len());
+        self.held.add(bytes);
     }
 
     /// Drops all but the last 48 bytes if this many more don't fit.
@@ -66,6 +78,15 @@ impl EarlierPayload {
     {
         end_of(self.held.as_slice())
     }
+}
+
+/// These bytes take the place of those that are held.
+#[inline(always)]
+fn replace(held: &mut KeptBytes<ROOM>, bytes: &[u8; EARLIER_MAX])
+    ensures { held.new ≡ bytes.now }
+{
+    held.clear();
+    held.add(bytes);
 }
 
 /// The last 48 of these bytes.
