@@ -28,7 +28,7 @@ ENTRY = (
 )
 SHOWN = re.compile(rf"[CS] (?:-|\d+\.\d+) \d+ {ENTRY}(?: \.\.)?")
 COMMENT = re.compile(
-    rb"#|# \d+\.\d{1,9}|# reset by the (?:client|server)"
+    rb"#|# (?:0|[1-9]\d*)\.\d{1,9}|# reset by the (?:client|server)"
     rb"|# extensions: (?:[!#-'*+.^_`|~0-9A-Za-z;, \t-]|=(?=[;,]|\Z))*"
 )
 FAULT = re.compile(rb"line (\d+): [a-z-]+\n")
