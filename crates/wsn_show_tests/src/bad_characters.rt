@@ -24,8 +24,8 @@ struct Row {
 }
 
 /// In order: Latin-1; a byte that begins no character; the same after characters that are escaped; a surrogate, of which
-/// the second byte is the offending one; a view that cuts the text before; a view of 0; after the end of a character that
-/// began in the fragment before, which isn't shown; in three fragments with an empty one and a ping between.
+/// the second byte is the offending one; a view that cuts the text before; a view of 0; after a character that is in two
+/// fragments; in three fragments with an empty one and a ping between.
 static ROWS: [Row; 8] = [
     Row {
         role: Role::Client,
@@ -93,10 +93,10 @@ S - 4 bad-character 2 - -\n",
         view: 48,
         lines: "S - 0 unfinished text 1 1 lacks 0 \"\" ..\n\
 S - 3 refused 8 text-bad 1007 82ac61ff\n\
-S - 8 bad-character 4 ff ..\"a\\xff\"\n",
+S - 8 bad-character 4 ff \"€a\\xff\"\n",
         verdict: "refused 8 text-bad 1007\n",
         objects: "{\"type\":\"unfinished\",\"side\":\"server\",\"offset\":0,\"event\":\"text\",\"bytes\":1,\"frames\":1,\"lacks\":0,\"text\":\"\",\"truncated\":true}\n\
-{\"type\":\"refused\",\"side\":\"server\",\"offset\":3,\"place\":8,\"reason\":\"text-bad\",\"code\":1007,\"hex\":\"82ac61ff\",\"character\":{\"offset\":8,\"in_payload\":4,\"hex\":\"ff\",\"before\":\"a\",\"truncated\":true}}\n",
+{\"type\":\"refused\",\"side\":\"server\",\"offset\":3,\"place\":8,\"reason\":\"text-bad\",\"code\":1007,\"hex\":\"82ac61ff\",\"character\":{\"offset\":8,\"in_payload\":4,\"hex\":\"ff\",\"before\":\"€a\"}}\n",
         verdict_object: "{\"type\":\"verdict\",\"verdict\":\"refused\",\"offset\":8,\"reason\":\"text-bad\",\"code\":1007}\n",
     },
     Row {
