@@ -386,7 +386,7 @@ def record_shows_what_passes(folder):
         same("outcome open" in lines("0002"), False, "the other's report, before its end")
         os.killpg(all_sessions.proxy.pid, signal.SIGINT)
         all_sessions.proxy.wait(SECONDS)
-        same(all_sessions.proxy.said[-1], "record: stopped\n", "what is said last")
+        wait_for(lambda: all_sessions.proxy.said[-1] == "record: stopped\n", "`stopped`, said last")
     for number, status in ("0001", 0), ("0002", 1):
         wanted = run(WSN, "show", all_sessions.folder / f"{number}.capture", status=status)[0].decode().splitlines()
         same(lines(number), wanted, f"what is shown of {number}")
