@@ -131,10 +131,10 @@ impl ShownScan {
             (came ++ piece.old) shown }
     {
         match self.refusal() {
-            Some(_) => self.parts.frame.first.add(piece),
+            Some(_) => self.parts.rest.add(piece),
             None => {
                 let read = self.feed(piece, output, context);
-                self.parts.frame.first.add(&piece[read..]);
+                self.parts.rest.add(&piece[read..]);
             }
         }
     }
@@ -164,7 +164,7 @@ impl ShownScan {
             }
             Verdict::Accepted(summary) => match summary.close {
                 Some(_) => {
-                    parts.put_remainder(output, context, Remainder::Tail, parts.frame.offset);
+                    parts.put_remainder(output, context, Remainder::Tail, parts.offset);
                 }
                 None => parts.put_left(output, context),
             },
