@@ -27,7 +27,7 @@ use Rattle.wsn_show.specs.ShownItems.{Prints, IsEventOf, items_of_begun, items_o
 use Rattle.wsn_show.specs.ShownSoFar.{items_in, shown_so_far}
 use Rattle.wsn_show.specs.StreamParts.{KeepsMessage, Keeps}
 use Rattle.wsn_scan.specs.FollowedScans.{IsTaken}
-use Rattle.wsn_show.specs.TakenParts.{IsWholeFrame, IsAlone, ShowsPart}
+use Rattle.wsn_show.specs.TakenParts.{IsAlone, ShowsPart}
 use Rattle.wsn_show.proofs.FramesSoFar.{items_in-append, shown_begun, shown_ended, begun_items, ended_items, unended_items, same_so_far, begun_so_far, ended_so_far}
 use Rattle.wsn_show.proofs.HeldItems.{represents_message, represents_control, kind_of_data, control_short}
 use Rattle.wsn_show.proofs.OpenMessages.{kept_after_control, kept_after_whole}
@@ -35,6 +35,12 @@ use Rattle.wsn_show.proofs.PrintedItems.{prints_nothing, prints_both}
 use Rattle.wsn_show.proofs.PrintedParts.{control_event, message_event}
 
 -- ---- a frame that is an event by itself
+
+-- After the frames fs the lawful frame f came, whole: this is its head, and this is its payload.
+pub record IsWholeFrame (role : Role) (limits : Limits) (fs : List Frame) (f : Frame) (head : HeadInfo) (payload : List ℕ) : Type 0 where
+  pub lawful : IsLawful role limits (fs ++ f ∷ [])
+  pub head_is : head ≡ info_of (length (stream fs)) f
+  pub payload_is : payload ≡ f.payload
 
 module _ (role : Role) (limits : Limits) (fs : List Frame) (f : Frame) (head : HeadInfo) (payload : List ℕ) (w : IsWholeFrame role limits fs f head payload) where
   fin_is : f.fin ≡ head.fin

@@ -4,7 +4,7 @@ use Rattle.wsn_rules.specs.Limits.{Limits}
 use Rattle.wsn_rules.specs.ShownStream.{Shown}
 use Rattle.wsn_scan.specs.Scans.{room_of}
 use Rattle.wsn_show.specs.ShownSoFar.{HasShownFrames, ShowsFrames}
-use Rattle.wsn_show.proofs.shown_scan.ShownScan.feed.Given as goal
+use Rattle.wsn_show.proofs.feeding.feed_unrefused.Given as goal
 
 -- The scan has consumed the piece so far and hasn't refused it, and the rest of the piece is unchanged.
 abbrev pub invariant-loop-at : goal.invariant-loop-at
@@ -12,9 +12,9 @@ invariant-loop-at g l = record {
   within : l.at ≤ length l.fn.piece;
   size : length l.piece ≡ length l.fn.piece;
   kept : drop l.at l.piece ≡ drop l.at l.fn.piece;
-  room : room_of l.self.scan + l.at ≡ room_of l.fn.self.scan;
-  shows : (role : Role) (limits : Limits) (came : List ℕ) (shown : List Shown) → HasShownFrames l.fn.context.style.detail role limits l.fn.self.scan l.fn.self.parts came shown →
-      ShowsFrames role limits l.self.scan l.self.parts l.fn.context l.fn.output l.output (came ++ take l.at l.fn.piece) shown;
+  room : room_of l.scan + l.at ≡ room_of l.fn.scan;
+  shows : (role : Role) (limits : Limits) (came : List ℕ) (shown : List Shown) → HasShownFrames l.fn.context.style.detail role limits l.fn.scan l.fn.parts came shown →
+      ShowsFrames role limits l.scan l.parts l.fn.context l.fn.output l.output (came ++ take l.at l.fn.piece) shown;
 }
 
 abbrev pub decreases-loop-at : goal.decreases-loop-at

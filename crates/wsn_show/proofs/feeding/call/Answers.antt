@@ -1,4 +1,4 @@
-use Rattle.wsn_show.proofs.shown_scan.call.Goals as goal
+use Rattle.wsn_show.proofs.feeding.call.Goals as goal
 
 pub returns-clause-call : goal.returns-clause-call
 returns-clause-call c in_bytes =
