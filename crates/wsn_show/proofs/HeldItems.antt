@@ -1,7 +1,7 @@
 -- What is held of an item is enough to print it.
 use Rattle.std.proofs.Common.{◌≡◌, ◌≢◌, ℕ, ◌+◌, ◌-◌, ◌/◌, ◌<◌, ◌≤◌, ◌⊎◌, true, false, not, Option, List, [], ◌∷◌, ◌++◌, length, take, drop, min, inl, inr, refl, sym, ap, ◌∙◌, subst, arith, length-append, length-drop, nat_lt}
 use Rattle.std.proofs.lemmas.Bool.{cases_lt, cond-true, cond-false, lt-ltb, le-ltb}
-use Rattle.std.proofs.lemmas.List.{take_all, take-take, take-append-le, length-take, length-take-le}
+use Rattle.std.proofs.lemmas.List.{take-take, take-append-le, length-take, length-take-le}
 use Rattle.wsn_wire.specs.declared.endpoint.Role.{Role}
 use Rattle.wsn_wire.specs.declared.opcode.Op.{Op}
 use Rattle.wsn_wire.specs.declared.opcode.Op.TheVariants.{Continue, Text, Binary, Close, Ping, Pong}
@@ -100,14 +100,17 @@ represents_message n shown group payload kind op bytes held = record {
 }
 
 -- A control is represented.
-pub represents_control : (n : ℕ) (shown : ShownEvent) (op : Op) (body : List ℕ) (first : FirstBytes) → is_control op ≡ true → shown.op ≡ op → shown.bytes ≡ first.count → shown.held.now ≡ first.held
-    → HasFirst first body → length body ≤ 125 → Represents n shown (Control op body)
-represents_control n shown op body first control is bytes held has short = record {
+pub represents_control : (n : ℕ) (shown : ShownEvent) (op : Op) (body : List ℕ) → is_control op ≡ true → shown.op ≡ op → shown.bytes ≡ length body → shown.held.now ≡ body → Represents n shown (Control op body)
+represents_control n shown op body control is bytes held = record {
   payload = body;
   is = control_is op body control ∙ ap (λ (o : Op). event_of o body) (sym is);
-  size = bytes ∙ has.count;
-  holds = held ∙ has.held ∙ take_all 4096 body (omega (arith, short));
+  size = bytes;
+  holds = held;
 }
+
+-- All of a control's payload is held.
+pub control_held : (last : LastBytes) (body held : List ℕ) → HasLast last body → length body ≤ 125 → held ≡ last.held → held ≡ body
+control_held last body held has short is = let none : length body - 2048 ≡ 0 = omega (arith, short) in is ∙ has.held ∙ ap (λ (m : ℕ). drop m body) none
 
 -- ---- the open message
 

@@ -1,74 +1,27 @@
 -- The last payload bytes of the open message as its frames go on, and the character that they end with.
-use Rattle.std.proofs.Common.{◌≡◌, ℕ, suc, ◌+◌, ◌-◌, ◌<◌, ◌≤◌, true, false, not, List, [], ◌∷◌, ◌++◌, length, take, drop, get_or, inl, inr, sym, ap, ◌∙◌, subst, append-nil, append_assoc, take-append-drop, length-drop, arith}
-use Rattle.std.proofs.lemmas.Bool.{cases_Bool, cases_lt, cond-true, cond-false}
+use Rattle.std.proofs.Common.{◌≡◌, ℕ, suc, ◌+◌, ◌-◌, ◌<◌, ◌≤◌, List, [], ◌∷◌, ◌++◌, length, take, drop, get_or, inl, inr, refl, sym, ap, ◌∙◌, subst, append_assoc, take-append-drop, length-drop, arith}
+use Rattle.std.proofs.lemmas.Bool.{cases_lt}
 use Rattle.std.proofs.lemmas.List.{drop-append-le, drop-drop, drop-map, map-append, length-map, length-take-le}
 use Rattle.std.proofs.Math.Seq.{take-suc}
 use Rattle.std.specs.Str.Lossy.{utf8_valid_len}
-use Rattle.wsn_wire.specs.Frame.{Frame, is_control, stream}
+use Rattle.wsn_wire.specs.Frame.{Frame}
 use Rattle.wsn_rules.specs.declared.head_info.HeadInfo.{HeadInfo}
 use Rattle.wsn_rules.specs.BadCharacter.{payload_offset, placed_payloads, last_of, open_payload, message_payload, first_offset, bytes_of, bad_character}
 use Rattle.wsn_rules.specs.Group.{unfinished, payload_of}
-use Rattle.wsn_rules.specs.Heads.{info_of}
 use Rattle.wsn_rules.specs.PlacedByte.{PlacedByte, placed}
 use Rattle.wsn_rules.proofs.LastElements.{last_of_none, last_of_long, last_of_push}
-use Rattle.wsn_rules.proofs.OpenPayloads.{open_after_control, open_after_final, open_after_fragment}
 use Rattle.wsn_rules.proofs.PlacedBytes.{placed-append, bytes_of_placed}
-use Rattle.wsn_scan.specs.Positions.{InFrame}
 use Rattle.wsn_show.specs.declared.last_payload.StreamByte.{StreamByte}
 use Rattle.wsn_show.specs.declared.last_payload.LastPayload.{LastPayload}
-use Rattle.wsn_show.specs.LastPayloads.{placed_bytes, HasLastPayload, payload_at}
+use Rattle.wsn_show.specs.LastPayloads.{placed_bytes, HasLastPayload}
 
--- ---- the payload at a position
+pub message_goes_on : (fs : List Frame) (head : HeadInfo) (part more : List ℕ) → message_payload fs head (part ++ more) ≡ message_payload fs head part ++ placed (payload_offset head + length part) more
+message_goes_on fs head part more =
+    ap (λ (bs : List PlacedByte). open_payload fs ++ bs) (placed-append (payload_offset head) part more)
+    ∙ sym (append_assoc (open_payload fs) (placed (payload_offset head) part) (placed (payload_offset head + length part) more))
 
-module _ (fs : List Frame) (head : HeadInfo) where
-  pub payload_in_control : (part : List ℕ) → is_control head.op ≡ true → payload_at fs (InFrame head part) ≡ open_payload fs
-  payload_in_control part control = cond-true (is_control head.op) (open_payload fs) (message_payload fs head part) control
-
-  pub payload_in_data : (part : List ℕ) → is_control head.op ≡ false → payload_at fs (InFrame head part) ≡ message_payload fs head part
-  payload_in_data part other = cond-false (is_control head.op) (open_payload fs) (message_payload fs head part) other
-
-  -- A head has no payload yet.
-  pub payload_at_head : payload_at fs (InFrame head []) ≡ open_payload fs
-  payload_at_head =
-      elim (cases_Bool (is_control head.op)) [
-        | inl control ↦ payload_in_control [] control
-        | inr other ↦ payload_in_data [] other ∙ append-nil (open_payload fs)
-      ]
-
-  pub message_goes_on : (part more : List ℕ) → message_payload fs head (part ++ more) ≡ message_payload fs head part ++ placed (payload_offset head + length part) more
-  message_goes_on part more =
-      ap (λ (bs : List PlacedByte). open_payload fs ++ bs) (placed-append (payload_offset head) part more)
-      ∙ sym (append_assoc (open_payload fs) (placed (payload_offset head) part) (placed (payload_offset head + length part) more))
-
-  pub payload_goes_on : (part more : List ℕ) → is_control head.op ≡ false → payload_at fs (InFrame head (part ++ more)) ≡ payload_at fs (InFrame head part) ++ placed (payload_offset head + length part) more
-  payload_goes_on part more other =
-      payload_in_data (part ++ more) other ∙ message_goes_on part more
-      ∙ ap (λ (bs : List PlacedByte). bs ++ placed (payload_offset head + length part) more) (sym (payload_in_data part other))
-
--- ---- after a frame
-
-module _ (last : LastPayload) (fs : List Frame) (f : Frame) where
-  pub last_after_control : (part : List ℕ) → is_control f.op ≡ true → HasLastPayload last (payload_at fs (InFrame (info_of (length (stream fs)) f) part)) → HasLastPayload last (open_payload (fs ++ f ∷ []))
-  last_after_control part control has =
-      subst (HasLastPayload last) (payload_in_control fs (info_of (length (stream fs)) f) part control ∙ sym (open_after_control fs f (ap not control))) has
-
-  pub last_after_fragment : is_control f.op ≡ false → f.fin ≡ false → HasLastPayload last (payload_at fs (InFrame (info_of (length (stream fs)) f) f.payload)) → HasLastPayload last (open_payload (fs ++ f ∷ []))
-  last_after_fragment other more has =
-      subst (HasLastPayload last) (payload_in_data fs (info_of (length (stream fs)) f) f.payload other ∙ sym (open_after_fragment fs f (ap not other) more)) has
-
-  pub last_after_final : is_control f.op ≡ false → f.fin ≡ true → HasLastPayload last [] → HasLastPayload last (open_payload (fs ++ f ∷ []))
-  last_after_final other final has = subst (HasLastPayload last) (sym (open_after_final fs f (ap not other) final)) has
-
-  -- A control, or the only frame of a message.
-  pub last_after_alone : (is_control f.op ≡ false → (f.fin ≡ true) × (unfinished fs ≡ [])) → HasLastPayload last (open_payload fs) → HasLastPayload last (open_payload (fs ++ f ∷ []))
-  last_after_alone alone has =
-      elim (cases_Bool (is_control f.op)) [
-        | inl control ↦ subst (HasLastPayload last) (sym (open_after_control fs f (ap not control))) has
-        | inr other ↦ last_after_final other (alone other).0 (subst (HasLastPayload last) (nothing_open fs (alone other).1) has)
-      ]
-    where
-      nothing_open : (gs : List Frame) → unfinished gs ≡ [] → open_payload gs ≡ []
-      nothing_open gs none = ap (λ (hs : List Frame). last_of (length (payload_of hs)) (placed_payloads 0 gs)) none ∙ last_of_none (placed_payloads 0 gs)
+pub nothing_open : (fs : List Frame) → unfinished fs ≡ [] → open_payload fs ≡ []
+nothing_open fs none = ap (λ (gs : List Frame). last_of (length (payload_of gs)) (placed_payloads 0 fs)) none ∙ last_of_none (placed_payloads 0 fs)
 
 -- ---- the character
 
@@ -106,10 +59,10 @@ placed_push offset skipped i bytes place byte from within place_is byte_is =
     ∙ placed-append (offset + skipped) (drop skipped before) (byte ∷ [])
     ∙ ap (λ (m : ℕ). placed (offset + skipped) (drop skipped before) ++ placed m (byte ∷ [])) (omega (arith, left, place_is, from))
 
--- The bytes that were skipped don't matter.
-pub skipping : (last : LastPayload) (came : List PlacedByte) (offset skipped : ℕ) (bytes : List ℕ) → skipped ≡ length bytes - 4 → HasLastPayload last (came ++ placed (offset + skipped) (drop skipped bytes)) → HasLastPayload last (came ++ placed offset bytes)
-skipping last came offset skipped bytes is has =
-    elim (cases_lt (length bytes) 4) [
+-- All but the last n bytes don't matter, if n is four or more.
+pub skipping : (last : LastPayload) (came : List PlacedByte) (offset n skipped : ℕ) (bytes : List ℕ) → 4 ≤ n → skipped ≡ length bytes - n → HasLastPayload last (came ++ placed (offset + skipped) (drop skipped bytes)) → HasLastPayload last (came ++ placed offset bytes)
+skipping last came offset n skipped bytes four is has =
+    elim (cases_lt (length bytes) n) [
       | inl less ↦
           let none : skipped ≡ 0 = omega (arith, is, less) in
           let same : placed (offset + skipped) (drop skipped bytes) ≡ placed offset bytes = ap (λ (m : ℕ). placed (offset + m) (drop m bytes)) none ∙ ap (λ (m : ℕ). placed m bytes) (omega arith) in
@@ -121,9 +74,14 @@ skipping last came offset skipped bytes is has =
           let taken : length (take skipped bytes) ≡ skipped = length-take-le skipped bytes (omega (arith, is)) in
           let parts : placed offset bytes ≡ front ++ later =
           ap (λ (bs : List ℕ). placed offset bs) (sym (take-append-drop skipped bytes)) ∙ placed-append offset (take skipped bytes) (drop skipped bytes) ∙ ap (λ (m : ℕ). front ++ placed (offset + m) (drop skipped bytes)) taken in
-          let long : 4 ≤ length later = omega (arith, size, is, many) in
+          let long : 4 ≤ length later = omega (arith, size, is, many, four) in
           has ∙ last_of_long 4 came later long ∙ sym (last_of_long 4 (came ++ front) later long) ∙ ap (λ (ps : List PlacedByte). last_of 4 ps) (append_assoc came front later ∙ ap (λ (ps : List PlacedByte). came ++ ps) (sym parts))
     ]
+
+-- The last bytes of a piece are enough, if they are four or more, or all.
+pub with_last : (last : LastPayload) (came : List PlacedByte) (offset n : ℕ) (bytes all : List ℕ) → 4 ≤ n → bytes ≡ last_of n all → HasLastPayload last (came ++ placed (offset + (length all - n)) bytes) → HasLastPayload last (came ++ placed offset all)
+with_last last came offset n bytes all four is has =
+    skipping last came offset n (length all - n) all four refl (subst (λ (bs : List ℕ). HasLastPayload last (came ++ placed (offset + (length all - n)) bs)) is has)
 
 -- One more byte.
 pub pushed : (held : List StreamByte) (came : List PlacedByte) (byte : StreamByte) (now : List StreamByte) → placed_bytes held ≡ last_of 4 came → now ≡ drop (length held - 3) held ++ byte ∷ []

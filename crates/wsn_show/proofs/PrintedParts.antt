@@ -1,22 +1,34 @@
 -- The items that are printed of what is kept.
-use Rattle.std.proofs.Common.{◌≡◌, ℕ, ◌-◌, ◌<◌, true, false, Option, None, Some, List, [], ◌∷◌, ◌++◌, length, refl, sym, ap, ◌∙◌, arith, nat_lt, if◌then◌else◌}
+use Rattle.std.proofs.Common.{◌≡◌, ℕ, ◌-◌, ◌<◌, true, false, Option, None, Some, List, [], ◌∷◌, ◌++◌, length, inl, inr, refl, sym, ap, ◌∙◌, subst, arith, nat_lt}
 use Rattle.std.proofs.lemmas.Bool.{cond-true, cond-false, lt-ltb, le-ltb}
 use Rattle.wsn_wire.specs.declared.opcode.Op.{Op}
 use Rattle.wsn_wire.specs.declared.opcode.Op.TheVariants.{Continue, Text, Binary, Close, Ping, Pong}
+use Rattle.wsn_wire.specs.declared.endpoint.Role.{Role}
 use Rattle.wsn_wire.specs.Frame.{Frame, is_control, stream}
 use Rattle.wsn_rules.specs.declared.head_info.HeadInfo.{HeadInfo}
-use Rattle.wsn_rules.specs.Group.{unfinished, kind_of, payload_of}
-use Rattle.wsn_rules.specs.Meaning.{MeantEvent, Message, Control, event_at}
+use Rattle.wsn_rules.specs.Group.{unfinished, first_op, kind_of, payload_of}
+use Rattle.wsn_rules.specs.Lawful.{IsLawful}
+use Rattle.wsn_rules.specs.Limits.{Limits}
+use Rattle.wsn_rules.specs.Meaning.{Message, Control}
 use Rattle.wsn_rules.specs.Summary.{is_close}
-use Rattle.wsn_rules.specs.ShownStream.{Item, open_offset, open_item, open_items, event_offset, event_frames, items_of_final, items_of_bytes, frame_so_far, items_of_part, items_of_head}
-use Rattle.wsn_rules.specs.ShownStream.Item.{Event, Unfinished, UnfinishedHead}
+use Rattle.wsn_rules.specs.ShownStream.{Item, open_offset, open_item, open_items, items_of_bytes, frame_so_far, items_of_part, items_of_head}
+use Rattle.wsn_rules.specs.ShownStream.Item.{Unfinished, UnfinishedHead}
 use Rattle.wsn_rules.proofs.LawfulMeaning.{event_of_control, event_of_data}
 use Rattle.wsn_scan.specs.Positions.{Position, BetweenFrames, InFrame}
-use Rattle.wsn_show.specs.StreamParts.{head_at}
+use Rattle.wsn_print.specs.declared.shown.ShownEvent.{ShownEvent}
+use Rattle.wsn_print.specs.ShownParts.{Represents, HasText}
+use Rattle.wsn_show.specs.ShownItems.{IsEventOf}
+use Rattle.wsn_show.specs.StreamParts.{HasKind, head_at}
+use Rattle.wsn_show.proofs.HeldItems.{kind_of_data, text_of_data, text_reason}
+use Rattle.wsn_show.proofs.TextsSoFar.{text_payload}
 
 -- ---- complete events
 
-pub no_close_of_data : (op : Op) → is_control op ≡ false → is_close op ≡ false
+no_close : (op : Op) → HasKind op → is_close op ≡ false
+no_close op (inl text) = ap is_close text
+no_close op (inr binary) = ap is_close binary
+
+no_close_of_data : (op : Op) → is_control op ≡ false → is_close op ≡ false
 no_close_of_data Close is = cc
 no_close_of_data Continue is = refl
 no_close_of_data Text is = refl
@@ -24,20 +36,27 @@ no_close_of_data Binary is = refl
 no_close_of_data Ping is = refl
 no_close_of_data Pong is = refl
 
-module _ (fs : List Frame) (f : Frame) where
-  pub final_control : is_control f.op ≡ true → items_of_final fs f ≡ (if is_close f.op then open_items fs (Some 0) else []) ++ Event (length (stream fs)) (Control f.op f.payload) 1 ∷ []
-  final_control control =
-      let first = if is_close f.op then open_items fs (Some 0) else [] in
-      ap (λ (m : ℕ). first ++ Event m (event_at fs f) (event_frames fs f) ∷ []) (cond-true (is_control f.op) (length (stream fs)) (open_offset fs) control)
-      ∙ ap (λ (m : ℕ). first ++ Event (length (stream fs)) (event_at fs f) m ∷ []) (cond-true (is_control f.op) 1 (length (unfinished fs ++ f ∷ [])) control)
-      ∙ ap (λ (e : MeantEvent). first ++ Event (length (stream fs)) e 1 ∷ []) (event_of_control fs f control)
+module _ (role : Role) (limits : Limits) (fs : List Frame) (f : Frame) (lawful : IsLawful role limits (fs ++ f ∷ [])) (n offset : ℕ) (shown : ShownEvent) where
+  pub control_event : is_control f.op ≡ true → shown.op ≡ f.op → Represents n shown (Control f.op f.payload) → shown.frames ≡ 1 → offset ≡ length (stream fs) → IsEventOf n fs f offset shown
+  control_event control op represents frames at = record {
+    close = ap is_close op;
+    represents = subst (Represents n shown) (sym (event_of_control fs f control)) represents;
+    text = subst HasText (sym (event_of_control fs f control)) (text_reason role limits fs f lawful);
+    offset_is = at ∙ sym (cond-true (is_control f.op) (length (stream fs)) (open_offset fs) control);
+    frames = frames ∙ sym (cond-true (is_control f.op) 1 (length (unfinished fs ++ f ∷ [])) control);
+  }
 
-  pub final_message : is_control f.op ≡ false → items_of_final fs f ≡ Event (open_offset fs) (Message (kind_of (unfinished fs ++ f ∷ [])) (payload_of (unfinished fs ++ f ∷ []))) (length (unfinished fs ++ f ∷ [])) ∷ []
-  final_message other =
-      ap (λ (is : List Item). is ++ Event (event_offset fs f) (event_at fs f) (event_frames fs f) ∷ []) (cond-false (is_close f.op) (open_items fs (Some 0)) [] (no_close_of_data f.op other))
-      ∙ ap (λ (m : ℕ). Event m (event_at fs f) (event_frames fs f) ∷ []) (cond-false (is_control f.op) (length (stream fs)) (open_offset fs) other)
-      ∙ ap (λ (m : ℕ). Event (open_offset fs) (event_at fs f) m ∷ []) (cond-false (is_control f.op) 1 (length (unfinished fs ++ f ∷ [])) other)
-      ∙ ap (λ (e : MeantEvent). Event (open_offset fs) e (length (unfinished fs ++ f ∷ [])) ∷ []) (event_of_data fs f other)
+  abbrev group : List Frame
+  group = unfinished fs ++ f ∷ []
+
+  pub message_event : is_control f.op ≡ false → shown.op ≡ first_op group → Represents n shown (Message (kind_of group) (payload_of group)) → shown.frames ≡ length group → offset ≡ open_offset fs → IsEventOf n fs f offset shown
+  message_event other op represents frames at = record {
+    close = ap is_close op ∙ no_close (first_op group) (kind_of_data role limits fs f lawful other) ∙ sym (no_close_of_data f.op other);
+    represents = subst (Represents n shown) (sym (event_of_data fs f other)) represents;
+    text = subst HasText (sym (event_of_data fs f other)) (text_payload group (text_of_data role limits fs f lawful other));
+    offset_is = at ∙ sym (cond-false (is_control f.op) (length (stream fs)) (open_offset fs) other);
+    frames = frames ∙ sym (cond-false (is_control f.op) 1 (length group) other);
+  }
 
 -- ---- what is left over
 

@@ -16,11 +16,11 @@ use Rattle.wsn_show.specs.declared.entry_context.EntryContext.{EntryContext}
 use Rattle.wsn_show.specs.declared.stream_parts.StreamParts.{StreamParts}
 use Rattle.wsn_show.specs.declared.first_bytes.FirstBytes.{FirstBytes}
 use Rattle.wsn_show.specs.HeldParts.{HasFirst}
-use Rattle.wsn_show.specs.StreamParts.{Keeps, held_at}
+use Rattle.wsn_show.specs.StreamParts.{Keeps, rest_at}
 use Rattle.wsn_show.specs.ShownItems.{Prints}
 use Rattle.wsn_show.specs.ShownSoFar.{items_in, HasShownFrames, HasShownRefusal, HasShown, ShowsMore, ShowsFrames}
 use Rattle.wsn_show.proofs.PrintedItems.{prints_nothing, prints_both}
-use Rattle.wsn_scan.proofs.FollowedScans.{few, rest_few, size_in_frame}
+use Rattle.wsn_scan.proofs.FollowedScans.{few, rest_few}
 use Rattle.wsn_show.proofs.FramesSoFar.{items_in-append, nothing_so_far}
 
 -- ---- no bytes
@@ -71,30 +71,15 @@ goes_on role limits mid new mid_parts new_parts context before between after cam
 
 -- ---- bytes that aren't read
 
--- What is held isn't much.
-few_held : (detail : Detail) (role : Role) (limits : Limits) (scan : Scan) (parts : StreamParts) (came : List ℕ) (shown : List Shown) (frames : HasShownFrames detail role limits scan parts came shown) → length (held_at frames.at frames.rest) ≤ 2 ^ 40
-few_held detail role limits scan parts came shown frames = by frames.at refl
-  where
-    by : (p : Position) → frames.at ≡ p → length (held_at p frames.rest) ≤ 2 ^ 40
-    by BetweenFrames here =
-        let size = rest_few role limits scan came frames.done frames.at frames.rest frames.followed in
-        let most = few role limits scan came frames.done frames.at frames.rest frames.followed in
-        omega (arith, size, most)
-    by (InFrame info payload) here =
-        let own = size_in_frame role limits scan came frames.done frames.at frames.rest frames.followed info payload here in
-        let size = rest_few role limits scan came frames.done frames.at frames.rest frames.followed in
-        let most = few role limits scan came frames.done frames.at frames.rest frames.followed in
-        omega (arith, own, size, most)
-
 -- What is kept, with other first bytes.
 abbrev pub with_first : StreamParts → FirstBytes → StreamParts
-with_first parts first = record parts { frame = record parts.frame { first = first } }
+with_first parts first = record parts { rest = first }
 
 -- The first bytes of more bytes.
 abbrev pub AddsTo : FirstBytes → FirstBytes → List ℕ → Type 0
 AddsTo old new more = (all : List ℕ) → length all + length more < 2 ^ 64 → HasFirst old all → HasFirst new (all ++ more)
 
-module _ (detail : Detail) (role : Role) (limits : Limits) (scan : Scan) (parts : StreamParts) (first : FirstBytes) (came more : List ℕ) (shown : List Shown) (adds : AddsTo parts.frame.first first more) (small : length came + length more < 2 ^ 64) where
+module _ (detail : Detail) (role : Role) (limits : Limits) (scan : Scan) (parts : StreamParts) (first : FirstBytes) (came more : List ℕ) (shown : List Shown) (adds : AddsTo parts.rest first more) (small : length came + length more < 2 ^ 64) where
   pub refused_longer : HasShownRefusal detail role limits scan parts came shown → HasShownRefusal detail role limits scan (with_first parts first) (came ++ more) shown
   refused_longer r =
       let size : length came ≡ length r.read + length r.unread = ap (λ (bs : List ℕ). length bs) r.whole ∙ length-append r.read r.unread in
@@ -120,7 +105,7 @@ module _ (detail : Detail) (role : Role) (limits : Limits) (scan : Scan) (parts 
   same_shown : more ≡ [] → HasShownFrames detail role limits scan parts came shown → HasShown detail role limits scan (with_first parts first) (came ++ more) shown
   same_shown none frames =
       let own = frames.keeps.frame in
-      let held = held_at frames.at frames.rest in
+      let held = rest_at frames.at frames.rest in
       let there : HasShownFrames detail role limits scan (with_first parts first) came shown = record {
         done = frames.done;
         at = frames.at;
@@ -133,21 +118,27 @@ module _ (detail : Detail) (role : Role) (limits : Limits) (scan : Scan) (parts 
             offset = own.offset;
             size = own.size;
             head = own.head;
-            first = subst (HasFirst first) (ap (λ (bs : List ℕ). held ++ bs) none ∙ append-nil held) (adds held (omega (arith, few_held detail role limits scan parts came shown frames, ap (λ (bs : List ℕ). length bs) none)) own.first);
+            begun = subst (HasFirst first) (ap (λ (bs : List ℕ). held ++ bs) none ∙ append-nil held) (adds held (few_held frames.at) own.begun);
             last = own.last;
           };
-          last = frames.keeps.last;
         };
         is = frames.is;
       } in
       subst (λ (bs : List ℕ). HasShown detail role limits scan (with_first parts first) bs shown) (sym (ap (λ (bs : List ℕ). came ++ bs) none ∙ append-nil came)) (inl there)
+    where
+      few_held : (p : Position) → length (rest_at p frames.rest) + length more < 2 ^ 64
+      few_held BetweenFrames =
+          let size = rest_few role limits scan came frames.done frames.at frames.rest frames.followed in
+          let most = few role limits scan came frames.done frames.at frames.rest frames.followed in
+          omega (arith, size, most, small, ap (λ (bs : List ℕ). length bs) none)
+      few_held (InFrame info payload) = omega (arith, small)
 
   pub all_longer : (refusal_in scan ≡ None → more ≡ []) → HasShown detail role limits scan parts came shown → HasShown detail role limits scan (with_first parts first) (came ++ more) shown
   all_longer none (inl frames) = same_shown (none frames.followed.unrefused) frames
   all_longer none (inr refusal) = inr (refused_longer refusal)
 
 -- After a refusal nothing is shown of more bytes.
-pub shows_none : (role : Role) (limits : Limits) (scan : Scan) (parts : StreamParts) (first : FirstBytes) (context : EntryContext) (old : Outgoing) (came more : List ℕ) (shown : List Shown) (refusal : Refusal) → AddsTo parts.frame.first first more
+pub shows_none : (role : Role) (limits : Limits) (scan : Scan) (parts : StreamParts) (first : FirstBytes) (context : EntryContext) (old : Outgoing) (came more : List ℕ) (shown : List Shown) (refusal : Refusal) → AddsTo parts.rest first more
     → length came + length more < 2 ^ 64 → refusal_in scan ≡ Some refusal → HasShown context.style.detail role limits scan parts came shown → ShowsMore role limits scan (with_first parts first) context old old (came ++ more) shown
 shows_none role limits scan parts first context old came more shown refusal adds small is has = record {
   extra = [];
@@ -157,7 +148,7 @@ shows_none role limits scan parts first context old came more shown refusal adds
 }
 
 -- The bytes that were read, and then those that weren't.
-pub shows_rest : (role : Role) (limits : Limits) (scan : Scan) (parts : StreamParts) (first : FirstBytes) (context : EntryContext) (old new : Outgoing) (came piece left : List ℕ) (read : ℕ) (shown : List Shown) → AddsTo parts.frame.first first left → left ≡ drop read piece
+pub shows_rest : (role : Role) (limits : Limits) (scan : Scan) (parts : StreamParts) (first : FirstBytes) (context : EntryContext) (old new : Outgoing) (came piece left : List ℕ) (read : ℕ) (shown : List Shown) → AddsTo parts.rest first left → left ≡ drop read piece
     → (refusal_in scan ≡ None → read ≡ length piece) → read ≤ length piece → length came + length piece < 2 ^ 64 → ShowsMore role limits scan parts context old new (came ++ take read piece) shown
     → ShowsMore role limits scan (with_first parts first) context old new (came ++ piece) shown
 shows_rest role limits scan parts first context old new came piece left read shown adds is all within small s =

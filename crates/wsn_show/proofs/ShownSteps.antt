@@ -265,7 +265,7 @@ module _ (role : Role) (limits : Limits) (old new : Scan) (piece after : List �
         by TextCut p is_bad here = tt
         by TooManyFrames p is_bad here = tt
 
-    pub refused_step : HasFirst parts_after.frame.first [] → Prints context out out_after (interrupted detail done ++ RefusedFrame (length (stream done)) refusal evidence character ∷ [])
+    pub refused_step : HasFirst parts_after.rest [] → Prints context out out_after (interrupted detail done ++ RefusedFrame (length (stream done)) refusal evidence character ∷ [])
         → ShowsMore role limits new parts_after context out out_after (came ++ share) shown
     refused_step first printed =
         let there = reaches.1 in

@@ -42,7 +42,7 @@ use Rattle.wsn_scan.proofs.FrameEnds.{close_of-push, unfinished_few}
 use Rattle.wsn_rules.proofs.HeadsGoOn.{begins_two}
 use Rattle.wsn_show.specs.declared.stream_parts.StreamParts.{StreamParts}
 use Rattle.wsn_show.specs.HeldParts.{HasFirst}
-use Rattle.wsn_show.specs.StreamParts.{HasKind, IsSoundPart, held_at, items_left}
+use Rattle.wsn_show.specs.StreamParts.{HasKind, IsSoundPart, rest_at, items_left}
 use Rattle.wsn_scan.specs.FollowedScans.{HasFollowed}
 use Rattle.wsn_show.specs.ShownSoFar.{HasShownFrames, HasShownRefusal, HasShown}
 use Rattle.wsn_scan.proofs.FollowedScans.{few, rest_few, unrefused_so_far, judged_so_far, is_begun, in_frame, between}
@@ -189,7 +189,7 @@ module _ (detail : Detail) (role : Role) (limits : Limits) (scan : Scan) (parts 
 
   pub record LeavesUnread (place : ℕ) : Type 0 where
     pub unread : List ℕ
-    pub first : HasFirst parts.frame.first unread
+    pub first : HasFirst parts.rest unread
     pub small : place + 1 < 2 ^ 64
     pub left_over : IsLeftOver role limits came (items_of_bytes Unread (place + 1) unread)
 
@@ -307,10 +307,10 @@ module _ (detail : Detail) (role : Role) (limits : Limits) (scan : Scan) (parts 
         begun.no_close ended.0.0 [] ended.0.1 ended.0.3 ended.0.2
 
     -- The tail is held.
-    pub tail_held : (summary : Summary) → IsVerdict role limits came fs (Accepted summary) → HasFirst parts.frame.first frames.rest
-    tail_held summary judged = subst (HasFirst parts.frame.first) (by frames.at refl) frames.keeps.frame.first
+    pub tail_held : (summary : Summary) → IsVerdict role limits came fs (Accepted summary) → HasFirst parts.rest frames.rest
+    tail_held summary judged = subst (HasFirst parts.rest) (by frames.at refl) frames.keeps.frame.begun
       where
-        by : (p : Position) → frames.at ≡ p → held_at p frames.rest ≡ frames.rest
+        by : (p : Position) → frames.at ≡ p → rest_at p frames.rest ≡ frames.rest
         by BetweenFrames is = refl
         by (InFrame info payload) is = absurd (not_within info payload is judged.0.ends)
 

@@ -1,60 +1,55 @@
 -- What a part of a frame prints, what is kept after it, and what it adds to what was shown.
-use Rattle.std.proofs.Common.{◌≡◌, ℕ, ◌+◌, ◌≤◌, ◌<◌, ◌^◌, true, false, not, Some, min, List, [], ◌∷◌, ◌++◌, length, take, inl, inr, refl, sym, ap, ◌∙◌, subst, append_assoc, append-nil, arith, length-append, if◌then◌else◌}
+use Rattle.std.proofs.Common.{◌≡◌, ℕ, ◌+◌, ◌≤◌, ◌<◌, ◌^◌, true, false, not, List, [], ◌∷◌, ◌++◌, length, take, inl, inr, refl, sym, ap, ◌∙◌, subst, append_assoc, append-nil, arith, length-append}
 use Rattle.std.proofs.lemmas.Bool.{cases_Bool, cond-true, cond-false}
-use Rattle.std.proofs.lemmas.List.{take_all, take_min}
+use Rattle.std.proofs.lemmas.List.{take_all}
 use Rattle.wsn_io.specs.Transfer.{Outgoing}
 use Rattle.wsn_wire.specs.declared.endpoint.Role.{Role}
-use Rattle.wsn_wire.specs.declared.opcode.Op.{Op}
 use Rattle.wsn_wire.specs.Frame.{Frame, is_control, stream}
 use Rattle.wsn_rules.specs.declared.detail.Detail.{Detail}
 use Rattle.wsn_rules.specs.declared.head_info.HeadInfo.{HeadInfo}
-use Rattle.wsn_rules.specs.BadCharacter.{open_payload}
-use Rattle.wsn_rules.specs.Group.{unfinished, first_op, kind_of, payload_of}
+use Rattle.wsn_rules.specs.Group.{unfinished, first_op, payload_of}
 use Rattle.wsn_rules.specs.Heads.{info_of}
 use Rattle.wsn_rules.specs.Lawful.{IsLawful}
 use Rattle.wsn_rules.specs.Limits.{Limits}
-use Rattle.wsn_rules.specs.Meaning.{MeantEvent, Message, Control}
-use Rattle.wsn_rules.specs.ShownStream.{Item, Shown, open_items, items_of_final}
-use Rattle.wsn_rules.specs.ShownStream.Item.{Event}
-use Rattle.wsn_rules.specs.Summary.{is_close}
+use Rattle.wsn_rules.specs.ShownStream.{Shown}
 use Rattle.wsn_rules.proofs.LawfulLists.{law_at_split}
 use Rattle.wsn_rules.proofs.MessageText.{text_of_push}
 use Rattle.wsn_rules.proofs.OpenOffsets.{offset_of_none, none_open}
 use Rattle.wsn_rules.proofs.Prefixes.{append_cancel}
 use Rattle.wsn_print.specs.declared.shown.ShownEvent.{ShownEvent}
-use Rattle.wsn_print.specs.ShownParts.{event_of, Represents, HasText}
 use Rattle.wsn_print.proofs.HeldParts.{first_held}
 use Rattle.wsn_scan.specs.declared.part.Part.{Part}
 use Rattle.wsn_scan.specs.Positions.{Position, BetweenFrames, InFrame}
 use Rattle.wsn_show.specs.declared.entry_context.EntryContext.{EntryContext}
-use Rattle.wsn_show.specs.declared.last_payload.LastPayload.{LastPayload}
-use Rattle.wsn_show.specs.LastPayloads.{HasLastPayload}
 use Rattle.wsn_show.specs.declared.message_so_far.MessageSoFar.{MessageSoFar}
 use Rattle.wsn_show.specs.declared.stream_parts.StreamParts.{StreamParts}
-use Rattle.wsn_show.specs.HeldParts.{HasFirst}
-use Rattle.wsn_show.specs.ShownItems.{Prints, items_of_begun, items_of_ended, items_of_end}
+use Rattle.wsn_show.specs.ShownItems.{Prints, IsEventOf, items_of_begun, items_of_ended, items_of_end}
 use Rattle.wsn_show.specs.ShownSoFar.{items_in, shown_so_far}
 use Rattle.wsn_show.specs.StreamParts.{KeepsMessage, Keeps}
 use Rattle.wsn_scan.specs.FollowedScans.{IsTaken}
-use Rattle.wsn_show.specs.TakenParts.{IsWholeFrame, IsAlone, ShowsPart}
+use Rattle.wsn_show.specs.TakenParts.{IsAlone, ShowsPart}
 use Rattle.wsn_show.proofs.FramesSoFar.{items_in-append, shown_begun, shown_ended, begun_items, ended_items, unended_items, same_so_far, begun_so_far, ended_so_far}
-use Rattle.wsn_show.proofs.HeldItems.{control_is, represents_message, kind_of_data, text_of_data, control_short, text_reason}
-use Rattle.wsn_show.proofs.TextsSoFar.{text_payload}
-use Rattle.wsn_show.proofs.LastPayloads.{last_after_alone}
-use Rattle.wsn_show.proofs.OpenMessages.{kept_after_control, kept_after_final}
+use Rattle.wsn_show.proofs.HeldItems.{represents_message, represents_control, kind_of_data, control_short}
+use Rattle.wsn_show.proofs.OpenMessages.{kept_after_control, kept_after_whole}
 use Rattle.wsn_show.proofs.PrintedItems.{prints_nothing, prints_both}
-use Rattle.wsn_show.proofs.PrintedParts.{no_close_of_data, final_control, final_message}
+use Rattle.wsn_show.proofs.PrintedParts.{control_event, message_event}
 
 -- ---- a frame that is an event by itself
 
+-- After the frames fs the lawful frame f came, whole: this is its head, and this is its payload.
+pub record IsWholeFrame (role : Role) (limits : Limits) (fs : List Frame) (f : Frame) (head : HeadInfo) (payload : List ℕ) : Type 0 where
+  pub lawful : IsLawful role limits (fs ++ f ∷ [])
+  pub head_is : head ≡ info_of (length (stream fs)) f
+  pub payload_is : payload ≡ f.payload
+
 module _ (role : Role) (limits : Limits) (fs : List Frame) (f : Frame) (head : HeadInfo) (payload : List ℕ) (w : IsWholeFrame role limits fs f head payload) where
-  pub fin_is : f.fin ≡ head.fin
+  fin_is : f.fin ≡ head.fin
   fin_is = sym (ap (λ (h : HeadInfo). h.fin) w.head_is)
 
-  pub op_is : f.op ≡ head.op
+  op_is : f.op ≡ head.op
   op_is = sym (ap (λ (h : HeadInfo). h.op) w.head_is)
 
-  pub place_is : head.place ≡ length (stream fs)
+  place_is : head.place ≡ length (stream fs)
   place_is = ap (λ (h : HeadInfo). h.place) w.head_is
 
   -- ---- a frame that is an event by itself
@@ -63,82 +58,45 @@ module _ (role : Role) (limits : Limits) (fs : List Frame) (f : Frame) (head : H
   alone_final message (inl control) = ((law_at_split role limits fs f [] w.lawful).frame.encoded.control (ap is_control op_is ∙ control)).final
   alone_final message (inr (final, none)) = fin_is ∙ final
 
-  pub alone_none : (message : MessageSoFar) → IsAlone message head → KeepsMessage message fs [] → is_control f.op ≡ false → unfinished fs ≡ []
+  alone_none : (message : MessageSoFar) → IsAlone message head → KeepsMessage message fs [] → is_control f.op ≡ false → unfinished fs ≡ []
   alone_none message (inl control) kept other = let both : true ≡ false = sym (ap is_control op_is ∙ control) ∙ other in absurd cc
   alone_none message (inr (final, none)) kept other = none_open fs message.frames kept.frames none
-
-  after_data : (message : MessageSoFar) → f.fin ≡ true → is_control f.op ≡ false → unfinished fs ≡ [] → KeepsMessage message fs [] → KeepsMessage message (fs ++ f ∷ []) []
-  after_data message final other none kept =
-      kept_after_final message fs f (ap not other) final (kept.frames ∙ ap (λ (gs : List Frame). length gs) none) (kept.bytes ∙ ap (λ (gs : List Frame). length (payload_of gs)) none)
-      (subst (λ (gs : List Frame). HasFirst message.payload (payload_of gs ++ [])) none kept.payload)
 
   -- It leaves no message open, or that which was.
   pub alone_kept : (message : MessageSoFar) → IsAlone message head → KeepsMessage message fs [] → KeepsMessage message (fs ++ f ∷ []) []
   alone_kept message alone kept =
       elim (cases_Bool (is_control f.op)) [
         | inl control ↦ kept_after_control message fs f (ap not control) kept
-        | inr other ↦ after_data message (alone_final message alone) other (alone_none message alone kept other) kept
+        | inr other ↦ kept_after_whole message fs f (ap not other) (alone_final message alone) (alone_none message alone kept other) kept
       ]
 
-  -- No payload of it is held, or that which was.
-  pub alone_last : (message : MessageSoFar) → IsAlone message head → (last : LastPayload) → KeepsMessage message fs [] → HasLastPayload last (open_payload fs) → HasLastPayload last (open_payload (fs ++ f ∷ []))
-  alone_last message alone last kept has = last_after_alone last fs f (λ other. (alone_final message alone, alone_none message alone kept other)) has
-
   -- The event that it is, which this stands for.
-  pub record AloneEvent (n : ℕ) (shown : ShownEvent) : Type 0 where
-    pub event : MeantEvent
-    pub represents : Represents n shown event
-    pub text : HasText event
-    pub items : items_of_final fs f ≡ (if is_close f.op then open_items fs (Some 0) else []) ++ Event (length (stream fs)) event 1 ∷ []
+  pub alone_event : (message : MessageSoFar) → IsAlone message head → KeepsMessage message fs [] → (n : ℕ) (shown : ShownEvent) → n ≤ 4096 → shown.op ≡ head.op → shown.bytes ≡ length payload → shown.held.now ≡ take 4096 payload → shown.frames ≡ 1
+      → IsEventOf n fs f head.place shown
+  alone_event message alone kept n shown few op bytes held frames =
+      elim (cases_Bool (is_control f.op)) [
+        | inl control ↦
+            let short = control_short role limits fs f w.lawful control in
+            let represents = represents_control n shown f.op f.payload control own_op size (own_held ∙ take_all 4096 f.payload (omega (arith, short))) in
+            control_event role limits fs f w.lawful n head.place shown control own_op represents frames place_is
+        | inr other ↦
+            let none = alone_none message alone kept other in
+            let group = unfinished fs ++ f ∷ [] in
+            let payload_is : payload_of group ≡ f.payload = text_of_push (unfinished fs) f ∙ ap (λ (gs : List Frame). payload_of gs ++ f.payload) none in
+            let begins : shown.op ≡ first_op group = own_op ∙ sym (ap (λ (gs : List Frame). first_op (gs ++ f ∷ [])) none) in
+            let represents = represents_message n shown group (payload_of group) (kind_of_data role limits fs f w.lawful other) begins (size ∙ ap (λ (bs : List ℕ). length bs) (sym payload_is))
+            (first_held n (payload_of group) shown.held.now few (own_held ∙ ap (λ (bs : List ℕ). take 4096 bs) (sym payload_is))) in
+            message_event role limits fs f w.lawful n head.place shown other begins represents (frames ∙ sym (ap (λ (gs : List Frame). length (gs ++ f ∷ [])) none)) (place_is ∙ sym (offset_of_none fs none))
+      ]
+    where
+      own_op : shown.op ≡ f.op
+      own_op = op ∙ sym op_is
 
-  module _ (n : ℕ) (shown : ShownEvent) (few_shown : n ≤ 4096) (op : shown.op ≡ head.op) (bytes : shown.bytes ≡ length payload) (held : shown.held.now ≡ take (min (length payload) 4096) payload) where
-    held_first : shown.held.now ≡ take 4096 f.payload
-    held_first = held ∙ take_min_other ∙ ap (λ (bs : List ℕ). take 4096 bs) w.payload_is
-      where
-        take_min_other : take (min (length payload) 4096) payload ≡ take 4096 payload
-        take_min_other = ap (λ (m : ℕ). take m payload) (omega arith) ∙ take_min 4096 payload
+      size : shown.bytes ≡ length f.payload
+      size = bytes ∙ ap (λ (bs : List ℕ). length bs) w.payload_is
 
-    size_is : shown.bytes ≡ length f.payload
-    size_is = bytes ∙ ap (λ (bs : List ℕ). length bs) w.payload_is
-
-    of_control : is_control f.op ≡ true → AloneEvent n shown
-    of_control control = record {
-      event = Control f.op f.payload;
-      represents = record {
-        payload = f.payload;
-        is = control_is f.op f.payload control ∙ ap (λ (o : Op). event_of o f.payload) (op_is ∙ sym op);
-        size = size_is;
-        holds = let short = control_short role limits fs f w.lawful control in held_first ∙ take_all 4096 f.payload (omega (arith, short));
-      };
-      text = text_reason role limits fs f w.lawful;
-      items = final_control fs f control;
-    }
-
-    of_data : is_control f.op ≡ false → unfinished fs ≡ [] → AloneEvent n shown
-    of_data other none =
-        let group = unfinished fs ++ f ∷ [] in
-        let event = Message (kind_of group) (payload_of group) in
-        let payload_is : payload_of group ≡ f.payload = text_of_push (unfinished fs) f ∙ ap (λ (gs : List Frame). payload_of gs ++ f.payload) none in
-        let one : length group ≡ 1 = ap (λ (gs : List Frame). length (gs ++ f ∷ [])) none in
-        let begins : shown.op ≡ first_op group = op ∙ sym op_is ∙ sym (ap (λ (gs : List Frame). first_op (gs ++ f ∷ [])) none) in
-        record {
-          event = event;
-          represents = represents_message n shown group (payload_of group) (kind_of_data role limits fs f w.lawful other) begins (size_is ∙ ap (λ (bs : List ℕ). length bs) (sym payload_is))
-              (first_held n (payload_of group) shown.held.now few_shown (held_first ∙ ap (λ (bs : List ℕ). take 4096 bs) (sym payload_is)));
-          text = text_payload group (text_of_data role limits fs f w.lawful other);
-          items =
-              final_message fs f other
-              ∙ ap (λ (m : ℕ). Event m event (length group) ∷ []) (offset_of_none fs none)
-              ∙ ap (λ (m : ℕ). Event (length (stream fs)) event m ∷ []) one
-              ∙ sym (ap (λ (is : List Item). is ++ Event (length (stream fs)) event 1 ∷ []) (cond-false (is_close f.op) (open_items fs (Some 0)) [] (no_close_of_data f.op other)));
-        }
-
-    pub alone_event : (is_control f.op ≡ false → unfinished fs ≡ []) → AloneEvent n shown
-    alone_event none =
-        elim (cases_Bool (is_control f.op)) [
-          | inl control ↦ of_control control
-          | inr other ↦ of_data other (none other)
-        ]
+      own_held : shown.held.now ≡ take 4096 f.payload
+      own_held = held ∙ ap (λ (bs : List ℕ). take 4096 bs) w.payload_is
 
 pub end_is : (detail : Detail) (fs : List Frame) (f : Frame) → f.fin ≡ true → items_of_end detail fs f ≡ items_of_ended detail fs f
 end_is detail fs f final = cond-true f.fin (items_of_ended detail fs f) [] final

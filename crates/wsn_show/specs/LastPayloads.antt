@@ -1,10 +1,10 @@
--- The last payload bytes of the open message, with their offsets.
-use Rattle.std.specs.Prelude.{◌≡◌, ℕ, ◌+◌, ◌<◌, ◌^◌, ⊤, false, Option, None, Some, List, ◌++◌, length, map, if◌then◌else◌}
+-- The last payload bytes of the open message, with their offsets, and the bad character that they end with.
+use Rattle.std.specs.Prelude.{◌≡◌, ℕ, ◌+◌, ◌<◌, ◌^◌, ⊤, false, Option, None, Some, List, ◌++◌, length, map}
 use Rattle.wsn_wire.specs.declared.refusal.Reason.{Reason}
 use Rattle.wsn_wire.specs.declared.refusal.Reason.TheVariants.{TextBad}
 use Rattle.wsn_wire.specs.Frame.{Frame, is_control, stream}
 use Rattle.wsn_rules.specs.declared.head_info.HeadInfo.{HeadInfo}
-use Rattle.wsn_rules.specs.BadCharacter.{BadCharacter, payload_offset, last_of, open_payload, message_payload, character_of}
+use Rattle.wsn_rules.specs.BadCharacter.{BadCharacter, payload_offset, last_of, character_of}
 use Rattle.wsn_rules.specs.Evidence.{EndsBad}
 use Rattle.wsn_rules.specs.Group.{unfinished, payload_of}
 use Rattle.wsn_rules.specs.PlacedByte.{PlacedByte}
@@ -34,12 +34,6 @@ character_held held = record {
 abbrev pub character_held_in : Option HeldCharacter → Option BadCharacter
 character_held_in None = None
 character_held_in (Some held) = Some (character_held held)
-
--- The payload so far of the open message, to which a data frame that has begun belongs.
-abbrev pub payload_at : List Frame → Position → List PlacedByte
-payload_at fs BetweenFrames = open_payload fs
-payload_at fs (InFrame head payload) =
-    if is_control head.op then open_payload fs else message_payload fs head payload
 
 -- ---- where a text goes wrong
 

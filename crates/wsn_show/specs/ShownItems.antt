@@ -5,9 +5,11 @@ use Rattle.wsn_wire.specs.Frame.{Frame}
 use Rattle.wsn_rules.specs.declared.detail.Detail.{Detail}
 use Rattle.wsn_rules.specs.declared.detail.Detail.TheVariants.{Events, Frames}
 use Rattle.wsn_rules.specs.declared.head_info.HeadInfo.{HeadInfo}
-use Rattle.wsn_rules.specs.Meaning.{MeantEvent}
-use Rattle.wsn_rules.specs.ShownStream.{Item, items_of_final}
+use Rattle.wsn_rules.specs.Meaning.{MeantEvent, event_at}
+use Rattle.wsn_rules.specs.Summary.{is_close}
+use Rattle.wsn_rules.specs.ShownStream.{Item, event_offset, event_frames, items_of_final}
 use Rattle.wsn_rules.specs.ShownStream.Item.{Event, Head, Unfinished, UnfinishedHead, RefusedFrame}
+use Rattle.wsn_print.specs.declared.shown.ShownEvent.{ShownEvent}
 use Rattle.wsn_print.specs.ShownParts.{Position, position_of, Represents, HasText, HasTextPayload, IsFrontOf, IsEndOf, character_in, item_of_remainder}
 use Rattle.wsn_show.specs.Styles.{styled_items}
 use Rattle.wsn_show.specs.declared.entry_context.EntryContext.{EntryContext}
@@ -41,6 +43,14 @@ Prints context old new items =
 abbrev pub items_of_begun : Detail → HeadInfo → List Item
 items_of_begun Events info = []
 items_of_begun Frames info = Head info ∷ []
+
+-- The final frame f, after the frames fs, ends an event at this offset, which this stands for in a view of n bytes.
+pub record IsEventOf (n : ℕ) (fs : List Frame) (f : Frame) (offset : ℕ) (held : ShownEvent) : Type 0 where
+  pub close : is_close held.op ≡ is_close f.op
+  pub represents : Represents n held (event_at fs f)
+  pub text : HasText (event_at fs f)
+  pub offset_is : offset ≡ event_offset fs f
+  pub frames : held.frames ≡ event_frames fs f
 
 -- What is printed where a final frame ends, after the frames before it.
 abbrev pub items_of_ended : Detail → List Frame → Frame → List Item

@@ -10,7 +10,7 @@ use Rattle.wsn_rules.specs.declared.verdict.Refusal.{Refusal}
 use Rattle.wsn_rules.specs.Heads.{heads_of}
 use Rattle.wsn_rules.specs.Limits.{Limits}
 use Rattle.wsn_rules.specs.Verdict.{IsRefused}
-use Rattle.wsn_rules.specs.ShownStream.{Item, Shown, shown_of, shown_head, AreShownFrames, IsShownRefusal, IsLeftOver}
+use Rattle.wsn_rules.specs.ShownStream.{Item, Shown, shown_of, shown_head, AreShownFrames, IsShownRefusal}
 use Rattle.wsn_scan.specs.declared.scan.Scan.{Scan}
 use Rattle.wsn_scan.specs.Feeding.{HasScannedBytes}
 use Rattle.wsn_scan.specs.Positions.{Position, begun_at}
@@ -56,7 +56,7 @@ pub record HasShownRefusal (detail : Detail) (role : Role) (limits : Limits) (sc
   pub reported : refusal_in scan ≡ Some refusal
   pub refused : (later : List ℕ) → IsRefused role limits (read ++ later) done refusal.place refusal.reason
   pub place : refusal.place + 1 ≡ length read
-  pub first : HasFirst parts.frame.first unread
+  pub first : HasFirst parts.rest unread
   pub of_frames : List Shown
   pub are_of_frames : AreShownFrames detail role limits read done of_frames
   pub of_refusal : List Shown
@@ -89,8 +89,3 @@ pub record ShowsFrames (role : Role) (limits : Limits) (scan : Scan) (parts : St
   pub extra : List Shown
   pub frames : HasShownFrames context.style.detail role limits scan parts came (shown ++ extra)
   pub printed : Prints context old new (items_in extra)
-
--- What is left over of the bytes was printed.
-abbrev pub LeavesOver : Role → Limits → List ℕ → EntryContext → Outgoing → Outgoing → Type 0
-LeavesOver role limits came context old new =
-    (left : List Item) × IsLeftOver role limits came left × Prints context old new left

@@ -1,29 +1,29 @@
--- What is kept of a stream: the open message, the frame that has begun, and the last bytes of the message's payload.
-use Rattle.std.specs.Prelude.{◌≡◌, ◌≢◌, ℕ, ◌<◌, ◌≤◌, ◌⊎◌, ⊤, true, false, Option, None, Some, List, [], ◌∷◌, ◌++◌, length, if◌then◌else◌}
+-- What is kept of a stream: the open message, and the frame that has begun or comes next.
+use Rattle.std.specs.Prelude.{◌≡◌, ◌≢◌, ℕ, ◌≤◌, ◌⊎◌, ⊤, true, false, Option, None, Some, List, [], ◌∷◌, ◌++◌, length, if◌then◌else◌}
 use Rattle.wsn_wire.specs.declared.opcode.Op.{Op}
 use Rattle.wsn_wire.specs.declared.opcode.Op.TheVariants.{Text, Binary}
 use Rattle.wsn_wire.specs.Frame.{Frame, is_control, stream}
 use Rattle.wsn_text.specs.Utf8.{BeginsText}
 use Rattle.wsn_rules.specs.declared.head_info.HeadInfo.{HeadInfo}
+use Rattle.wsn_rules.specs.BadCharacter.{open_payload}
 use Rattle.wsn_rules.specs.Group.{unfinished, first_op, payload_of}
 use Rattle.wsn_rules.specs.ShownStream.{Item, open_offset, frame_so_far, items_of_head, items_of_part}
 use Rattle.wsn_scan.specs.Positions.{Position, BetweenFrames, InFrame}
 use Rattle.wsn_show.specs.declared.message_so_far.MessageSoFar.{MessageSoFar}
-use Rattle.wsn_show.specs.declared.frame_so_far.FrameSoFar.{FrameSoFar}
 use Rattle.wsn_show.specs.declared.stream_parts.StreamParts.{StreamParts}
 use Rattle.wsn_show.specs.HeldParts.{HasFirst, HasLast, HasEarlier}
-use Rattle.wsn_show.specs.LastPayloads.{HasLastPayload, payload_at}
+use Rattle.wsn_show.specs.LastPayloads.{HasLastPayload}
 
 -- ---- the open message
 
--- After the frames fs, this is kept of the open message: the number of its frames and of their payload bytes, the last of
--- these if they are too many to be held, the first bytes of their payload and of `part`, and if there is one its first
--- frame's opcode and offset.
+-- After the frames fs, this is kept of the open message: the number of its frames and of their payload bytes, the end of
+-- these, the first bytes of their payload and of `part`, and if there is one its first frame's opcode and offset.
 pub record KeepsMessage (message : MessageSoFar) (fs : List Frame) (part : List ℕ) : Type 0 where
   pub frames : message.frames ≡ length (unfinished fs)
   pub bytes : message.bytes ≡ length (payload_of (unfinished fs))
-  pub earlier : 4096 < message.bytes → HasEarlier message.earlier (payload_of (unfinished fs))
   pub payload : HasFirst message.payload (payload_of (unfinished fs) ++ part)
+  pub earlier : HasEarlier message.earlier (payload_of (unfinished fs))
+  pub last : HasLastPayload message.last (open_payload fs)
   pub op : unfinished fs ≢ [] → message.op ≡ first_op (unfinished fs)
   pub offset : unfinished fs ≢ [] → message.offset ≡ open_offset fs
 
@@ -31,28 +31,6 @@ pub record KeepsMessage (message : MessageSoFar) (fs : List Frame) (part : List 
 pub record HasJoined (message : MessageSoFar) (fs : List Frame) (f : Frame) : Type 0 where
   pub op : message.op ≡ first_op (unfinished fs ++ f ∷ [])
   pub offset : message.offset ≡ open_offset fs
-
--- ---- the frame that has begun
-
--- Its head, if it is complete.
-abbrev pub head_at : Position → Option HeadInfo
-head_at BetweenFrames = None
-head_at (InFrame head payload) = Some head
-
--- What is held of it: its payload so far, unmasked, if its head is complete; otherwise its bytes so far as they came.
-abbrev pub held_at : Position → List ℕ → List ℕ
-held_at BetweenFrames rest = rest
-held_at (InFrame head payload) rest = payload
-
--- After the frames fs, this is kept of the next frame, whose bytes so far are `rest`.
-pub record KeepsFrame (frame : FrameSoFar) (fs : List Frame) (at : Position) (rest : List ℕ) : Type 0 where
-  pub offset : frame.offset ≡ length (stream fs)
-  pub size : frame.size ≡ length rest
-  pub head : frame.head ≡ head_at at
-  pub first : HasFirst frame.first (held_at at rest)
-  pub last : HasLast frame.last (held_at at rest)
-
--- ---- both
 
 -- The payload so far of the data frame that has begun; nothing of a control.
 abbrev pub data_part : Position → List ℕ
@@ -65,12 +43,36 @@ HasJoinedAt message fs BetweenFrames = ⊤
 HasJoinedAt message fs (InFrame head payload) =
     is_control head.op ≡ false → HasJoined message fs (frame_so_far head payload)
 
+-- ---- the frame that has begun
+
+-- Its head, if it is complete.
+abbrev pub head_at : Position → Option HeadInfo
+head_at BetweenFrames = None
+head_at (InFrame head payload) = Some head
+
+-- Its bytes so far, if its head isn't complete.
+abbrev pub rest_at : Position → List ℕ → List ℕ
+rest_at BetweenFrames rest = rest
+rest_at (InFrame head payload) rest = []
+
+-- Its payload so far, unmasked, if its head is complete; otherwise its bytes so far as they came.
+abbrev pub held_at : Position → List ℕ → List ℕ
+held_at BetweenFrames rest = rest
+held_at (InFrame head payload) rest = payload
+
+-- After the frames fs, this is kept of the next frame, whose bytes so far are `rest`.
+pub record KeepsFrame (parts : StreamParts) (fs : List Frame) (at : Position) (rest : List ℕ) : Type 0 where
+  pub offset : parts.offset ≡ length (stream fs)
+  pub size : parts.size ≡ length rest
+  pub head : parts.head ≡ head_at at
+  pub begun : HasFirst parts.rest (rest_at at rest)
+  pub last : HasLast parts.last (held_at at rest)
+
 -- After the frames fs, at this position in the next frame, whose bytes so far are `rest`.
 pub record Keeps (parts : StreamParts) (fs : List Frame) (at : Position) (rest : List ℕ) : Type 0 where
   pub message : KeepsMessage parts.message fs (data_part at)
   pub joined : HasJoinedAt parts.message fs at
-  pub frame : KeepsFrame parts.frame fs at rest
-  pub last : HasLastPayload parts.last (payload_at fs at)
+  pub frame : KeepsFrame parts fs at rest
 
 -- ---- what is shown of it
 

@@ -1,12 +1,8 @@
 -- A part of a frame that is taken, and what is shown of it.
-use Rattle.std.specs.Prelude.{◌≡◌, ℕ, ◌+◌, ◌⊎◌, true, List, [], ◌∷◌, ◌++◌, length}
+use Rattle.std.specs.Prelude.{◌≡◌, ℕ, ◌⊎◌, true, List, ◌++◌}
 use Rattle.wsn_io.specs.Transfer.{Outgoing}
-use Rattle.wsn_wire.specs.declared.endpoint.Role.{Role}
-use Rattle.wsn_wire.specs.Frame.{Frame, is_control, stream}
+use Rattle.wsn_wire.specs.Frame.{Frame, is_control}
 use Rattle.wsn_rules.specs.declared.head_info.HeadInfo.{HeadInfo}
-use Rattle.wsn_rules.specs.Heads.{info_of}
-use Rattle.wsn_rules.specs.Lawful.{IsLawful}
-use Rattle.wsn_rules.specs.Limits.{Limits}
 use Rattle.wsn_rules.specs.ShownStream.{Shown}
 use Rattle.wsn_scan.specs.Positions.{Position}
 use Rattle.wsn_show.specs.declared.entry_context.EntryContext.{EntryContext}
@@ -15,13 +11,6 @@ use Rattle.wsn_show.specs.declared.stream_parts.StreamParts.{StreamParts}
 use Rattle.wsn_show.specs.ShownItems.{Prints}
 use Rattle.wsn_show.specs.ShownSoFar.{items_in, shown_so_far}
 use Rattle.wsn_show.specs.StreamParts.{Keeps}
-
--- After the frames fs the lawful frame f came, whole: this is its head, and this is its payload.
-pub record IsWholeFrame (role : Role) (limits : Limits) (fs : List Frame) (f : Frame) (head : HeadInfo)
-    (payload : List ℕ) : Type 0 where
-  pub lawful : IsLawful role limits (fs ++ f ∷ [])
-  pub head_is : head ≡ info_of (length (stream fs)) f
-  pub payload_is : payload ≡ f.payload
 
 -- A whole frame with this head is an event by itself: a control, or the only frame of a message.
 abbrev pub IsAlone : MessageSoFar → HeadInfo → Type 0

@@ -1,35 +1,36 @@
 //! Following a scan part by part.
 
+ghost use Rattle.std.specs.Prelude.{◌≡◌, length, take};
+
 use crate::entry_context::EntryContext;
 use crate::first_bytes::FIRST_MAX;
-use crate::last_payload::HeldCharacter;
+use crate::last_payload::{HeldCharacter, shown_in};
 use crate::shown_item::{ShownItem, put_begun, put_item};
 use crate::stream_parts::StreamParts;
 use std::io::Write;
 use wsn_io::Output;
 use wsn_print::ShownEvent;
-use wsn_rules::{Detail, HeadInfo, Refusal};
+use wsn_rules::{HeadInfo, Refusal};
 use wsn_scan::Part;
-use wsn_wire::Reason;
+use wsn_wire::{Op, Reason};
 
 impl StreamParts {
-    ghost use Rattle.std.specs.Prelude.{◌≡◌, ℕ, ◌+◌, ◌<◌, ◌^◌, List, [], ◌∷◌, ◌++◌, true, false, length};
-    ghost use Rattle.wsn_wire.specs.Frame.{Frame, is_control, stream};
+    ghost use Rattle.std.specs.Prelude.{◌≡◌, ℕ, ◌+◌, ◌<◌, ◌^◌, List, [], ◌∷◌, ◌++◌, true, length};
+    ghost use Rattle.wsn_wire.specs.Frame.{Frame, stream};
     ghost use Rattle.wsn_wire.specs.declared.endpoint.Role.{Role};
     ghost use Rattle.wsn_wire.specs.declared.refusal.Reason.TheVariants.{TextBad};
     ghost use Rattle.wsn_rules.specs.Limits.{Limits};
-    ghost use Rattle.wsn_rules.specs.Group.{unfinished};
     ghost use Rattle.wsn_rules.specs.Lawful.{IsLawful};
     ghost use Rattle.wsn_rules.specs.ShownStream.{interrupted};
     ghost use Rattle.wsn_rules.specs.ShownStream.Item.{RefusedFrame};
-    ghost use Rattle.wsn_scan.specs.Positions.{Position, BetweenFrames, InFrame};
+    ghost use Rattle.wsn_scan.specs.FollowedScans.{IsTaken};
     ghost use Rattle.wsn_scan.specs.Parts.{IsPartAt};
+    ghost use Rattle.wsn_scan.specs.Positions.{Position, BetweenFrames, InFrame};
     ghost use Rattle.wsn_show.specs.HeldParts.{HasFirst};
     ghost use Rattle.wsn_show.specs.LastPayloads.{GoesWrongAt, character_at, character_held_in};
-    ghost use Rattle.wsn_show.specs.StreamParts.{KeepsMessage, Keeps, held_at};
-    ghost use Rattle.wsn_show.specs.ShownItems.{Prints, items_of_ended};
-    ghost use Rattle.wsn_scan.specs.FollowedScans.{IsTaken};
-    ghost use Rattle.wsn_show.specs.TakenParts.{IsWholeFrame, IsAlone, ShowsPart};
+    ghost use Rattle.wsn_show.specs.StreamParts.{Keeps, held_at};
+    ghost use Rattle.wsn_show.specs.ShownItems.{Prints};
+    ghost use Rattle.wsn_show.specs.TakenParts.{IsAlone, ShowsPart};
 
     /// Takes a part of a frame, and prints what it completes. `payload` is its payload, unmasked, and `size` the number
     /// of its bytes.
@@ -74,8 +75,9 @@ impl StreamParts {
     {
         put_begun(output, context, &part.head);
         if part.ends && self.is_event(&part.head) {
-            self.put_whole(&part.head, payload, output, context);
-            self.frame.end(size);
+            let event = whole_event(part.head.op, payload);
+            self.put_event(output, context, part.head.place, &event);
+            self.next(size);
         } else {
             self.begin(part.head);
             self.take_more(part, payload, size, output, context);
@@ -99,10 +101,10 @@ impl StreamParts {
             ShowsPart fs (InFrame part.now.head before) frames position since self.new context.now output.old
             output.new }
     {
-        self.add_payload(payload, size);
+        self.add_payload(&part.head, payload, size);
         if part.ends {
-            self.put_end(part.head.fin, output, context);
-            self.end(part.head.fin);
+            self.put_end(output, context, &part.head);
+            self.end(&part.head);
         }
     }
 
@@ -114,38 +116,10 @@ impl StreamParts {
         head.op.is_control() || (head.fin && self.message.frames == 0)
     }
 
-    /// Prints the event that the whole frame is by itself, if events are shown: a control, or a message of one frame.
-    /// Before a Close comes the message that it interrupts.
-    #[tactic(none)]
-    fn put_whole<W: Write>(
-        &self,
-        head: &HeadInfo,
-        payload: &[u8],
-        output: &mut Output<W>,
-        context: &EntryContext<'_>,
-    )
-        ensures { (role : Role) (limits : Limits) (fs : List Frame) (f : Frame) →
-            IsWholeFrame role limits fs f head.now payload.now → KeepsMessage self.now.message fs [] →
-            (is_control f.op ≡ false → unfinished fs ≡ []) →
-            Prints context.now output.old output.new (items_of_ended context.now.style.detail fs f) }
-    {
-        match context.style.detail {
-            Detail::Events => {
-                self.put_before_close(output, context, head.op);
-                let event = ShownEvent {
-                    op: head.op,
-                    bytes: payload.len() as u64,
-                    frames: 1,
-                    held: &payload[..payload.len().min(FIRST_MAX)],
-                };
-                put_item(output, context, head.place, &ShownItem::Event(event));
-            }
-            Detail::Frames => {}
-        }
-    }
-
-    /// Prints the refusal of the frame at the last of these bytes, which are unmasked if they are payload. From now on the
-    /// bytes aren't read.
+    /// Prints the refusal of the frame at the last of these bytes, which are unmasked if they are payload, and before it the
+    /// message that it interrupts. From now on the bytes aren't read.
+    #[cold]
+    #[inline(never)]
     #[tactic(none)]
     pub fn refuse<W: Write>(
         &mut self,
@@ -160,12 +134,14 @@ impl StreamParts {
             Prints context.now output.old output.new (interrupted context.now.style.detail fs
             ++ RefusedFrame (length (stream fs)) refusal.now (held_at at rest ++ bytes.now)
             (character_at refusal.now.reason fs at bytes.now) ∷ []) }
-        ensures first { HasFirst self.new.frame.first [] }
+        ensures first { HasFirst self.new.rest [] }
     {
+        self.put_interrupted(output, context);
         let character = self.bad_character(refusal.reason, bytes);
-        self.frame.last.add(bytes);
-        self.put_refused(output, context, refusal, &character);
-        self.frame.first.clear();
+        self.last.add(bytes);
+        let item = ShownItem::Refused(*refusal, self.last.end(), shown_in(&character));
+        put_item(output, context, self.offset, &item);
+        self.rest.clear();
     }
 
     /// The bad character, if a frame's text is refused for one at the last of these bytes.
@@ -174,8 +150,7 @@ impl StreamParts {
         ensures character { (fs : List Frame) (at : Position) (rest : List ℕ) →
             GoesWrongAt reason fs at rest bytes.now → Keeps self.old fs at rest →
             character_held_in result ≡ character_at reason fs at bytes.now }
-        ensures message { self.new.message ≡ self.old.message }
-        ensures frame { self.new.frame ≡ self.old.frame }
+        ensures others { self.new ≡ record self.old { message = self.new.message } }
     {
         match reason {
             Reason::TextBad => self.character_in_frame(bytes),
@@ -189,21 +164,32 @@ impl StreamParts {
         ensures character { (fs : List Frame) (at : Position) (rest : List ℕ) →
             GoesWrongAt TextBad fs at rest bytes.now → Keeps self.old fs at rest →
             character_held_in result ≡ character_at TextBad fs at bytes.now }
-        ensures message { self.new.message ≡ self.old.message }
-        ensures frame { self.new.frame ≡ self.old.frame }
+        ensures others { self.new ≡ record self.old { message = self.new.message } }
     {
-        if self.frame.head.is_none() {
+        if self.head.is_none() {
             return None;
         }
-        self.last.add(bytes, self.frame.end_so_far());
-        let count = self
-            .message
-            .payload
-            .count()
-            .saturating_add(bytes.len() as u64);
-        Some(
-            self.last
-                .bad_character(count, self.message.end_of_complete()),
-        )
+        let size = bytes.len() as u64;
+        let end = self.end_so_far();
+        self.message.last.add(self.last.end().held, end);
+        self.message.last.add(bytes, end.saturating_add(size));
+        let count = self.message.payload.count().saturating_add(size);
+        let earlier = self.message.earlier.end();
+        Some(self.message.last.bad_character(count, earlier))
+    }
+}
+
+/// The event that a whole frame with this opcode and this payload is by itself.
+fn whole_event(op: Op, payload: &[u8]) -> ShownEvent<'_>
+    ensures op { result.op ≡ op }
+    ensures bytes { result.bytes ≡ length payload.now }
+    ensures frames { result.frames ≡ 1 }
+    ensures held { result.held.now ≡ take 4096 payload.now }
+{
+    ShownEvent {
+        op,
+        bytes: payload.len() as u64,
+        frames: 1,
+        held: &payload[..payload.len().min(FIRST_MAX)],
     }
 }

@@ -1,6 +1,6 @@
-ghost use Rattle.std.specs.Prelude.{◌≡◌, ℕ, ◌+◌, ◌-◌, ◌<◌, ◌^◌, List, [], ◌∷◌, ◌++◌, length, drop};
+ghost use Rattle.std.specs.Prelude.{◌≡◌, ℕ, ◌+◌, ◌-◌, ◌≤◌, List, [], ◌∷◌, ◌++◌, length, drop};
 ghost use Rattle.wsn_text.specs.Utf8.{IsFirstBad};
-ghost use Rattle.wsn_rules.specs.BadCharacter.{first_offset, bytes_of, bad_character};
+ghost use Rattle.wsn_rules.specs.BadCharacter.{last_of, first_offset, bytes_of, bad_character};
 ghost use Rattle.wsn_rules.specs.PlacedByte.{PlacedByte, placed};
 ghost use Rattle.wsn_print.specs.ShownParts.{character_of, character_in};
 ghost use Rattle.wsn_show.specs.LastPayloads.{placed_bytes, HasLastPayload, character_held, character_held_in};
@@ -20,8 +20,8 @@ pub struct StreamByte {
     pub byte: u8,
 }
 
-/// The last four payload bytes of the open message, each with its offset in the stream: with the next byte they say where
-/// a character begins that goes wrong (RFC 6455 section 8.1).
+/// The last four payload bytes of the open message's complete frames, each with its offset in the stream: with the bytes
+/// after them they say where a character begins that goes wrong (RFC 6455 section 8.1).
 #[derive(Drop)]
 pub struct LastPayload {
     pub held: ArrayVec<StreamByte, CHARACTER_MAX>,
@@ -45,15 +45,16 @@ impl LastPayload {
         self.held.clear();
     }
 
-    /// More bytes come, the first of them at this offset.
+    /// More bytes come, which end before this offset: these are the last four of them or more, or all.
     #[tactic(none)]
-    pub fn add(&mut self, bytes: &[u8], offset: u64)
-        ensures { (came : List PlacedByte) → offset + length bytes.now < 2 ^ 64 → HasLastPayload self.old came →
-            HasLastPayload self.new (came ++ placed offset bytes.now) }
+    pub fn add(&mut self, bytes: &[u8], end: u64)
+        ensures { (came : List PlacedByte) (all : List ℕ) (offset n : ℕ) → 4 ≤ n → bytes.now ≡ last_of n all →
+            offset + length all ≡ end → HasLastPayload self.old came →
+            HasLastPayload self.new (came ++ placed offset all) }
     {
         let skipped = bytes.len().saturating_sub(CHARACTER_MAX);
         for index in skipped..bytes.len() {
-            let place = offset.saturating_add(index as u64);
+            let place = end.saturating_sub((bytes.len() - index) as u64);
             self.push(StreamByte {
                 place,
                 byte: bytes[index],

@@ -5,16 +5,15 @@
 //! [`show`] reads a capture and prints what each of its lines completes, and then the report. A [`CaptureView`] does so
 //! line by line. [`show_stream`] shows the stream of one endpoint, a [`StreamView`] its bytes as they come. A [`Style`]
 //! says whether events or frames are shown, and how much of a payload. Nothing is allocated: at most one line is held,
-//! and of each stream the first bytes of its open message and of the frame that has begun, the last four bytes of the
-//! message's payload, which may belong to a bad character, and the last of its payload in complete frames, which is the
-//! text before that.
+//! and of each stream the first bytes of its open message, the last bytes of the frame that has begun, and the end of the
+//! message's payload in complete frames, where a bad character may begin.
 //!
 //! `wsn_rules/specs/ShownStream.antt` defines what is shown of a stream and what is left over, `ShownCapture.antt` what
 //! is shown of a capture, and `wsn_shown_text/specs/ShownText.antt` how it is printed. Here, `specs/Showing.antt` defines
 //! what was printed at each answer, `specs/CaptureViews.antt` and `specs/StreamViews.antt` how a view's state is related
 //! to the lines or bytes that came, `specs/StreamParts.antt` what is kept of the open message and of the frame that has
-//! begun, and `specs/LastPayloads.antt` what is kept of the message's last bytes. `specs/EndedBy.antt` defines who ended a connection, and its line; [`laws`] says that a capture has one
-//! text.
+//! begun, and `specs/LastPayloads.antt` what is kept of the message's last bytes. `specs/EndedBy.antt` defines who ended
+//! a connection, and its line; [`laws`] says that a capture has one text.
 #![tactic(auto)]
 
 mod capture_view;
@@ -22,9 +21,9 @@ mod earlier_payload;
 mod end_notes;
 mod ended_by;
 mod entry_context;
+mod feeding;
 mod first_bytes;
 mod following;
-mod frame_so_far;
 mod last_bytes;
 mod last_payload;
 mod last_times;
@@ -33,7 +32,6 @@ mod message_so_far;
 mod printing;
 mod showing;
 mod shown_item;
-mod shown_scan;
 mod stream_parts;
 mod stream_showing;
 mod stream_view;

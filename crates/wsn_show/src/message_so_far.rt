@@ -1,8 +1,9 @@
 ghost use Rattle.std.specs.Prelude.{◌≡◌};
 
-use crate::earlier_payload::{EARLIER_MAX, EarlierPayload, end_of};
-use crate::first_bytes::{FIRST_MAX, FirstBytes};
-use wsn_print::{KeptBytes, ShownEvent};
+use crate::earlier_payload::EarlierPayload;
+use crate::first_bytes::FirstBytes;
+use crate::last_payload::LastPayload;
+use wsn_print::ShownEvent;
 use wsn_wire::Op;
 
 /// The open message, if there is one (RFC 6455 section 5.4).
@@ -18,8 +19,10 @@ pub struct MessageSoFar {
     pub bytes: u64,
     /// Their payloads, joined, and then that of the data frame that has begun.
     pub payload: FirstBytes,
-    /// The end of their payloads, joined, if these are too long for all to be held.
+    /// The end of their payloads, joined.
     pub earlier: EarlierPayload,
+    /// The last bytes of the same, with their offsets.
+    pub last: LastPayload,
 }
 
 impl MessageSoFar {
@@ -28,8 +31,6 @@ impl MessageSoFar {
     ghost use Rattle.wsn_rules.specs.declared.head_info.HeadInfo.{HeadInfo};
     ghost use Rattle.wsn_rules.specs.BadCharacter.{last_of};
     ghost use Rattle.wsn_rules.specs.Group.{unfinished, payload_of, is_data};
-    ghost use Rattle.wsn_rules.specs.ShownStream.{frame_so_far};
-    ghost use Rattle.wsn_show.specs.HeldParts.{HasEarlier};
     ghost use Rattle.wsn_show.specs.StreamParts.{KeepsMessage, HasJoined};
 
     /// No message is open.
@@ -43,6 +44,7 @@ impl MessageSoFar {
             bytes: 0,
             payload: FirstBytes::new(),
             earlier: EarlierPayload::new(),
+            last: LastPayload::new(),
         }
     }
 
@@ -102,62 +104,32 @@ impl MessageSoFar {
         }
     }
 
-    /// The data frame that has begun ends, with these last bytes of its payload.
+    /// The data frame that has begun ends, with these last bytes of its payload, the last of them before this offset.
     #[tactic(none)]
-    pub fn end(&mut self, final_frame: bool, last: &[u8])
+    pub fn end(&mut self, final_frame: bool, last: &[u8], end: u64)
         ensures { (fs : List Frame) (f : Frame) → is_data f ≡ true → f.fin ≡ final_frame →
-            last_of 48 last.now ≡ last_of 48 f.payload → length (unfinished fs) + 1 < 2 ^ 64 →
-            KeepsMessage self.old fs f.payload → HasJoined self.old fs f → KeepsMessage self.new (fs ++ f ∷ []) [] }
+            last.now ≡ last_of 2048 f.payload → end ≡ length (stream (fs ++ f ∷ [])) →
+            length (unfinished fs) + 1 < 2 ^ 64 → KeepsMessage self.old fs f.payload → HasJoined self.old fs f →
+            KeepsMessage self.new (fs ++ f ∷ []) [] }
     {
         if final_frame {
-            self.frames = 0;
-            self.bytes = 0;
-            self.payload.clear();
+            self.close();
         } else {
-            self.keep_end(last);
             self.frames = self.frames.saturating_add(1);
             self.bytes = self.payload.count();
-        }
-    }
-
-    /// Keeps the end of the payloads, since a fragment ends with these last bytes, if they are too long for all to be held.
-    #[tactic(none)]
-    fn keep_end(&mut self, last: &[u8])
-        ensures end { (fs : List Frame) (part : List ℕ) → last_of 48 last.now ≡ last_of 48 part →
-            KeepsMessage self.old fs part → 4096 < self.old.payload.count →
-            HasEarlier self.new.earlier (payload_of (unfinished fs) ++ part) }
-        ensures others { self.new ≡ record self.old { earlier = self.new.earlier } }
-    {
-        if self.payload.count() > FIRST_MAX as u64 {
-            self.keep_first();
             self.earlier.add(last);
+            self.last.add(last, end);
         }
     }
 
-    /// Keeps the end of the complete frames' payloads, if all of these are held.
-    #[tactic(none)]
-    fn keep_first(&mut self)
-        ensures end { (fs : List Frame) (part : List ℕ) → KeepsMessage self.old fs part →
-            HasEarlier self.new.earlier (payload_of (unfinished fs)) }
-        ensures others { self.new ≡ record self.old { earlier = self.new.earlier } }
+    /// No message is open any more.
+    fn close(&mut self)
+        ensures { (fs : List Frame) → unfinished fs ≡ [] → KeepsMessage self.new fs [] }
     {
-        if self.bytes <= FIRST_MAX as u64 {
-            let end = end_of(self.complete_part().held);
-            self.earlier.clear();
-            self.earlier.add(end.as_slice());
-        }
-    }
-
-    /// The last 48 payload bytes of its complete frames.
-    #[tactic(none)]
-    pub fn end_of_complete(&self) -> KeptBytes<EARLIER_MAX>
-        ensures { (fs : List Frame) (part : List ℕ) → KeepsMessage self.now fs part →
-            result ≡ last_of 48 (payload_of (unfinished fs)) }
-    {
-        if self.bytes <= FIRST_MAX as u64 {
-            end_of(self.complete_part().held)
-        } else {
-            self.earlier.end()
-        }
+        self.frames = 0;
+        self.bytes = 0;
+        self.payload.clear();
+        self.earlier.clear();
+        self.last.clear();
     }
 }

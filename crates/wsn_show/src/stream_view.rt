@@ -1,10 +1,12 @@
 use crate::entry_context::EntryContext;
-use crate::shown_scan::ShownScan;
+use crate::feeding::feed;
+use crate::stream_parts::StreamParts;
 use std::io::Write;
 use std::marker::Model;
 use wsn_io::Output;
-use wsn_print::{Origin, Style};
+use wsn_print::{Origin, Remainder, Style};
 use wsn_rules::{Limits, Verdict};
+use wsn_scan::Scan;
 use wsn_wire::Role;
 
 /// Shows the stream that one endpoint sent, as its bytes come (RFC 6455 sections 5 and 7): prints each event with its
@@ -16,7 +18,8 @@ pub struct StreamView {
     style: Style,
     input: u64,
     room: u64,
-    stream: ShownScan,
+    scan: Scan,
+    parts: StreamParts,
 }
 
 impl Model for StreamView {
@@ -29,8 +32,8 @@ impl Model for StreamView {
       style = v.style;
       input = v.input;
       room = v.room;
-      scan = v.stream.scan;
-      parts = v.stream.parts;
+      scan = v.scan;
+      parts = v.parts;
     } };
 
     ghost invariant = { λ v. IsViewing (record {
@@ -38,8 +41,8 @@ impl Model for StreamView {
       style = v.style;
       input = v.input;
       room = v.room;
-      scan = v.stream.scan;
-      parts = v.stream.parts;
+      scan = v.scan;
+      parts = v.parts;
     }) };
 }
 
@@ -67,7 +70,8 @@ impl StreamView {
             style,
             input: limits.input(),
             room: limits.input(),
-            stream: ShownScan::new(role, limits),
+            scan: Scan::new(role, limits),
+            parts: StreamParts::new(),
         }
     }
 
@@ -99,7 +103,7 @@ impl StreamView {
         ensures { (role : Role) (limits : Limits) (style : Style) (came : List ℕ) →
             HasViewed role limits style self.now came → (fs : List Frame) × IsVerdict role limits came fs result }
     {
-        self.stream.verdict()
+        self.scan.finish()
     }
 
     /// Whether the stream has a Close.
@@ -134,7 +138,7 @@ impl StreamView {
             style: self.style,
             origin,
         };
-        self.stream.take(bytes, output, &context);
+        feed(&mut self.scan, &mut self.parts, bytes, output, &context);
     }
 
     /// Prints what is left over if the stream ends here, after what was printed before, up to a failed write: the open
@@ -152,6 +156,17 @@ impl StreamView {
             style: self.style,
             origin,
         };
-        self.stream.put_left_over(output, &context);
+        let parts = &self.parts;
+        match self.scan.finish() {
+            Verdict::Refused(refusal) => {
+                let offset = refusal.place.saturating_add(1);
+                parts.put_remainder(output, &context, Remainder::Unread, offset);
+            }
+            Verdict::Accepted(summary) => match summary.close {
+                Some(_) => parts.put_remainder(output, &context, Remainder::Tail, parts.offset),
+                None => parts.put_left(output, &context),
+            },
+            Verdict::Cut(_) => parts.put_left(output, &context),
+        }
     }
 }

@@ -1,4 +1,4 @@
-use Rattle.std.proofs.Common.{◌≡◌, ℕ, ◌-◌, List, ◌++◌, length, take, drop, ap, ◌∙◌, arith, rules}
+use Rattle.std.proofs.Common.{◌≡◌, ℕ, ◌-◌, List, ◌++◌, length, take, drop, ap, ◌∙◌, rules}
 use Rattle.wsn_print.proofs.HeldParts.{rest_is}
 use Rattle.wsn_rules.specs.BadCharacter.{last_of}
 use Rattle.wsn_show.proofs.earlier_payload.end_of.Goals as goal

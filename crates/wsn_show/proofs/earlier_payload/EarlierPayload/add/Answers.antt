@@ -1,4 +1,4 @@
-use Rattle.std.proofs.Common.{◌≡◌, ℕ, ◌<◌, ◌≤◌, List, ◌++◌, length, sym, ap, ◌∙◌, arith, rules}
+use Rattle.std.proofs.Common.{◌≡◌, ℕ, ◌<◌, ◌≤◌, List, length, sym, ap, ◌∙◌, arith, rules}
 use Rattle.wsn_rules.specs.BadCharacter.{last_of}
 use Rattle.wsn_rules.proofs.LastElements.{last_of_last, last_of_long, last_of_both}
 use Rattle.wsn_show.proofs.earlier_payload.EarlierPayload.add.Goals as goal

@@ -1,9 +1,6 @@
-use Rattle.std.proofs.Common.{◌≡◌, Option, List, ap, ◌∙◌, sym}
+use Rattle.std.proofs.Common.{ap, ◌∙◌}
 use Rattle.std.specs.Option.{option_or}
-use Rattle.wsn_wire.specs.declared.endpoint.Role.{Role}
-use Rattle.wsn_wire.specs.declared.endpoint.Role.TheVariants.{Client, Server}
 use Rattle.wsn_capture.specs.LineEntries.{held_entry}
-use Rattle.wsn_show.specs.EndNotes.{first_marked}
 use Rattle.wsn_show.proofs.EndNotes.{noted_end}
 use Rattle.wsn_show.proofs.end_notes.EndNotes.note.Goals as goal
 

@@ -1,33 +1,37 @@
-use Rattle.std.proofs.Common.{◌≡◌, ℕ, ◌+◌, length, sym, ◌∙◌, ◌++◌, subst, arith, length-append}
-use Rattle.std.proofs.lemmas.Bool.{not-true, not-false}
-use Rattle.wsn_rules.specs.BadCharacter.{payload_offset}
-use Rattle.wsn_rules.specs.Group.{unfinished, payload_of}
-use Rattle.wsn_rules.specs.PlacedByte.{placed}
-use Rattle.wsn_scan.specs.Positions.{InFrame}
-use Rattle.wsn_show.specs.LastPayloads.{HasLastPayload, payload_at}
-use Rattle.wsn_show.proofs.KeptParts.{adds_data, adds_to_control}
+use Rattle.std.proofs.Common.{◌≡◌, true, false, ◌++◌, sym, ◌∙◌, subst, arith, length-append}
 use Rattle.wsn_wire.specs.Frame.{is_control}
+use Rattle.wsn_rules.specs.Group.{unfinished, payload_of}
+use Rattle.wsn_show.specs.StreamParts.{KeepsMessage}
+use Rattle.wsn_show.proofs.KeptParts.{part_of_data, adds_data, adds_to_control}
 use Rattle.wsn_show.proofs.stream_parts.StreamParts.add_payload.Goals as goal
 
-pub returns-then-is_data : goal.returns-then-is_data
-returns-then-is_data c fs head part rest share size fits sized small kept =
-    let payload = c.args.payload.now in
-    let frame = c.add.ensures.payload fs head part rest share size (omega (arith, fits)) (omega (arith, small)) kept.frame in
-    let message = c.add-then-is_data in
-    let offset = frame.offset in
-    let now = frame.size in
-    let both = length-append rest share in
-    let end = c.end_so_far-end.ensures (omega (arith, offset, now, both, size, fits)) in
-    let less = c.saturating_sub.ensures in
-    let own = length-append part payload in
-    let there : c.saturating_sub.result ≡ payload_offset head + length part = omega (arith, end, offset, now, both, size, sized, less, own) in
-    adds_data c.args.self.now fs head message.new.self c.add.new.self c.add-then-is_data-2.new.self part payload rest (rest ++ share)
-    (not-true (is_control head.op) (sym (c.is_data.ensures head frame.head) ∙ c.if-is_data.true)) kept
-    (message.ensures.kept fs part (omega (arith, small, length-append (payload_of (unfinished fs)) part))) message.ensures.op message.ensures.offset frame
-    (λ has. subst (λ (n : ℕ). HasLastPayload c.add-then-is_data-2.new.self (payload_at fs (InFrame head part) ++ placed n payload)) there
-    (c.add-then-is_data-2.ensures (payload_at fs (InFrame head part)) (omega (arith, there, own, sized, fits)) has))
+pub returns-then-not-is_control : goal.returns-then-not-is_control
+returns-then-not-is_control c fs part rest share size fits small kept =
+    let own = kept.frame in
+    let head = c.args.head.now in
+    let message = c.args.self.now.message in
+    let added = c.add-then-not-is_control.ensures in
+    let other : is_control head.op ≡ false = sym c.is_control.ensures ∙ c.if-not-is_control.true in
+    adds_data _ fs head message part c.args.payload.now rest (rest ++ share) other
+    (added.kept fs part (omega (arith, small, length-append (payload_of (unfinished fs)) part)) (subst (KeepsMessage message fs) (part_of_data head part other) kept.message)) (kept.joined other) added.op added.offset
+    (record {
+      offset = own.offset;
+      size = let sum = c.saturating_add-self.ensures in let before = own.size in omega (arith, sum, before, size, fits, length-append rest share);
+      head = own.head;
+      begun = own.begun;
+      last = c.add.ensures part (omega (arith, small)) own.last;
+    })
 
-pub returns-else-is_data : goal.returns-else-is_data
-returns-else-is_data c fs head part rest share size fits sized small kept =
-    let frame = c.add.ensures.payload fs head part rest share size (omega (arith, fits)) (omega (arith, small)) kept.frame in
-    adds_to_control c.args.self.now fs head c.add.new.self part c.args.payload.now rest (rest ++ share) (not-false (is_control head.op) (sym (c.is_data.ensures head frame.head) ∙ c.if-is_data.false)) kept frame
+pub returns-else-not-is_control : goal.returns-else-not-is_control
+returns-else-not-is_control c fs part rest share size fits small kept =
+    let own = kept.frame in
+    let head = c.args.head.now in
+    let control : is_control head.op ≡ true = sym c.is_control.ensures ∙ c.if-not-is_control.false in
+    adds_to_control _ fs head part c.args.payload.now (rest ++ share) control kept.message
+    (record {
+      offset = own.offset;
+      size = let sum = c.saturating_add-self.ensures in let before = own.size in omega (arith, sum, before, size, fits, length-append rest share);
+      head = own.head;
+      begun = own.begun;
+      last = c.add.ensures part (omega (arith, small)) own.last;
+    })

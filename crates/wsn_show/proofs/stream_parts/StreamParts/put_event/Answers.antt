@@ -1,23 +1,25 @@
-use Rattle.std.proofs.Common.{◌≡◌, false, length, sym, ap, ◌∙◌, subst}
-use Rattle.wsn_wire.specs.Frame.{is_control, stream}
-use Rattle.wsn_rules.specs.Heads.{info_of}
-use Rattle.wsn_show.specs.StreamParts.{KeepsMessage}
-use Rattle.wsn_show.proofs.KeptParts.{part_of_data}
+use Rattle.std.proofs.Common.{◌≡◌, Bool, Some, [], ◌∷◌, sym, subst, if◌then◌else◌}
+use Rattle.wsn_rules.specs.declared.detail.Detail.{Detail}
+use Rattle.wsn_rules.specs.Meaning.{event_at}
+use Rattle.wsn_rules.specs.Summary.{is_close}
+use Rattle.wsn_rules.specs.ShownStream.{Item, open_items, event_offset, event_frames}
+use Rattle.wsn_rules.specs.ShownStream.Item.{Event}
+use Rattle.wsn_show.specs.ShownItems.{Prints, items_of_ended}
+use Rattle.wsn_show.proofs.PrintedItems.{prints_both, prints_nothing}
 use Rattle.wsn_show.proofs.stream_parts.StreamParts.put_event.Goals as goal
 
-pub returns-then-is_control : goal.returns-then-is_control
-returns-then-is_control g c role limits fs f rest lawful small kept =
-    let same : info_of (length (stream fs)) f ≡ c.in-Some.head = let both = sym kept.frame.head ∙ c.in-Some.is in cc in
-    let op : f.op ≡ c.in-Some.head.op = ap (λ (h : _). h.op) same in
-    c.put_control.ensures role limits fs f rest lawful (ap is_control op ∙ sym c.is_control.ensures ∙ c.if-is_control.true) op kept
+pub returns-in-Events : goal.returns-in-Events
+returns-in-Events g c role limits fs f part lawful kept e =
+    let context = c.args.context.now in
+    let old = c.args.output.now in
+    let mid = c.put_before_close.new.output in
+    let item : Item = Event (event_offset fs f) (event_at fs f) (event_frames fs f) in
+    let first = subst (λ (close : Bool). Prints context old mid (if close then open_items fs (Some 0) else [])) e.close (c.put_before_close.ensures role limits fs part lawful kept) in
+    let is : item ≡ Event c.args.offset (event_at fs f) c.args.event.now.frames = λ i. Event (sym e.offset_is i) (event_at fs f) (sym e.frames i) in
+    let second = c.put_item.ensures item (event_at fs f, e.represents, e.text, is) in
+    subst (λ (d : Detail). Prints context old c.put_item.new.output (items_of_ended d fs f)) (sym c.in-Events.is)
+    (prints_both context old mid c.put_item.new.output (if is_close f.op then open_items fs (Some 0) else []) (item ∷ []) first second)
 
-pub returns-else-is_control : goal.returns-else-is_control
-returns-else-is_control g c role limits fs f rest lawful small kept =
-    let same : info_of (length (stream fs)) f ≡ c.in-Some.head = let both = sym kept.frame.head ∙ c.in-Some.is in cc in
-    let op : f.op ≡ c.in-Some.head.op = ap (λ (h : _). h.op) same in
-    let other : is_control f.op ≡ false = ap is_control op ∙ sym c.is_control.ensures ∙ c.if-is_control.false in
-    let keeps = subst (KeepsMessage c.args.self.now.message fs) (part_of_data (info_of (length (stream fs)) f) f.payload other) kept.message in
-    c.put_message.ensures role limits fs f lawful other small keeps (kept.joined other)
-
-pub returns-in_default : goal.returns-in_default
-returns-in_default g c role limits fs f rest lawful small kept = absurd (c.in_default.not-Some (info_of (length (stream fs)) f) kept.frame.head)
+pub returns-in-Frames : goal.returns-in-Frames
+returns-in-Frames g c role limits fs f part lawful kept e =
+    subst (λ (d : Detail). Prints c.args.context.now c.args.output.now c.args.output.now (items_of_ended d fs f)) (sym c.in-Frames.is) (prints_nothing c.args.context.now c.args.output.now)

@@ -8,7 +8,7 @@ use Rattle.wsn_show.proofs.stream_parts.StreamParts.put_remainder.Goals as goal
 
 pub returns-then-count-gt0 : goal.returns-then-count-gt0
 returns-then-count-gt0 g c all has =
-    let first = c.args.self.now.frame.first in
+    let first = c.args.self.now.rest in
     let count = has.count in
     let own = c.count.ensures in
     let few = c.args.context.now.style.in_range in

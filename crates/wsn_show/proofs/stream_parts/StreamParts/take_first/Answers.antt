@@ -1,9 +1,8 @@
 use Rattle.std.proofs.Common.{[], ◌∷◌, ◌++◌, sym, subst, arith}
+use Rattle.wsn_rules.proofs.LawfulLists.{lawful_front}
 use Rattle.wsn_scan.specs.Positions.{BetweenFrames}
-use Rattle.wsn_show.specs.declared.stream_parts.StreamParts.{StreamParts}
 use Rattle.wsn_show.specs.ShownItems.{Prints}
-use Rattle.wsn_show.specs.StreamParts.{Keeps}
-use Rattle.wsn_show.proofs.TakenParts.{alone_final, alone_none, alone_kept, alone_last, end_is, ends, shows_first}
+use Rattle.wsn_show.proofs.TakenParts.{alone_final, alone_event, alone_kept, end_is, ends, shows_first}
 use Rattle.wsn_show.proofs.stream_parts.StreamParts.take_first.Goals as goal
 
 pub returns-then-is_event : goal.returns-then-is_event
@@ -13,21 +12,17 @@ returns-then-is_event g c role limits fs frames position rest share since size t
     let payload = c.args.payload.now in
     let message = c.args.self.now.message in
     let mid = c.put_begun.new.output in
-    let new = c.put_whole.new.output in
+    let new = c.put_event.new.output in
     let e = ends role limits fs rest [] part payload share frames position since t c.if-part.true in
+    let f = e.frame in
     let alone = c.is_event.ensures c.if-is_event.true in
-    let final = alone_final role limits fs e.frame part.head payload e.is message alone in
-    let event = c.put_whole.ensures role limits fs e.frame e.is kept.message (alone_none role limits fs e.frame part.head payload e.is message alone kept.message) in
+    let said = c.whole_event-event.ensures in
+    let shown = alone_event role limits fs f part.head payload e.is message alone kept.message context.style.view c.whole_event-event.result context.style.in_range said.op said.bytes said.held said.frames in
+    let event = c.put_event.ensures role limits fs f [] (lawful_front role limits fs (f ∷ []) e.is.lawful) kept.message shown in
     let whole = e.size in
-    let parts : StreamParts = record { message = message; frame = c.end.new.self; last = c.args.self.now.last } in
-    let keeps : Keeps parts (fs ++ e.frame ∷ []) BetweenFrames [] = record {
-      message = alone_kept role limits fs e.frame part.head payload e.is message alone kept.message;
-      joined = tt;
-      frame = c.end.ensures fs (fs ++ e.frame ∷ []) BetweenFrames rest (omega (arith, whole, size)) e.small kept.frame;
-      last = alone_last role limits fs e.frame part.head payload e.is message alone c.args.self.now.last kept.message kept.last;
-    } in
-    shows_first fs part.head frames position since parts context c.args.output.now mid new c.put_begun.ensures
-    (e.shows parts context mid new keeps (subst (Prints context mid new) (sym (end_is context.style.detail fs e.frame final)) event))
+    let keeps = c.next.ensures fs (fs ++ f ∷ []) BetweenFrames rest (omega (arith, whole, size)) e.small kept.frame (alone_kept role limits fs f part.head payload e.is message alone kept.message) in
+    shows_first fs part.head frames position since c.next.new.self context c.args.output.now mid new c.put_begun.ensures
+    (e.shows c.next.new.self context mid new keeps (subst (Prints context mid new) (sym (end_is context.style.detail fs f (alone_final role limits fs f part.head payload e.is message alone))) event))
 
 pub returns-else-part : goal.returns-else-part
 returns-else-part g c role limits fs frames position rest share since size t kept =

@@ -1,5 +1,4 @@
-use Rattle.std.proofs.Common.{◌≡◌, ◌++◌, sym, ap, subst, arith, length-append}
-use Rattle.wsn_rules.specs.declared.head_info.HeadInfo.{HeadInfo}
+use Rattle.std.proofs.Common.{◌++◌, subst, arith, length-append}
 use Rattle.wsn_scan.specs.Positions.{Position}
 use Rattle.wsn_show.specs.StreamParts.{Keeps}
 use Rattle.wsn_show.proofs.TakenParts.{ends, within}
@@ -8,22 +7,17 @@ use Rattle.wsn_show.proofs.stream_parts.StreamParts.take_more.Goals as goal
 pub returns-then-part : goal.returns-then-part
 returns-then-part g c role limits fs frames position rest before share since size t kept =
     let part = c.args.part.now in
-    let payload = c.args.payload.now in
     let small = t.small in
-    let sized = t.sized in
-    let in_all = c.add_payload.ensures fs part.head before rest share size (omega (arith, small, size)) (omega (arith, sized, size)) t.few_bytes kept in
-    let e = ends role limits fs rest before part payload share frames position since t c.if-part.true in
+    let in_all = c.add_payload.ensures fs before rest share size (omega (arith, small, size)) t.few_bytes kept in
+    let e = ends role limits fs rest before part c.args.payload.now share frames position since t c.if-part.true in
     let there = subst (λ (p : Position). Keeps c.add_payload.new.self fs p (rest ++ share)) e.position_is in_all in
-    let final : e.frame.fin ≡ part.head.fin = sym (ap (λ (h : HeadInfo). h.fin) e.is.head_is) in
     let whole = e.size in
     e.shows c.end.new.self c.args.context.now c.args.output.now c.put_end.new.output
-    (c.end.ensures fs e.frame (rest ++ share) final (omega (arith, whole, length-append rest share)) e.small t.few_frames there)
-    (c.put_end.ensures role limits fs e.frame (rest ++ share) e.is.lawful final t.few_frames there)
+    (c.end.ensures fs e.frame (rest ++ share) e.is.head_is (omega (arith, whole, length-append rest share)) e.small t.few_frames there)
+    (c.put_end.ensures role limits fs e.frame (rest ++ share) e.is.lawful e.is.head_is t.few_frames there)
 
 pub returns-else-part : goal.returns-else-part
 returns-else-part g c role limits fs frames position rest before share since size t kept =
-    let part = c.args.part.now in
     let small = t.small in
-    let sized = t.sized in
-    within role limits fs rest before part c.args.payload.now share frames position since t c.if-part.false c.add_payload.new.self c.args.context.now c.args.output.now
-    (c.add_payload.ensures fs part.head before rest share size (omega (arith, small, size)) (omega (arith, sized, size)) t.few_bytes kept)
+    within role limits fs rest before c.args.part.now c.args.payload.now share frames position since t c.if-part.false c.add_payload.new.self c.args.context.now c.args.output.now
+    (c.add_payload.ensures fs before rest share size (omega (arith, small, size)) t.few_bytes kept)

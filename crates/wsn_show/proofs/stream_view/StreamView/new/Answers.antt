@@ -1,5 +1,6 @@
 use Rattle.std.proofs.Common.{[], refl, arith, rules}
 use Rattle.wsn_rules.specs.Limits.{InRange}
+use Rattle.wsn_show.proofs.ShownPieces.{nothing_shown}
 use Rattle.wsn_show.proofs.stream_view.StreamView.new.Goals as goal
 
 pub invariant_of-result : goal.invariant_of-result
@@ -15,7 +16,7 @@ invariant_of-result c = record {
     input = c.input.ensures.value;
     room = let is = c.input-2.ensures.value in omega (arith, is);
     shown = [];
-    has = c.new.ensures c.args.style.detail;
+    has = nothing_shown c.args.style.detail c.args.role c.args.limits c.new.result c.new-2.result c.new.ensures c.new-2.ensures;
   };
 }
 
@@ -27,5 +28,5 @@ returns c = record {
   input = c.input.ensures.value;
   room = let is = c.input-2.ensures.value in omega (arith, is);
   shown = [];
-  has = c.new.ensures c.args.style.detail;
+  has = nothing_shown c.args.style.detail c.args.role c.args.limits c.new.result c.new-2.result c.new.ensures c.new-2.ensures;
 }

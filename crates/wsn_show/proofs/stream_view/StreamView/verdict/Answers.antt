@@ -1,8 +1,10 @@
 use Rattle.std.proofs.Common.{sym, subst}
 use Rattle.wsn_show.specs.StreamViews.{Viewed, HasViewed}
+use Rattle.wsn_show.proofs.StreamsShown.{judged}
 use Rattle.wsn_show.proofs.stream_view.StreamView.verdict.Goals as goal
 
 pub returns : goal.returns
 returns c role limits style came has =
+    let inside = c.self.inside in
     let here = subst (λ (v : Viewed). HasViewed role limits style v came) (sym c.self.view_is) has in
-    c.verdict.ensures style.detail role limits came here.shown here.has
+    judged style.detail role limits inside.scan inside.parts came here.shown c.finish.result (λ bytes rest fs at scanned. c.finish.ensures.verdict role limits bytes rest fs at scanned) c.finish.ensures.reported here.has

@@ -1,0 +1,121 @@
+//! What a scan of a stream completes, call by call.
+
+ghost use Rattle.std.specs.Prelude.{◌≡◌, ℕ, ◌+◌, ◌<◌, ◌≤◌, ◌^◌, List, ◌++◌, length, take, drop, None};
+ghost use Rattle.wsn_wire.specs.Frame.{IsBytes};
+ghost use Rattle.wsn_wire.specs.declared.endpoint.Role.{Role};
+ghost use Rattle.wsn_rules.specs.Limits.{Limits};
+ghost use Rattle.wsn_rules.specs.ShownStream.{Shown};
+ghost use Rattle.wsn_scan.specs.FollowedScans.{IsCall};
+ghost use Rattle.wsn_scan.specs.Scans.{room_of, refusal_in};
+ghost use Rattle.wsn_show.specs.ShownSoFar.{HasShown, HasShownFrames, ShowsMore, IsShowing};
+
+use crate::entry_context::EntryContext;
+use crate::stream_parts::StreamParts;
+use std::io::Write;
+use wsn_io::Output;
+use wsn_scan::{Part, Scan, Taken};
+
+/// Lets the scan consume the piece, and prints what it completes. Bytes after a refusal are kept, but not read.
+pub fn feed<W: Write>(
+    scan: &mut Scan,
+    parts: &mut StreamParts,
+    piece: &mut [u8],
+    output: &mut Output<W>,
+    context: &EntryContext<'_>,
+)
+    requires begun { refusal_in scan.old ≡ None →
+        IsShowing context.now.style.detail scan.old parts.old }
+    requires fits { refusal_in scan.old ≡ None → length piece.old ≤ room_of scan.old }
+    ensures { (role : Role) (limits : Limits) (came : List ℕ) (shown : List Shown) →
+        length came + length piece.old < 2 ^ 64 →
+        HasShown context.now.style.detail role limits scan.old parts.old came shown →
+        ShowsMore role limits scan.new parts.new context.now output.old output.new
+        (came ++ piece.old) shown }
+{
+    match scan.refusal() {
+        Some(_) => parts.rest.add(piece),
+        None => {
+            let read = feed_unrefused(scan, parts, piece, output, context);
+            parts.rest.add(&piece[read..]);
+        }
+    }
+}
+
+/// Lets the scan consume the piece, all of it or the bytes up to a refusal, and prints what it completes. Returns the
+/// number of bytes that it consumed.
+fn feed_unrefused<W: Write>(
+    scan: &mut Scan,
+    parts: &mut StreamParts,
+    piece: &mut [u8],
+    output: &mut Output<W>,
+    context: &EntryContext<'_>,
+) -> usize
+    requires begun { IsShowing context.now.style.detail scan.old parts.old }
+    requires fits { length piece.old ≤ room_of scan.old }
+    ensures within { result ≤ length piece.old }
+    ensures kept { drop result piece.new ≡ drop result piece.old }
+    ensures shows { (role : Role) (limits : Limits) (came : List ℕ) (shown : List Shown) →
+        HasShownFrames context.now.style.detail role limits scan.old parts.old came shown →
+        ShowsMore role limits scan.new parts.new context.now output.old output.new
+        (came ++ take result piece.old) shown }
+    ensures all { refusal_in scan.new ≡ None → result ≡ length piece.old }
+{
+    let mut at = 0;
+    while at < piece.len() {
+        at += step(scan, parts, &mut piece[at..], output, context);
+        if let Some(_) = scan.refusal() {
+            return at;
+        }
+    }
+    at
+}
+
+/// Calls the scan once, and prints what it completes. Returns the number of bytes that it consumed.
+fn step<W: Write>(
+    scan: &mut Scan,
+    parts: &mut StreamParts,
+    piece: &mut [u8],
+    output: &mut Output<W>,
+    context: &EntryContext<'_>,
+) -> usize
+    requires fits { length piece.old ≤ room_of scan.old }
+    requires some { 0 < length piece.old }
+    ensures within { result ≤ length piece.old }
+    ensures kept { drop result piece.new ≡ drop result piece.old }
+    ensures room { room_of scan.new + result ≡ room_of scan.old }
+    ensures shows { (role : Role) (limits : Limits) (came : List ℕ) (shown : List Shown) →
+        HasShownFrames context.now.style.detail role limits scan.old parts.old came shown →
+        ShowsMore role limits scan.new parts.new context.now output.old output.new
+        (came ++ take result piece.old) shown }
+    ensures progress { IsShowing context.now.style.detail scan.old parts.old →
+        refusal_in scan.new ≡ None → 0 < result }
+{
+    let mut part = Part::new();
+    let (count, found) = call(scan, piece, &mut part);
+    let bytes = &piece[..count];
+    match found {
+        Taken::More => parts.add_bytes(bytes),
+        Taken::Closed => parts.add_bytes(bytes),
+        Taken::Part => {
+            parts.take(&part, &bytes[part.start..], count, output, context);
+        }
+        Taken::Refused => {
+            if let Some(refusal) = scan.refusal() {
+                parts.refuse(&refusal, bytes, output, context);
+            }
+        }
+    }
+    count
+}
+
+/// Calls the scan once, and returns how many bytes it consumed and what they are.
+#[inline(always)]
+fn call(scan: &mut Scan, piece: &mut [u8], part: &mut Part) -> (usize, Taken)
+    requires { length piece.old ≤ room_of scan.old }
+    ensures in_bytes { IsBytes piece.old }
+    ensures call { IsBytes piece.old → IsCall scan.old scan.new piece.old piece.new result.0 result.1 part.new }
+    ensures kept { drop result.0 piece.new ≡ drop result.0 piece.old }
+    ensures start { result.1 ≡ Taken.Part → part.new.start ≤ result.0 }
+{
+    scan.next(piece, part)
+}
