@@ -1,6 +1,6 @@
 -- What the value of the object of two streams that differ determines.
-use Rattle.std.proofs.Common.{◌≡◌, ◌≢◌, ℕ, ◌==◌, ◌⊎◌, inl, inr, Bool, true, false, if◌then◌else◌, Option, None, Some, List, ◌++◌, length, codes, refl, sym, ap, ◌∙◌, subst, arith, eqb-true}
-use Rattle.std.specs.Prelude.{flat_map, IfSome}
+use Rattle.std.proofs.Common.{◌≡◌, ◌≢◌, ℕ, ◌==◌, ◌⊎◌, inl, inr, Bool, true, false, if◌then◌else◌, Option, None, Some, List, [], ◌++◌, codes, refl, sym, ap, ◌∙◌, subst, arith, eqb-true}
+use Rattle.std.specs.Prelude.{flat_map, nat_lt, IfSome}
 use Rattle.std.specs.Str.{bytes_eq}
 use Rattle.std.proofs.lemmas.Bool.{cases_Bool}
 use Rattle.std.proofs.lemmas.Bool.Decides.{nat_tests}
@@ -12,22 +12,25 @@ use Rattle.wsn_rules.specs.Meaning.{MeantEvent, Message, Control}
 use Rattle.wsn_rules.specs.ShownStream.{Item}
 use Rattle.wsn_rules.specs.ShownStream.Item.{Head}
 use Rattle.wsn_print.specs.Json.{field, string_field, number_field}
-use Rattle.wsn_shown_text.specs.ShownText.{left_out, offset_of}
+use Rattle.wsn_shown_text.specs.ShownText.{hex_text, seen_text, offset_of}
 use Rattle.wsn_shown_text.specs.ShownObjects.{object_front, item_type}
 use Rattle.wsn_print.specs.ShownParts.Position.{InStream}
-use Rattle.wsn_print.specs.DifferingPayloads.{place_in, view_start, payload_on, part_length, part_at, event_in}
-use Rattle.wsn_shown_text.specs.DifferingText.{ascii_character, ascii_quoted, part_text, left_out_before, view_at, differ_field}
+use Rattle.wsn_print.specs.DifferingPayloads.{place_in, view_start, part_at, event_in}
+use Rattle.wsn_shown_text.specs.DifferingText.{view_at, differ_field}
+use Rattle.wsn_shown_text.specs.AsciiText.{ascii_character, ascii_quoted}
+use Rattle.wsn_shown_text.specs.Views.{view_of_part}
+use Rattle.wsn_shown_text.specs.Views.Shown.{Hex}
 use Rattle.wsn_shown_text.specs.DifferenceText.{event_value, difference_object}
 use Rattle.wsn_shown_text.proofs.DifferingParts.{no_view, view_is}
-use Rattle.wsn_shown_text.proofs.HeldViews.{not_zero}
+use Rattle.wsn_shown_text.proofs.HeldViews.{not_zero, as_view}
 use Rattle.wsn_print_laws.specs.JsonText.{Null, String, Object, Members, Member, IsJsonLine}
 use Rattle.wsn_print_laws.specs.Answers.{IsInU64}
 use Rattle.wsn_print_laws.specs.ShownItems.{IsItemInRange}
 use Rattle.wsn_print_laws.specs.ShownDifferences.{IsDifferenceInRange, IsNoFrame, AreNoFrames, BothLookAlike, HaveLikeViews, DifferAlike}
 use Rattle.wsn_print_laws.proofs.Fields.{number, one_number, one_line}
-use Rattle.wsn_print_laws.proofs.ShownJson.{truncated_json, item_json, offset_fits}
-use Rattle.wsn_print_laws.proofs.ShownReader.{has_more, dots, dash_for_none, more, dash_is, after_first, one_place, look_alike}
-use Rattle.wsn_print_laws.proofs.Differences.{short_json, stream_members, stream_json, part_json, view_members, view_json, start_fits, place_json, IsEventInRange, place_fits, event_fits, differ_json, difference_members, difference_json_line}
+use Rattle.wsn_print_laws.proofs.ShownJson.{view_json, item_json, offset_fits}
+use Rattle.wsn_print_laws.proofs.ShownReader.{has_more, dots, dash_for_none, more_by, dash_is, after_first, one_place, look_alike}
+use Rattle.wsn_print_laws.proofs.Differences.{short_json, stream_members, stream_json, view_members, around_json, start_fits, place_json, IsEventInRange, place_fits, event_fits, differ_json, difference_members, difference_json_line}
 
 -- ---- an item of one of the streams
 
@@ -55,20 +58,22 @@ part_in (Member name (String cs) others) =
     (if bytes_eq name (codes "text") then codes "\"" ++ flat_map ascii_character cs ++ codes "\"" else dash_for_none cs) ++ dots (has_more others)
 part_in _ = codes "-"
 
-part_is : (event : MeantEvent) (part : List ℕ) (shown all : ℕ) → part_in (part_json event part (truncated_json shown all)) ≡ part_text event part ++ left_out shown all
-part_is (Message kinds.Text payload) part shown all = ap (λ (t : Bool). ascii_quoted part ++ dots t) (more shown all)
-part_is (Message kinds.Binary payload) part shown all =
-    ap (λ (t : Bool). dash_for_none (encode_lower part) ++ dots t) (more shown all) ∙ ap (λ (bs : List ℕ). bs ++ left_out shown all) (dash_is part)
-part_is (Control op body) part shown all =
-    ap (λ (t : Bool). dash_for_none (encode_lower part) ++ dots t) (more shown all) ∙ ap (λ (bs : List ℕ). bs ++ left_out shown all) (dash_is part)
+bytes_are : (part : List ℕ) (t : Bool) → part_in (view_json (as_view (Hex part) t)) ≡ hex_text part ++ dots t
+bytes_are part t = ap (λ (t : Bool). dash_for_none (encode_lower part) ++ dots t) (more_by t) ∙ ap (λ (bs : List ℕ). bs ++ dots t) (dash_is part)
 
-seen : (n place : ℕ) (event : MeantEvent) → (n == 0) ≡ false → view_json n place event ≡ Object (view_members n place event)
+part_is : (n place : ℕ) (event : MeantEvent) → part_in (view_json (view_of_part n place event)) ≡ seen_text (view_of_part n place event)
+part_is n place (Message kinds.Text payload) =
+    ap (λ (t : Bool). ascii_quoted (part_at n place (Message kinds.Text payload)) ++ dots t) (more_by (view_of_part n place (Message kinds.Text payload)).more)
+part_is n place (Message kinds.Binary payload) = bytes_are (part_at n place (Message kinds.Binary payload)) (view_of_part n place (Message kinds.Binary payload)).more
+part_is n place (Control op body) = bytes_are (part_at n place (Control op body)) (view_of_part n place (Control op body)).more
+
+seen : (n place : ℕ) (event : MeantEvent) → (n == 0) ≡ false → around_json n place event ≡ Object (view_members n place event)
 seen n place event some = ap (λ (none : Bool). if none then Null else Object (view_members n place event)) some
 
 some_bytes : (n : ℕ) → (n == 0) ≡ false → n ≢ 0
 some_bytes n test none = grind (arith, nat_tests)
 
-one_view : (n place : ℕ) (event other : MeantEvent) → IsInU64 place → IsEventInRange event → IsEventInRange other → view_json n place event ≡ view_json n place other
+one_view : (n place : ℕ) (event other : MeantEvent) → IsInU64 place → IsEventInRange event → IsEventInRange other → around_json n place event ≡ around_json n place other
     → (n ≢ 0 → view_start place event ≡ view_start place other) × (view_at n place event ≡ view_at n place other)
 one_view n place event other fits are also same = elim (cases_Bool (n == 0)) [
   | inl none ↦ (
@@ -92,20 +97,15 @@ one_view n place event other fits are also same = elim (cases_Bool (n == 0)) [
         let numbers : number (view_start place event) ≡ number (view_start place other) = cc in
         one_number (view_start place event) (view_start place other) (start_fits place event fits are) (start_fits place other fits also) numbers
 
-    parts : (n == 0) ≡ false
-        → part_text event (part_at n place event) ++ left_out (part_length n place event) (length (payload_on place event))
-        ≡ part_text other (part_at n place other) ++ left_out (part_length n place other) (length (payload_on place other))
-    parts some =
-        sym (part_is event (part_at n place event) (part_length n place event) (length (payload_on place event)))
-        ∙ ap (λ (m : Members). part_in (after_first m)) (members some)
-        ∙ part_is other (part_at n place other) (part_length n place other) (length (payload_on place other))
+    parts : (n == 0) ≡ false → seen_text (view_of_part n place event) ≡ seen_text (view_of_part n place other)
+    parts some = sym (part_is n place event) ∙ ap (λ (m : Members). part_in (after_first m)) (members some) ∙ part_is n place other
 
     seen_parts : (n == 0) ≡ false → (n ≢ 0 → view_start place event ≡ view_start place other) × (view_at n place event ≡ view_at n place other)
     seen_parts some = (
       λ is. starts some,
       sym (view_is n place event (some_bytes n some))
-          ∙ ap (λ (start : ℕ). left_out_before start ++ (part_text event (part_at n place event) ++ left_out (part_length n place event) (length (payload_on place event)))) (starts some)
-          ∙ ap (λ (bs : List ℕ). left_out_before (view_start place other) ++ bs) (parts some)
+          ∙ ap (λ (start : ℕ). (if nat_lt 0 start then codes ".." else []) ++ seen_text (view_of_part n place event)) (starts some)
+          ∙ ap (λ (bs : List ℕ). (if nat_lt 0 (view_start place other) then codes ".." else []) ++ bs) (parts some)
           ∙ view_is n place other (some_bytes n some),
     )
 
@@ -121,12 +121,12 @@ one_place_in : (n : ℕ) (place other : Option ℕ) (one two another_one another
 one_place_in n None None one two another_one another_two is too fits also a b c d same = (refl, tt, tt)
 one_place_in n (Some place) (Some other) (Some one) (Some two) (Some another_one) (Some another_two) is too fits also a b c d same =
     let numbers : number place ≡ number other = cc in
-    let firsts : view_json n place one ≡ view_json n other another_one = cc in
-    let seconds : view_json n place two ≡ view_json n other another_two = cc in
+    let firsts : around_json n place one ≡ around_json n other another_one = cc in
+    let seconds : around_json n place two ≡ around_json n other another_two = cc in
     let places : place ≡ other = one_number place other fits also numbers in (
       ap Some places,
-      one_view n place one another_one fits a c (firsts ∙ ap (λ (p : ℕ). view_json n p another_one) (sym places)),
-      one_view n place two another_two fits b d (seconds ∙ ap (λ (p : ℕ). view_json n p another_two) (sym places)),
+      one_view n place one another_one fits a c (firsts ∙ ap (λ (p : ℕ). around_json n p another_one) (sym places)),
+      one_view n place two another_two fits b d (seconds ∙ ap (λ (p : ℕ). around_json n p another_two) (sym places)),
     )
 one_place_in n (Some place) None (Some one) (Some two) another_one another_two is too fits also a b c d same = absurd cc
 one_place_in n None (Some other) one two (Some another_one) (Some another_two) is too fits also a b c d same = absurd cc

@@ -1,10 +1,8 @@
 -- The value of the object of two streams that differ, and that the object is JSON with distinct names.
 use Rattle.std.proofs.Common.{◌≡◌, ℕ, ◌+◌, ◌-◌, ◌≤◌, ◌==◌, ◌||◌, Bool, true, false, if◌then◌else◌, Option, None, Some, List, [], ◌∷◌, ◌++◌, length, take, drop, codes, refl, subst, arith, append_assoc}
 use Rattle.std.specs.Prelude.{nat_lt, decimal, IfSome}
-use Rattle.std.specs.Str.{chars}
 use Rattle.std.proofs.lemmas.List.{length-take}
 use Rattle.std.proofs.lemmas.Str.{utf8_valid_len_le}
-use Rattle.hex.specs.Hex.{encode_lower}
 use Rattle.wsn_wire.specs.declared.endpoint.Role.{Role}
 use Rattle.wsn_wire.specs.declared.opcode.Kind.TheVariants as kinds
 use Rattle.wsn_wire.specs.Frame.{IsBytes}
@@ -15,22 +13,22 @@ use Rattle.wsn_print.specs.Json.{field, string_field, number_field}
 use Rattle.wsn_print.specs.ShownParts.{payload_in, text_part}
 use Rattle.wsn_shown_text.specs.QuotedTexts.{ShowsTextReason}
 use Rattle.wsn_shown_text.specs.ShownText.{offset_of}
-use Rattle.wsn_shown_text.specs.ShownObjects.{truncated_field, side_word, item_type, item_fields}
+use Rattle.wsn_shown_text.specs.ShownObjects.{view_fields, side_word, item_type, item_fields}
+use Rattle.wsn_shown_text.specs.Views.{PayloadView, view_of_part}
 use Rattle.wsn_print.specs.ShownParts.Position.{InStream}
-use Rattle.wsn_print.specs.DifferingPayloads.{common_length, place_in, view_start, payload_on, part_length, part_at, event_in}
-use Rattle.wsn_shown_text.specs.DifferingText.{part_field, view_value, place_value, differ_field}
+use Rattle.wsn_print.specs.DifferingPayloads.{common_length, place_in, view_start, payload_on, part_length, event_in}
+use Rattle.wsn_shown_text.specs.DifferingText.{view_value, place_value, differ_field}
 use Rattle.wsn_shown_text.specs.DifferenceText.{event_value, difference_object}
 use Rattle.wsn_shown_text.proofs.TextFronts.{part_is_utf8}
-use Rattle.wsn_print_laws.specs.JsonText.{Value, Null, True, String, Object, Members, End, Member, IsValue, HasDistinctNames, AreDistinct, IsJsonLine, IsObjectLine}
+use Rattle.wsn_print_laws.specs.JsonText.{Value, Null, String, Object, Members, End, Member, IsValue, HasDistinctNames, AreDistinct, IsJsonLine, IsObjectLine}
 use Rattle.wsn_print_laws.specs.Answers.{IsInU64}
 use Rattle.wsn_print_laws.specs.ShownItems.{AreBytesInRange, IsItemInRange}
 use Rattle.wsn_print_laws.specs.ShownDifferences.{IsDifferenceInRange}
 use Rattle.wsn_print_laws.proofs.Distinct.{distinct}
 use Rattle.wsn_print_laws.proofs.Fields.{number}
-use Rattle.wsn_print_laws.proofs.Keys.{plain_digits}
-use Rattle.wsn_print_laws.proofs.Texts.{IsTextOf, AreTextsOf, none, member, last, null_text, number_text, word_text, ascii_text, object_text, typed_text, typed_line}
-use Rattle.wsn_print_laws.proofs.ShownJson.{truncated_json, item_json, placed_json, truncated_texts, take_bytes, drop_bytes, item_texts, plain_side, plain_type, offset_fits}
-use Rattle.wsn_print_laws.proofs.ShownNames.{IsItem, item_is, placed_distinct}
+use Rattle.wsn_print_laws.proofs.Texts.{IsTextOf, AreTextsOf, none, member, last, null_text, number_text, word_text, object_text, typed_text, typed_line}
+use Rattle.wsn_print_laws.proofs.ShownJson.{view_json, item_json, placed_json, IsShownInRange, view_texts, take_bytes, drop_bytes, item_texts, plain_side, plain_type, offset_fits}
+use Rattle.wsn_print_laws.proofs.ShownNames.{new_to, view_names, IsView, view_is, IsItem, item_is, placed_distinct}
 
 -- ---- an item of one of the streams
 
@@ -76,31 +74,21 @@ stream_distinct n role (Some item) = placed_distinct role InStream (offset_of it
 
 -- ---- the view around a place
 
-abbrev pub part_json : MeantEvent → List ℕ → Members → Members
-part_json (Message kinds.Text text) part others = Member (codes "text") (String (chars part)) others
-part_json event part others = Member (codes "hex") (String (encode_lower part)) others
-
 abbrev pub view_members : ℕ → ℕ → MeantEvent → Members
 view_members n place event =
-    Member (codes "from") (number (view_start place event)) (part_json event (part_at n place event) (truncated_json (part_length n place event) (length (payload_on place event))))
+    Member (codes "from") (number (view_start place event)) (view_json (view_of_part n place event))
 
-abbrev pub view_json : ℕ → ℕ → MeantEvent → Value
-view_json n place event = if n == 0 then Null else Object (view_members n place event)
+abbrev pub around_json : ℕ → ℕ → MeantEvent → Value
+around_json n place event = if n == 0 then Null else Object (view_members n place event)
 
 part_bytes : (k j : ℕ) (bytes : List ℕ) → IsBytes bytes → IsBytes (take k (drop j bytes))
 part_bytes k j bytes are = take_bytes k (drop j bytes) (drop_bytes j bytes are)
 
-part_texts : (n place : ℕ) (event : MeantEvent) (others : Members) (text : List ℕ) → IsBytes (payload_in event) → AreTextsOf others text
-    → AreTextsOf (part_json event (part_at n place event) others) (part_field event (part_at n place event) ++ text)
-part_texts n place (Message kinds.Text payload) others text are after =
-    member (codes "text") refl
-    (ascii_text (part_at n place (Message kinds.Text payload)) (part_is_utf8 (place - view_start place (Message kinds.Text payload) + n) (payload_on place (Message kinds.Text payload)))) after
-part_texts n place (Message kinds.Binary payload) others text are after =
-    let part = part_at n place (Message kinds.Binary payload) in
-    member (codes "hex") refl (word_text (encode_lower part) (plain_digits part (part_bytes (part_length n place (Message kinds.Binary payload)) (place - 8) payload are))) after
-part_texts n place (Control op body) others text are after =
-    let part = part_at n place (Control op body) in
-    member (codes "hex") refl (word_text (encode_lower part) (plain_digits part (part_bytes (part_length n place (Control op body)) (place - 8) body are))) after
+part_fits : (n place : ℕ) (event : MeantEvent) → IsBytes (payload_in event) → IsShownInRange (view_of_part n place event).shown
+part_fits n place (Message kinds.Text payload) are =
+    part_is_utf8 (place - view_start place (Message kinds.Text payload) + n) (payload_on place (Message kinds.Text payload))
+part_fits n place (Message kinds.Binary payload) are = part_bytes (part_length n place (Message kinds.Binary payload)) (place - 8) payload are
+part_fits n place (Control op body) are = part_bytes (part_length n place (Control op body)) (place - 8) body are
 
 text_part_fits : (k : ℕ) (text : List ℕ) → IsInU64 (length text) → IsInU64 (text_part k text)
 text_part_fits k text fits = omega (arith, fits, utf8_valid_len_le (take k text), length-take k text)
@@ -110,40 +98,38 @@ start_fits place (Message kinds.Text payload) fits are = text_part_fits (place -
 start_fits place (Message kinds.Binary payload) fits are = omega arith
 start_fits place (Control op body) fits are = omega arith
 
-view_parts : (start part more : List ℕ) → codes "{\"from\":" ++ (start ++ ((part ++ more) ++ codes "}")) ≡ codes "{\"from\":" ++ start ++ part ++ more ++ codes "}"
-view_parts start part more = simp append_assoc
+view_parts : (start view : List ℕ) → codes "{\"from\":" ++ (start ++ (view ++ codes "}")) ≡ codes "{\"from\":" ++ start ++ view ++ codes "}"
+view_parts start view = simp append_assoc
 
-view_text : (n place : ℕ) (event : MeantEvent) → IsInU64 place → AreBytesInRange (payload_in event) → IsTextOf (view_json n place event) (view_value n place event)
+view_text : (n place : ℕ) (event : MeantEvent) → IsInU64 place → AreBytesInRange (payload_in event) → IsTextOf (around_json n place event) (view_value n place event)
 view_text n place event fits are = by (n == 0)
   where
     by : (none : Bool)
         → IsTextOf (if none then Null else Object (view_members n place event))
-        (if none then codes "null" else codes "{\"from\":" ++ decimal (view_start place event) ++ part_field event (part_at n place event) ++ truncated_field (part_length n place event) (length (payload_on place event)) ++ codes "}")
+        (if none then codes "null" else codes "{\"from\":" ++ decimal (view_start place event) ++ view_fields (view_of_part n place event) ++ codes "}")
     by true = null_text
     by false =
-        object_text (codes "from") (codes "{\"from\":" ++ decimal (view_start place event) ++ part_field event (part_at n place event) ++ truncated_field (part_length n place event) (length (payload_on place event)) ++ codes "}") refl
-        (number_text (view_start place event) (start_fits place event fits are))
-        (part_texts n place event (truncated_json (part_length n place event) (length (payload_on place event))) (truncated_field (part_length n place event) (length (payload_on place event))) are.1 (truncated_texts (part_length n place event) (length (payload_on place event))))
-        (view_parts (decimal (view_start place event)) (part_field event (part_at n place event)) (truncated_field (part_length n place event) (length (payload_on place event))))
+        object_text (codes "from") (codes "{\"from\":" ++ decimal (view_start place event) ++ view_fields (view_of_part n place event) ++ codes "}") refl
+        (number_text (view_start place event) (start_fits place event fits are)) (view_texts (view_of_part n place event) (part_fits n place event are.1))
+        (view_parts (decimal (view_start place event)) (view_fields (view_of_part n place event)))
 
-part_distinct : (start : ℕ) (event : MeantEvent) (part : List ℕ) (t : Bool) → AreDistinct (Member (codes "from") (number start) (part_json event part (if t then Member (codes "truncated") True End else End)))
-part_distinct start (Message kinds.Text payload) part true = distinct (Member (codes "from") (number start) (Member (codes "text") (String (chars part)) (Member (codes "truncated") True End))) refl (tt, (tt, (tt, tt)))
-part_distinct start (Message kinds.Text payload) part false = distinct (Member (codes "from") (number start) (Member (codes "text") (String (chars part)) End)) refl (tt, (tt, tt))
-part_distinct start event part true = distinct (Member (codes "from") (number start) (Member (codes "hex") (String (encode_lower part)) (Member (codes "truncated") True End))) refl (tt, (tt, (tt, tt)))
-part_distinct start event part false = distinct (Member (codes "from") (number start) (Member (codes "hex") (String (encode_lower part)) End)) refl (tt, (tt, tt))
+part_distinct : (start : ℕ) (view : PayloadView) → AreDistinct (Member (codes "from") (number start) (view_json view))
+part_distinct start view =
+    let names : IsView (view_json view) = view_is view in
+    (new_to view_names (codes "from") refl (view_json view) names.names, tt, names.are_distinct)
 
-view_distinct : (n place : ℕ) (event : MeantEvent) → HasDistinctNames (view_json n place event)
+view_distinct : (n place : ℕ) (event : MeantEvent) → HasDistinctNames (around_json n place event)
 view_distinct n place event = by (n == 0)
   where
     by : (none : Bool) → HasDistinctNames (if none then Null else Object (view_members n place event))
     by true = tt
-    by false = part_distinct (view_start place event) event (part_at n place event) (nat_lt (part_length n place event) (length (payload_on place event)))
+    by false = part_distinct (view_start place event) (view_of_part n place event)
 
 -- ---- where the payloads differ
 
 abbrev pub place_json : ℕ → Option ℕ → Option MeantEvent → Option MeantEvent → Value
 place_json n (Some place) (Some event) (Some other) =
-    Object (Member (codes "in_payload") (number place) (Member (codes "first") (view_json n place event) (Member (codes "second") (view_json n place other) End)))
+    Object (Member (codes "in_payload") (number place) (Member (codes "first") (around_json n place event) (Member (codes "second") (around_json n place other) End)))
 place_json n place event other = Null
 
 -- The payload of an event is in range.
@@ -186,7 +172,7 @@ place_text n place event other fits one two = null_text
 
 place_distinct : (n : ℕ) (place : Option ℕ) (one two : Option MeantEvent) → HasDistinctNames (place_json n place one two)
 place_distinct n (Some place) (Some event) (Some other) =
-    distinct (Member (codes "in_payload") (number place) (Member (codes "first") (view_json n place event) (Member (codes "second") (view_json n place other) End))) refl
+    distinct (Member (codes "in_payload") (number place) (Member (codes "first") (around_json n place event) (Member (codes "second") (around_json n place other) End))) refl
     (tt, (view_distinct n place event, (view_distinct n place other, tt)))
 place_distinct n place event other = tt
 

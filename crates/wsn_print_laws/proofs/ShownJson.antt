@@ -1,15 +1,13 @@
 -- The value of a shown item's object.
 use Rattle.std.proofs.Common.{◌≡◌, ◌≢◌, ℕ, zero, suc, ◌+◌, ◌*◌, ◌-◌, ◌/◌, ◌<◌, ◌≤◌, ◌==◌, ◌||◌, inl, inr, Bool, true, false, if◌then◌else◌, Option, None, Some, List, [], ◌∷◌, ◌++◌, length, take, drop, codes, refl, sym, ap, ◌∙◌, subst, arith, append_assoc, append-nil}
-use Rattle.std.specs.Prelude.{nat_lt, decimal, IfSome}
+use Rattle.std.specs.Prelude.{nat_lt, decimal, IfSome, ⊤}
 use Rattle.std.specs.List.{AllByRecursion}
 use Rattle.std.specs.Str.{chars, IsUtf8}
 use Rattle.std.proofs.lemmas.Bool.{cases_lt}
 use Rattle.hex.specs.Hex.{encode_lower}
 use Rattle.wsn_wire.specs.declared.endpoint.Role.{Role}
 use Rattle.wsn_wire.specs.declared.endpoint.Role.TheVariants.{Client, Server}
-use Rattle.wsn_wire.specs.declared.opcode.Kind.{Kind}
 use Rattle.wsn_wire.specs.declared.opcode.Kind.TheVariants as kinds
-use Rattle.wsn_wire.specs.declared.opcode.Op.{Op}
 use Rattle.wsn_wire.specs.declared.opcode.Op.TheVariants as ops
 use Rattle.wsn_wire.specs.Frame.{IsBytes}
 use Rattle.wsn_wire.specs.Refusal.{word_of, code_of}
@@ -21,13 +19,16 @@ use Rattle.wsn_rules.specs.ShownStream.Item.{Event, Head, Unfinished, Unfinished
 use Rattle.wsn_print.specs.Fields.{op_word}
 use Rattle.wsn_print.specs.Json.{number_or_null, boolean, field, string_field, number_field, number_or_null_field}
 use Rattle.wsn_print.specs.Objects.{key_value, form_word, head_members}
-use Rattle.wsn_print.specs.ShownParts.{payload_in, HasTextReason, text_part, Position}
+use Rattle.wsn_print.specs.ShownParts.{payload_in, HasTextReason, Position}
 use Rattle.wsn_shown_text.specs.QuotedTexts.{ShowsTextReason}
 use Rattle.wsn_shown_text.specs.CharacterText.{from_character, bytes_before, text_before, leaves_out, shown_bytes, truncated_text, character_object, character_fields}
 use Rattle.wsn_print.specs.EscapedText.{quoted}
-use Rattle.wsn_shown_text.specs.ShownText.{is_printable, event_word, event_size, offset_of}
-use Rattle.wsn_shown_text.specs.ShownObjects.{truncated_field, text_fields, hex_fields, end_fields, body_fields, reason_field, close_fields, event_view_fields, unfinished_view_fields, line_field, side_word, time_key, time_value, event_fields, item_type, item_fields, item_object}
+use Rattle.wsn_shown_text.specs.Views.{Shown, PayloadView, is_printable, view_of_text, view_of_bytes, view_of_end, view_of_close, view_of_event, view_of_unfinished}
+use Rattle.wsn_shown_text.specs.Views.Shown.{Text, Ascii, Hex, Code, NoCode}
+use Rattle.wsn_shown_text.specs.ShownText.{event_word, event_size, offset_of}
+use Rattle.wsn_shown_text.specs.ShownObjects.{truncated_field, reason_field, shown_fields, view_fields, end_fields, line_field, side_word, time_key, time_value, event_fields, item_type, item_fields, item_object}
 use Rattle.wsn_print.specs.ShownParts.Position.{InLine, AtEnd, InStream}
+use Rattle.wsn_shown_text.proofs.HeldViews.{as_view}
 use Rattle.wsn_shown_text.proofs.TextFronts.{part_is_utf8, whole_is_utf8}
 use Rattle.wsn_print_laws.specs.JsonText.{IsNumber, IsInteger, Value, Null, True, Number, String, Object, Members, End, Member, IsJsonLine}
 use Rattle.wsn_print_laws.specs.Answers.{IsInU64}
@@ -39,52 +40,29 @@ use Rattle.wsn_print_laws.proofs.Members.{boolean_json, boolean_is}
 use Rattle.wsn_print_laws.proofs.Verdicts.{code_fits}
 use Rattle.wsn_print_laws.proofs.Keys.{key_json, key_is, key_plain, plain_digits}
 use Rattle.wsn_print_laws.proofs.Heads.{plain_op, plain_form, plain_boolean}
-use Rattle.wsn_print_laws.proofs.Texts.{IsTextOf, AreTextsOf, none, member, same_text, last, null_text, true_text, number_text, word_text, plain_text, quoted_text, object_text, typed_line}
+use Rattle.wsn_print_laws.proofs.Texts.{IsTextOf, AreTextsOf, none, member, same_text, last, null_text, true_text, number_text, word_text, plain_text, quoted_text, ascii_text, object_text, typed_line}
 
 -- ---- views
 
-abbrev pub truncated_json : ℕ → ℕ → Members
-truncated_json shown all = if nat_lt shown all then Member (codes "truncated") True End else End
+abbrev pub reason_json : List ℕ → Members → Members
+reason_json [] others = others
+reason_json (b ∷ reason) others = Member (codes "reason") (String (chars (b ∷ reason))) others
 
-abbrev pub text_json : ℕ → List ℕ → Members
-text_json n text = Member (codes "text") (String (chars (take (text_part n text) text))) (truncated_json (text_part n text) (length text))
+-- What is shown, and the members after it.
+abbrev pub part_json : Shown → Members → Members
+part_json (Text text) others = Member (codes "text") (String (chars text)) others
+part_json (Ascii text) others = Member (codes "text") (String (chars text)) others
+part_json (Hex bytes) others = Member (codes "hex") (String (encode_lower bytes)) others
+part_json (Code code reason) others = Member (codes "code") (number code) (reason_json reason others)
+part_json NoCode others = Member (codes "code") Null others
 
-abbrev pub hex_json : ℕ → List ℕ → Members
-hex_json n bytes = Member (codes "hex") (String (encode_lower (take (n / 2) bytes))) (truncated_json (n / 2) (length bytes))
+abbrev pub view_json : PayloadView → Members
+view_json view = part_json view.shown (if view.more then Member (codes "truncated") True End else End)
 
 -- Evidence, and the members after it.
 abbrev pub end_json : ℕ → List ℕ → Members → Members
 end_json n bytes others =
     Member (codes "hex") (String (encode_lower (drop (length bytes - n / 2) bytes))) (if nat_lt (n / 2) (length bytes) then Member (codes "truncated") True others else others)
-
-abbrev pub body_json : ℕ → List ℕ → Members
-body_json n body = if is_printable body then text_json n body else hex_json n body
-
-abbrev pub reason_json : List ℕ → Members
-reason_json [] = End
-reason_json (b ∷ reason) = Member (codes "reason") (String (chars (b ∷ reason))) End
-
-abbrev pub close_json : ℕ → List ℕ → Members
-close_json n (high ∷ low ∷ reason) =
-    if n == 0 then Member (codes "code") Null (Member (codes "truncated") True End)
-    else Member (codes "code") (number (high * 256 + low)) (reason_json reason)
-close_json n body = Member (codes "code") Null End
-
-abbrev pub control_json : ℕ → Op → List ℕ → Members
-control_json n ops.Close body = close_json n body
-control_json n op body = body_json n body
-
-abbrev pub message_json : ℕ → Kind → List ℕ → Members
-message_json n kinds.Text payload = text_json n payload
-message_json n kinds.Binary payload = hex_json n payload
-
-abbrev pub event_view_json : ℕ → MeantEvent → Members
-event_view_json n (Message kind payload) = message_json n kind payload
-event_view_json n (Control op body) = control_json n op body
-
-abbrev pub unfinished_view_json : ℕ → MeantEvent → Members
-unfinished_view_json n (Message kind payload) = message_json n kind payload
-unfinished_view_json n (Control op body) = hex_json n body
 
 -- ---- bad characters
 
@@ -105,19 +83,19 @@ abbrev pub event_json : List ℕ → ℕ → ℕ → Members → Members
 event_json word bytes frames others = Member (codes "event") (String word) (Member (codes "bytes") (number bytes) (Member (codes "frames") (number frames) others))
 
 abbrev pub item_json : ℕ → Item → Members
-item_json n (Event offset event frames) = event_json (event_word event) (event_size event) frames (event_view_json n event)
+item_json n (Event offset event frames) = event_json (event_word event) (event_size event) frames (view_json (view_of_event n event))
 item_json n (Head h) =
     Member (codes "fin") (boolean_json h.fin) (Member (codes "opcode") (String (op_word h.op))
     (Member (codes "key") (key_json h.key) (Member (codes "length") (number h.len) (Member (codes "form") (String (form_word h.form)) End))))
 item_json n (Unfinished offset event frames lacks) =
-    event_json (event_word event) (event_size event) frames (Member (codes "lacks") (optional_number lacks) (unfinished_view_json n event))
+    event_json (event_word event) (event_size event) frames (Member (codes "lacks") (optional_number lacks) (view_json (view_of_unfinished n event)))
 item_json n (UnfinishedHead offset) =
     event_json (codes "head") 0 0 (Member (codes "lacks") Null (Member (codes "hex") (String (encode_lower [])) End))
 item_json n (RefusedFrame offset refusal evidence character) =
     Member (codes "place") (number refusal.place) (Member (codes "reason") (String (word_of refusal.reason))
     (Member (codes "code") (number (code_of refusal.reason)) (end_json n evidence (character_json n evidence character))))
-item_json n (Unread offset bytes) = Member (codes "bytes") (number (length bytes)) (hex_json n bytes)
-item_json n (Tail offset bytes) = Member (codes "bytes") (number (length bytes)) (hex_json n bytes)
+item_json n (Unread offset bytes) = Member (codes "bytes") (number (length bytes)) (view_json (view_of_bytes n bytes))
+item_json n (Tail offset bytes) = Member (codes "bytes") (number (length bytes)) (view_json (view_of_bytes n bytes))
 
 -- ---- where it is
 
@@ -146,13 +124,6 @@ truncated_by : (t : Bool) → AreTextsOf (if t then Member (codes "truncated") T
 truncated_by true = last (codes "truncated") refl true_text
 truncated_by false = none
 
-pub truncated_texts : (shown all : ℕ) → AreTextsOf (truncated_json shown all) (truncated_field shown all)
-truncated_texts shown all = truncated_by (nat_lt shown all)
-
-text_texts : (n : ℕ) (text : List ℕ) → AreTextsOf (text_json n text) (text_fields n text)
-text_texts n text =
-    member (codes "text") refl (quoted_text (take (text_part n text) text) (part_is_utf8 n text)) (truncated_texts (text_part n text) (length text))
-
 pub take_bytes : (n : ℕ) (bytes : List ℕ) → IsBytes bytes → IsBytes (take n bytes)
 take_bytes zero bytes are = tt
 take_bytes (suc n) [] are = tt
@@ -163,21 +134,17 @@ drop_bytes zero bytes are = are
 drop_bytes (suc n) [] are = tt
 drop_bytes (suc n) (b ∷ bytes) are = drop_bytes n bytes are.1
 
-hex_texts : (n : ℕ) (bytes : List ℕ) → IsBytes bytes → AreTextsOf (hex_json n bytes) (hex_fields n bytes)
-hex_texts n bytes are =
-    member (codes "hex") refl (word_text (encode_lower (take (n / 2) bytes)) (plain_digits (take (n / 2) bytes) (take_bytes (n / 2) bytes are))) (truncated_texts (n / 2) (length bytes))
-
 truncated_before : (t : Bool) (others : Members) (text : List ℕ) → AreTextsOf others text
     → AreTextsOf (if t then Member (codes "truncated") True others else others) ((if t then codes ",\"truncated\":true" else []) ++ text)
 truncated_before true others text are = member (codes "truncated") refl true_text are
 truncated_before false others text are = are
 
-end_texts : (n : ℕ) (bytes : List ℕ) (others : Members) (text : List ℕ) → IsBytes bytes → AreTextsOf others text → AreTextsOf (end_json n bytes others) (end_fields n bytes ++ text)
+end_texts : (n : ℕ) (bytes : List ℕ) (others : Members) (text : List ℕ) → IsBytes bytes → AreTextsOf others text → AreTextsOf (end_json n bytes others) (end_fields (view_of_end n bytes) ++ text)
 end_texts n bytes others text are after =
-    same_text (end_fields n bytes ++ text)
+    same_text (end_fields (view_of_end n bytes) ++ text)
     (member (codes "hex") refl (word_text (encode_lower (drop (length bytes - n / 2) bytes)) (plain_digits (drop (length bytes - n / 2) bytes) (drop_bytes (length bytes - n / 2) bytes are)))
     (truncated_before (nat_lt (n / 2) (length bytes)) others text after))
-    (sym (append_assoc (string_field (codes "hex") (encode_lower (drop (length bytes - n / 2) bytes))) (truncated_field (n / 2) (length bytes)) text))
+    (sym (append_assoc (string_field (codes "hex") (encode_lower (drop (length bytes - n / 2) bytes))) (truncated_field (nat_lt (n / 2) (length bytes))) text))
 
 shown_are_bytes : (none : Bool) (bytes : List ℕ) → IsBytes bytes → IsBytes (if none then [] else bytes)
 shown_are_bytes true bytes are = tt
@@ -203,40 +170,58 @@ character_texts : (n : ℕ) (evidence : List ℕ) (character : Option BadCharact
 character_texts n evidence None fits = none
 character_texts n evidence (Some character) fits = last (codes "character") refl (character_text n evidence character fits)
 
-either : (t : Bool) (m other : Members) (text other_text : List ℕ) → AreTextsOf m text → AreTextsOf other other_text → AreTextsOf (if t then m else other) (if t then text else other_text)
-either true m other text other_text one two = one
-either false m other text other_text one two = two
+reason_texts : (reason : List ℕ) (others : Members) (text : List ℕ) → IsUtf8 reason → AreTextsOf others text → AreTextsOf (reason_json reason others) (reason_field reason ++ text)
+reason_texts [] others text utf8 are = are
+reason_texts (b ∷ reason) others text utf8 are = member (codes "reason") refl (quoted_text (b ∷ reason) utf8) are
 
-body_texts : (n : ℕ) (body : List ℕ) → IsBytes body → AreTextsOf (body_json n body) (body_fields n body)
-body_texts n body are = either (is_printable body) (text_json n body) (hex_json n body) (text_fields n body) (hex_fields n body) (text_texts n body) (hex_texts n body are)
+-- What is quoted is UTF-8, and bytes and numbers are in range.
+abbrev pub IsShownInRange : Shown → Type 0
+IsShownInRange (Text text) = IsUtf8 text
+IsShownInRange (Ascii text) = IsUtf8 text
+IsShownInRange (Hex bytes) = IsBytes bytes
+IsShownInRange (Code code reason) = IsInU64 code × IsUtf8 reason
+IsShownInRange NoCode = ⊤
 
-reason_texts : (reason : List ℕ) → IsUtf8 reason → AreTextsOf (reason_json reason) (reason_field reason)
-reason_texts [] utf8 = none
-reason_texts (b ∷ reason) utf8 = last (codes "reason") refl (quoted_text (b ∷ reason) utf8)
+part_texts : (shown : Shown) (others : Members) (text : List ℕ) → IsShownInRange shown → AreTextsOf others text → AreTextsOf (part_json shown others) (shown_fields shown ++ text)
+part_texts (Text shown) others text fits are = member (codes "text") refl (quoted_text shown fits) are
+part_texts (Ascii shown) others text fits are = member (codes "text") refl (ascii_text shown fits) are
+part_texts (Hex bytes) others text fits are = member (codes "hex") refl (word_text (encode_lower bytes) (plain_digits bytes fits)) are
+part_texts (Code code reason) others text fits are =
+    same_text (shown_fields (Code code reason) ++ text)
+    (member (codes "code") refl (number_text code fits.0) (reason_texts reason others text fits.1 are))
+    (sym (append_assoc (number_field (codes "code") code) (reason_field reason) text))
+part_texts NoCode others text fits are = member (codes "code") refl null_text are
 
-close_texts : (n : ℕ) (body : List ℕ) → IsBytes body → IsUtf8 (drop 2 body) → AreTextsOf (close_json n body) (close_fields n body)
-close_texts n [] are utf8 = last (codes "code") refl null_text
-close_texts n (b ∷ []) are utf8 = last (codes "code") refl null_text
-close_texts n (high ∷ low ∷ reason) are utf8 =
-    let fits : IsInU64 (high * 256 + low) = code_small high low are.0 are.1.0 in
-    either (n == 0) (Member (codes "code") Null (Member (codes "truncated") True End)) (Member (codes "code") (number (high * 256 + low)) (reason_json reason))
-    (codes ",\"code\":null,\"truncated\":true") (number_field (codes "code") (high * 256 + low) ++ reason_field reason)
-    (member (codes "code") refl null_text (last (codes "truncated") refl true_text))
-    (member (codes "code") refl (number_text (high * 256 + low) fits) (reason_texts reason utf8))
+pub view_texts : (view : PayloadView) → IsShownInRange view.shown → AreTextsOf (view_json view) (view_fields view)
+view_texts view fits =
+    part_texts view.shown (if view.more then Member (codes "truncated") True End else End) (truncated_field view.more) fits (truncated_by view.more)
+
+body_by : (n : ℕ) (t : Bool) (body : List ℕ) → IsBytes body → IsShownInRange (if t then view_of_text n body else view_of_bytes n body).shown
+body_by n true body are = part_is_utf8 n body
+body_by n false body are = take_bytes (n / 2) body are
+
+close_by : (code : ℕ) (reason : List ℕ) (t : Bool) → IsInU64 code → IsUtf8 reason → IsShownInRange (if t then as_view NoCode true else as_view (Code code reason) false).shown
+close_by code reason true fits utf8 = tt
+close_by code reason false fits utf8 = (fits, utf8)
+
+close_fits : (n : ℕ) (body : List ℕ) → IsBytes body → IsUtf8 (drop 2 body) → IsShownInRange (view_of_close n body).shown
+close_fits n [] are utf8 = tt
+close_fits n (b ∷ []) are utf8 = tt
+close_fits n (high ∷ low ∷ reason) are utf8 = close_by (high * 256 + low) reason (n == 0) (code_small high low are.0 are.1.0) utf8
   where
     code_small : (high low : ℕ) → high < 256 → low < 256 → IsInU64 (high * 256 + low)
     code_small high low one two = omega arith
 
-view_texts : (n : ℕ) (event : MeantEvent) → IsBytes (payload_in event) → HasTextReason event → AreTextsOf (event_view_json n event) (event_view_fields n event)
-view_texts n (Message kinds.Text payload) are reason = text_texts n payload
-view_texts n (Message kinds.Binary payload) are reason = hex_texts n payload are
-view_texts n (Control ops.Close body) are reason = close_texts n body are reason
-view_texts n (Control op body) are reason = body_texts n body are
+event_fits : (n : ℕ) (event : MeantEvent) → IsBytes (payload_in event) → HasTextReason event → IsShownInRange (view_of_event n event).shown
+event_fits n (Message kinds.Text payload) are reason = part_is_utf8 n payload
+event_fits n (Message kinds.Binary payload) are reason = take_bytes (n / 2) payload are
+event_fits n (Control ops.Close body) are reason = close_fits n body are reason
+event_fits n (Control op body) are reason = body_by n (is_printable body) body are
 
-unfinished_texts : (n : ℕ) (event : MeantEvent) → IsBytes (payload_in event) → AreTextsOf (unfinished_view_json n event) (unfinished_view_fields n event)
-unfinished_texts n (Message kinds.Text payload) are = text_texts n payload
-unfinished_texts n (Message kinds.Binary payload) are = hex_texts n payload are
-unfinished_texts n (Control op body) are = hex_texts n body are
+unfinished_fits : (n : ℕ) (event : MeantEvent) → IsBytes (payload_in event) → IsShownInRange (view_of_unfinished n event).shown
+unfinished_fits n (Message kinds.Text payload) are = part_is_utf8 n payload
+unfinished_fits n (Message kinds.Binary payload) are = take_bytes (n / 2) payload are
+unfinished_fits n (Control op body) are = take_bytes (n / 2) body are
 
 -- ---- texts of items
 
@@ -278,7 +263,7 @@ refused_whole a b c d e = simp append_assoc
 
 pub item_texts : (n : ℕ) (item : Item) → IsItemInRange item → ShowsTextReason item → AreTextsOf (item_json n item) (fields_of n item)
 item_texts n (Event offset event frames) fits reason =
-    event_texts (event_word event) (event_size event) frames (event_view_json n event) (event_view_fields n event) (plain_event event) (size_fits event fits.2.0) fits.1 (view_texts n event fits.2.1 reason)
+    event_texts (event_word event) (event_size event) frames (view_json (view_of_event n event)) (view_fields (view_of_event n event)) (plain_event event) (size_fits event fits.2.0) fits.1 (view_texts (view_of_event n event) (event_fits n event fits.2.1 reason))
 item_texts n (Head h) fits reason =
     same_text (head_members h)
     (member (codes "fin") refl (plain_text (boolean_json h.fin) (boolean h.fin) (plain_boolean h.fin) (boolean_is h.fin).is)
@@ -289,9 +274,9 @@ item_texts n (Head h) fits reason =
     (five (field (codes "fin") (boolean h.fin)) (string_field (codes "opcode") (op_word h.op)) (field (codes "key") (key_value h.key)) (number_field (codes "length") h.len) (string_field (codes "form") (form_word h.form)))
 item_texts n (Unfinished offset event frames lacks) fits reason =
     same_text (item_fields n (Unfinished offset event frames lacks))
-    (event_texts (event_word event) (event_size event) frames (Member (codes "lacks") (optional_number lacks) (unfinished_view_json n event)) (number_or_null_field (codes "lacks") lacks ++ unfinished_view_fields n event)
-    (plain_event event) (size_fits event fits.2.0) fits.1 (member (codes "lacks") refl (optional_text lacks fits.3) (unfinished_texts n event fits.2.1)))
-    (sym (append_assoc (event_fields (event_word event) (event_size event) frames) (number_or_null_field (codes "lacks") lacks) (unfinished_view_fields n event)))
+    (event_texts (event_word event) (event_size event) frames (Member (codes "lacks") (optional_number lacks) (view_json (view_of_unfinished n event))) (number_or_null_field (codes "lacks") lacks ++ view_fields (view_of_unfinished n event))
+    (plain_event event) (size_fits event fits.2.0) fits.1 (member (codes "lacks") refl (optional_text lacks fits.3) (view_texts (view_of_unfinished n event) (unfinished_fits n event fits.2.1))))
+    (sym (append_assoc (event_fields (event_word event) (event_size event) frames) (number_or_null_field (codes "lacks") lacks) (view_fields (view_of_unfinished n event))))
 item_texts n (UnfinishedHead offset) fits reason =
     same_text (item_fields n (UnfinishedHead offset))
     (event_texts (codes "head") 0 0 (Member (codes "lacks") Null (Member (codes "hex") (String (encode_lower [])) End)) (number_or_null_field (codes "lacks") None ++ string_field (codes "hex") (encode_lower []))
@@ -302,9 +287,9 @@ item_texts n (RefusedFrame offset refusal evidence character) fits reason =
     (member (codes "place") refl (number_text refusal.place fits.1) (member (codes "reason") refl (word_text (word_of refusal.reason) (plain_reason refusal.reason))
     (member (codes "code") refl (number_text (code_of refusal.reason) (code_fits refusal.reason))
     (end_texts n evidence (character_json n evidence character) (character_fields n evidence character) fits.2.1 (character_texts n evidence character fits.3)))))
-    (refused_whole (number_field (codes "place") refusal.place) (string_field (codes "reason") (word_of refusal.reason)) (number_field (codes "code") (code_of refusal.reason)) (end_fields n evidence) (character_fields n evidence character))
-item_texts n (Unread offset bytes) fits reason = member (codes "bytes") refl (number_text (length bytes) fits.1.0) (hex_texts n bytes fits.1.1)
-item_texts n (Tail offset bytes) fits reason = member (codes "bytes") refl (number_text (length bytes) fits.1.0) (hex_texts n bytes fits.1.1)
+    (refused_whole (number_field (codes "place") refusal.place) (string_field (codes "reason") (word_of refusal.reason)) (number_field (codes "code") (code_of refusal.reason)) (end_fields (view_of_end n evidence)) (character_fields n evidence character))
+item_texts n (Unread offset bytes) fits reason = member (codes "bytes") refl (number_text (length bytes) fits.1.0) (view_texts (view_of_bytes n bytes) (take_bytes (n / 2) bytes fits.1.1))
+item_texts n (Tail offset bytes) fits reason = member (codes "bytes") refl (number_text (length bytes) fits.1.0) (view_texts (view_of_bytes n bytes) (take_bytes (n / 2) bytes fits.1.1))
 
 -- ---- times
 

@@ -1,20 +1,19 @@
 -- The names in a shown item's object are distinct.
-use Rattle.std.proofs.Common.{◌≡◌, ◌≢◌, ℕ, ◌+◌, ◌*◌, ◌/◌, ◌==◌, Bool, true, false, ◌||◌, if◌then◌else◌, None, Some, List, [], ◌∷◌, ◌-◌, length, take, drop, codes, refl, sym, ap, ◌∙◌}
+use Rattle.std.proofs.Common.{◌≡◌, ◌≢◌, ℕ, ◌/◌, ◌==◌, Bool, true, false, ◌||◌, if◌then◌else◌, None, Some, List, [], ◌∷◌, ◌-◌, length, drop, codes, refl, sym, ap, ◌∙◌}
 use Rattle.std.specs.Prelude.{nat_lt, ⊤}
 use Rattle.std.specs.Str.{chars, bytes_eq}
 use Rattle.wsn_wire.specs.declared.endpoint.Role.{Role}
-use Rattle.wsn_wire.specs.declared.opcode.Kind.TheVariants as kinds
-use Rattle.wsn_wire.specs.declared.opcode.Op.TheVariants as ops
 use Rattle.hex.specs.Hex.{encode_lower}
 use Rattle.wsn_wire.specs.Refusal.{word_of, code_of}
 use Rattle.wsn_rules.specs.BadCharacter.{BadCharacter}
-use Rattle.wsn_rules.specs.Meaning.{MeantEvent, Message, Control}
 use Rattle.wsn_rules.specs.ShownStream.{Item}
 use Rattle.wsn_rules.specs.ShownStream.Item.{Event, Head, Unfinished, UnfinishedHead, RefusedFrame, Unread, Tail}
 use Rattle.wsn_shown_text.specs.QuotedTexts.{ShowsTextReason}
 use Rattle.wsn_shown_text.specs.CharacterText.{text_before, leaves_out, shown_bytes}
-use Rattle.wsn_print.specs.ShownParts.{text_part, Position}
-use Rattle.wsn_shown_text.specs.ShownText.{is_printable, event_word, event_size, offset_of}
+use Rattle.wsn_print.specs.ShownParts.{Position}
+use Rattle.wsn_shown_text.specs.Views.{Shown, PayloadView, view_of_bytes, view_of_event, view_of_unfinished}
+use Rattle.wsn_shown_text.specs.Views.Shown.{Text, Ascii, Hex, Code, NoCode}
+use Rattle.wsn_shown_text.specs.ShownText.{event_word, event_size, offset_of}
 use Rattle.wsn_shown_text.specs.ShownObjects.{side_word, item_type, item_object}
 use Rattle.wsn_print.specs.ShownParts.Position.{InLine, AtEnd, InStream}
 use Rattle.wsn_print_laws.specs.JsonText.{Value, Null, True, Number, String, Object, Members, End, Member, IsNew, HasDistinctNames, AreDistinct, IsObjectLine}
@@ -22,7 +21,7 @@ use Rattle.wsn_print_laws.specs.ShownItems.{IsPositionInRange, IsItemInRange}
 use Rattle.wsn_print_laws.proofs.Fields.{number, optional_number, optional_distinct}
 use Rattle.wsn_print_laws.proofs.Distinct.{differ, distinct}
 use Rattle.wsn_print_laws.proofs.ObjectLines.{boolean_distinct, key_distinct}
-use Rattle.wsn_print_laws.proofs.ShownJson.{character_members, text_json, hex_json, body_json, reason_json, close_json, event_view_json, unfinished_view_json, event_json, item_json, placed_json, shown_json, shown_line}
+use Rattle.wsn_print_laws.proofs.ShownJson.{character_members, part_json, view_json, event_json, item_json, placed_json, shown_json, shown_line}
 
 -- ---- names among some
 
@@ -35,7 +34,7 @@ AreAmong names End = ⊤
 AreAmong names (Member name value others) = (is_among name names ≡ true) × AreAmong names others
 
 -- A name that isn't among them is new to members whose names are.
-new_to : (names : List (List ℕ)) (name : List ℕ) → is_among name names ≡ false → (m : Members) → AreAmong names m → IsNew name m
+pub new_to : (names : List (List ℕ)) (name : List ℕ) → is_among name names ≡ false → (m : Members) → AreAmong names m → IsNew name m
 new_to names name none End are = tt
 new_to names name none (Member other value others) are =
     (λ same. different (sym none ∙ ap (λ (n : List ℕ). is_among n names) same ∙ are.0), new_to names name none others are.1)
@@ -58,42 +57,27 @@ shown_by : (t : Bool) (value : Value) → HasDistinctNames value → (name : Lis
 shown_by true value is name among other = record { names = (among, (refl, tt)); are_distinct = ((other, tt), is, (tt, tt, tt)) }
 shown_by false value is name among other = record { names = (among, tt); are_distinct = (tt, is, tt) }
 
-either : (t : Bool) (m other : Members) → IsView m → IsView other → IsView (if t then m else other)
-either true m other one two = one
-either false m other one two = two
+code_by : (code : ℕ) (reason : List ℕ) (t : Bool) → IsView (part_json (Code code reason) (if t then Member (codes "truncated") True End else End))
+code_by code [] t = shown_by t (number code) tt (codes "code") refl (differ (codes "code") (codes "truncated") refl)
+code_by code (b ∷ reason) true = record {
+  names = (refl, (refl, (refl, tt)));
+  are_distinct = (
+    (differ (codes "code") (codes "reason") refl, (differ (codes "code") (codes "truncated") refl, tt)),
+    tt,
+    ((differ (codes "reason") (codes "truncated") refl, tt), tt, (tt, tt, tt)),
+  );
+}
+code_by code (b ∷ reason) false = record { names = (refl, (refl, tt)); are_distinct = ((differ (codes "code") (codes "reason") refl, tt), tt, (tt, tt, tt)) }
 
-text_names : (n : ℕ) (text : List ℕ) → IsView (text_json n text)
-text_names n text =
-    shown_by (nat_lt (text_part n text) (length text)) (String (chars (take (text_part n text) text))) tt (codes "text") refl (differ (codes "text") (codes "truncated") refl)
+part_names : (shown : Shown) (t : Bool) → IsView (part_json shown (if t then Member (codes "truncated") True End else End))
+part_names (Text text) t = shown_by t (String (chars text)) tt (codes "text") refl (differ (codes "text") (codes "truncated") refl)
+part_names (Ascii text) t = shown_by t (String (chars text)) tt (codes "text") refl (differ (codes "text") (codes "truncated") refl)
+part_names (Hex bytes) t = shown_by t (String (encode_lower bytes)) tt (codes "hex") refl (differ (codes "hex") (codes "truncated") refl)
+part_names (Code code reason) t = code_by code reason t
+part_names NoCode t = shown_by t Null tt (codes "code") refl (differ (codes "code") (codes "truncated") refl)
 
-hex_names : (n : ℕ) (bytes : List ℕ) → IsView (hex_json n bytes)
-hex_names n bytes = shown_by (nat_lt (n / 2) (length bytes)) (String (encode_lower (take (n / 2) bytes))) tt (codes "hex") refl (differ (codes "hex") (codes "truncated") refl)
-
-reason_by : (code : ℕ) (reason : List ℕ) → IsView (Member (codes "code") (number code) (reason_json reason))
-reason_by code [] = record { names = (refl, tt); are_distinct = (tt, tt, tt) }
-reason_by code (b ∷ reason) = record { names = (refl, (refl, tt)); are_distinct = ((differ (codes "code") (codes "reason") refl, tt), tt, (tt, tt, tt)) }
-
-close_names : (n : ℕ) (body : List ℕ) → IsView (close_json n body)
-close_names n [] = record { names = (refl, tt); are_distinct = (tt, tt, tt) }
-close_names n (b ∷ []) = record { names = (refl, tt); are_distinct = (tt, tt, tt) }
-close_names n (high ∷ low ∷ reason) =
-    either (n == 0) (Member (codes "code") Null (Member (codes "truncated") True End)) (Member (codes "code") (number (high * 256 + low)) (reason_json reason))
-    (record { names = (refl, (refl, tt)); are_distinct = ((differ (codes "code") (codes "truncated") refl, tt), tt, (tt, tt, tt)) })
-    (reason_by (high * 256 + low) reason)
-
-body_names : (n : ℕ) (body : List ℕ) → IsView (body_json n body)
-body_names n body = either (is_printable body) (text_json n body) (hex_json n body) (text_names n body) (hex_names n body)
-
-view_is : (n : ℕ) (event : MeantEvent) → IsView (event_view_json n event)
-view_is n (Message kinds.Text payload) = text_names n payload
-view_is n (Message kinds.Binary payload) = hex_names n payload
-view_is n (Control ops.Close body) = close_names n body
-view_is n (Control op body) = body_names n body
-
-unfinished_is : (n : ℕ) (event : MeantEvent) → IsView (unfinished_view_json n event)
-unfinished_is n (Message kinds.Text payload) = text_names n payload
-unfinished_is n (Message kinds.Binary payload) = hex_names n payload
-unfinished_is n (Control op body) = hex_names n body
+pub view_is : (view : PayloadView) → IsView (view_json view)
+view_is view = part_names view.shown view.more
 
 -- ---- items
 
@@ -200,13 +184,13 @@ refused_with false place code word digits members are = record {
 }
 
 pub item_is : (n : ℕ) (item : Item) → IsItem (item_json n item)
-item_is n (Event offset event frames) = event_names (event_word event) (event_size event) frames (event_view_json n event) (view_is n event)
+item_is n (Event offset event frames) = event_names (event_word event) (event_size event) frames (view_json (view_of_event n event)) (view_is (view_of_event n event))
 item_is n (Head h) = record {
   names = (refl, (refl, (refl, (refl, (refl, tt)))));
   are_distinct = distinct (item_json n (Head h)) refl (boolean_distinct h.fin, (tt, (key_distinct h.key, (tt, (tt, tt)))));
 }
 item_is n (Unfinished offset event frames lacks) =
-    lacking_names (event_word event) (event_size event) frames (optional_number lacks) (unfinished_view_json n event) (optional_distinct lacks) (unfinished_is n event)
+    lacking_names (event_word event) (event_size event) frames (optional_number lacks) (view_json (view_of_unfinished n event)) (optional_distinct lacks) (view_is (view_of_unfinished n event))
 item_is n (UnfinishedHead offset) = record {
   names = (refl, (refl, (refl, (refl, (refl, tt)))));
   are_distinct = distinct (item_json n (UnfinishedHead offset)) refl (tt, (tt, (tt, (tt, (tt, tt)))));
@@ -216,8 +200,8 @@ item_is n (RefusedFrame offset refusal evidence None) =
 item_is n (RefusedFrame offset refusal evidence (Some character)) =
     refused_with (nat_lt (n / 2) (length evidence)) refusal.place (code_of refusal.reason) (word_of refusal.reason) (encode_lower (drop (length evidence - n / 2) evidence))
     (character_members n evidence character) (character_names n evidence character)
-item_is n (Unread offset bytes) = before_view (codes "bytes") (number (length bytes)) (hex_json n bytes) refl refl tt (hex_names n bytes)
-item_is n (Tail offset bytes) = before_view (codes "bytes") (number (length bytes)) (hex_json n bytes) refl refl tt (hex_names n bytes)
+item_is n (Unread offset bytes) = before_view (codes "bytes") (number (length bytes)) (view_json (view_of_bytes n bytes)) refl refl tt (view_is (view_of_bytes n bytes))
+item_is n (Tail offset bytes) = before_view (codes "bytes") (number (length bytes)) (view_json (view_of_bytes n bytes)) refl refl tt (view_is (view_of_bytes n bytes))
 
 -- ---- the whole
 

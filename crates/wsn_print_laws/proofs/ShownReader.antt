@@ -1,10 +1,8 @@
 -- What the value of a shown item's object determines: where it is, and the item up to its view.
-use Rattle.std.proofs.Common.{◌≡◌, ℕ, ◌+◌, ◌*◌, ◌-◌, ◌/◌, ◌≤◌, ◌==◌, inl, inr, Bool, true, false, ◌&&◌, ◌||◌, if◌then◌else◌, Option, None, Some, List, [], ◌∷◌, ◌++◌, length, take, drop, codes, refl, sym, ap, ◌∙◌, subst, arith, eqb-true}
+use Rattle.std.proofs.Common.{◌≡◌, ℕ, ◌+◌, ◌*◌, ◌-◌, ◌/◌, ◌==◌, inl, inr, Bool, true, false, ◌&&◌, ◌||◌, if◌then◌else◌, Option, None, Some, List, [], ◌∷◌, ◌++◌, length, take, drop, codes, refl, sym, ap, ◌∙◌, subst, append-nil}
 use Rattle.std.specs.Prelude.{decimal, nat_lt, flat_map, IfSome}
 use Rattle.std.proofs.lemmas.Bool.{cases_Bool}
 use Rattle.std.specs.Str.{chars, bytes_eq}
-use Rattle.std.specs.Str.Lossy.{utf8_valid_len}
-use Rattle.std.proofs.lemmas.Str.{utf8_valid_len_le}
 use Rattle.hex.specs.Hex.{encode_with, encode_lower}
 use Rattle.wsn_wire.specs.declared.endpoint.Role.{Role}
 use Rattle.wsn_wire.specs.declared.endpoint.Role.TheVariants.{Client, Server}
@@ -19,10 +17,12 @@ use Rattle.wsn_print.specs.ShownParts.{payload_in, text_part, Position}
 use Rattle.wsn_shown_text.specs.QuotedTexts.{ShowsTextReason}
 use Rattle.wsn_shown_text.specs.CharacterText.{text_before, leaves_out, shown_bytes, byte_escape, character_view}
 use Rattle.wsn_print.specs.EscapedText.{quoted_character}
-use Rattle.wsn_shown_text.specs.ShownText.{text_view, hex_text, hex_view, end_view, is_printable, reason_text, close_view, event_view, unfinished_view, event_word, event_size, offset_of}
+use Rattle.wsn_shown_text.specs.ShownText.{hex_text, hex_view, end_view, reason_text, view_text, event_view, unfinished_view, event_word, event_size, offset_of}
 use Rattle.wsn_shown_text.specs.ShownObjects.{side_word, item_type, item_object}
 use Rattle.wsn_print.specs.ShownParts.Position.{InLine, AtEnd, InStream}
-use Rattle.wsn_shown_text.proofs.HeldViews.{not_zero}
+use Rattle.wsn_shown_text.specs.Views.{is_printable, view_of_text, view_of_bytes, view_of_close, view_of_event, view_of_unfinished}
+use Rattle.wsn_shown_text.specs.Views.Shown.{Code, NoCode}
+use Rattle.wsn_shown_text.proofs.HeldViews.{not_zero, as_view}
 use Rattle.wsn_print_laws.specs.JsonText.{Null, True, Number, String, Members, End, Member, IsJsonLine}
 use Rattle.wsn_print_laws.specs.Answers.{IsInU64}
 use Rattle.wsn_print_laws.specs.ShownItems.{IsPositionInRange, AreBytesInRange, IsCharacterInRange, IsItemInRange, AreAlike, HaveLikeCharacters, LookAlike}
@@ -32,7 +32,7 @@ use Rattle.wsn_print_laws.proofs.Keys.{one_bytes}
 use Rattle.wsn_print_laws.proofs.Words.{one_reason}
 use Rattle.wsn_print_laws.proofs.Verdicts.{refusal_same}
 use Rattle.wsn_print_laws.proofs.Heads.{one_head}
-use Rattle.wsn_print_laws.proofs.ShownJson.{character_members, character_json, truncated_json, text_json, hex_json, end_json, reason_json, close_json, event_view_json, unfinished_view_json, event_json, item_json, placed_json, shown_json, shown_value, shown_line, offset_fits, size_fits}
+use Rattle.wsn_print_laws.proofs.ShownJson.{character_members, character_json, end_json, reason_json, view_json, event_json, item_json, placed_json, shown_json, shown_value, shown_line, offset_fits, size_fits}
 
 -- ---- a view, read from the members that show it
 
@@ -46,15 +46,9 @@ quoted_in cs = codes "\"" ++ flat_map quoted_character cs ++ codes "\""
 abbrev pub dots : Bool → List ℕ
 dots more = if more then codes " .." else []
 
-abbrev text_in : ℕ → List ℕ → Bool → List ℕ
-text_in n cs more = if n == 0 && more then codes "-" else quoted_in cs ++ dots more
-
 abbrev pub dash_for_none : List ℕ → List ℕ
 dash_for_none [] = codes "-"
 dash_for_none (d ∷ digits) = d ∷ digits
-
-abbrev hex_in : ℕ → List ℕ → Bool → List ℕ
-hex_in n digits more = if n == 0 then codes "-" else dash_for_none digits ++ dots more
 
 abbrev end_in : ℕ → List ℕ → Bool → List ℕ
 end_in n digits more = if n == 0 then codes "-" else (if more then codes ".." else []) ++ digits
@@ -65,7 +59,8 @@ reason_in _ = []
 
 abbrev view_in : ℕ → Members → List ℕ
 view_in n (Member name (String cs) others) =
-    if bytes_eq name (codes "text") then text_in n cs (has_more others) else hex_in n cs (has_more others)
+    if n == 0 && has_more others then codes "-"
+    else (if bytes_eq name (codes "text") then quoted_in cs else dash_for_none cs) ++ dots (has_more others)
 view_in n (Member name (Number code) others) = code ++ reason_in others
 view_in n _ = codes "-"
 
@@ -86,41 +81,24 @@ after_evidence End = End
 
 -- ---- it is the view
 
-more_by : (t : Bool) → has_more (if t then Member (codes "truncated") True End else End) ≡ t
+pub more_by : (t : Bool) → has_more (if t then Member (codes "truncated") True End else End) ≡ t
 more_by true = refl
 more_by false = refl
 
-pub more : (shown all : ℕ) → has_more (truncated_json shown all) ≡ nat_lt shown all
-more shown all = more_by (nat_lt shown all)
-
--- With n 0, no byte of a text is shown.
-none_shown : (n : ℕ) (text : List ℕ) → n ≡ 0 → text_part n text ≡ 0
-none_shown n text is =
-    let few : utf8_valid_len (take n text) ≤ length (take n text) = utf8_valid_len_le (take n text) in
-    let size : length (take n text) ≡ 0 = ap (λ (m : ℕ). length (take m text)) is in
-    omega (arith, few, size)
-
-same_by : (n : ℕ) (text : List ℕ) (t : Bool) → (n == 0) ≡ t → (t && nat_lt (text_part n text) (length text)) ≡ (t && nat_lt 0 (length text))
-same_by n text true zero_n = ap (λ (k : ℕ). nat_lt k (length text)) (none_shown n text (eqb-true n 0 zero_n))
-same_by n text false some_n = refl
-
-same_test : (n : ℕ) (text : List ℕ) → (n == 0 && nat_lt (text_part n text) (length text)) ≡ (n == 0 && nat_lt 0 (length text))
-same_test n text = same_by n text (n == 0) refl
-
-text_is : (n : ℕ) (text : List ℕ) → view_in n (text_json n text) ≡ text_view n text
+text_is : (n : ℕ) (text : List ℕ) → view_in n (view_json (view_of_text n text)) ≡ view_text n (view_of_text n text)
 text_is n text =
-    ap (text_in n (chars (take (text_part n text) text))) (more (text_part n text) (length text))
-    ∙ ap (λ (t : Bool). if t then codes "-" else quoted_in (chars (take (text_part n text) text)) ++ dots (nat_lt (text_part n text) (length text))) (same_test n text)
+    ap (λ (t : Bool). if n == 0 && t then codes "-" else quoted_in (chars (take (text_part n text) text)) ++ dots t) (more_by (nat_lt (text_part n text) (length text)))
 
 pub dash_is : (bytes : List ℕ) → dash_for_none (encode_lower bytes) ≡ hex_text bytes
 unfolding encode_with
 dash_is [] = refl
 dash_is (b ∷ bytes) = refl
 
-hex_is : (n : ℕ) (bytes : List ℕ) → view_in n (hex_json n bytes) ≡ hex_view n bytes
+hex_is : (n : ℕ) (bytes : List ℕ) → view_in n (view_json (view_of_bytes n bytes)) ≡ view_text n (view_of_bytes n bytes)
 hex_is n bytes =
-    ap (hex_in n (encode_lower (take (n / 2) bytes))) (more (n / 2) (length bytes))
-    ∙ ap (λ (bs : List ℕ). if n == 0 then codes "-" else bs ++ dots (nat_lt (n / 2) (length bytes))) (dash_is (take (n / 2) bytes))
+    let t : Bool = nat_lt (n / 2) (length bytes) in
+    ap (λ (t : Bool). if n == 0 && t then codes "-" else dash_for_none (encode_lower (take (n / 2) bytes)) ++ dots t) (more_by t)
+    ∙ ap (λ (bs : List ℕ). if n == 0 && t then codes "-" else bs ++ dots t) (dash_is (take (n / 2) bytes))
 
 truncated_by : (t : Bool) (n : ℕ) (evidence : List ℕ) (character : Option BadCharacter)
     → is_truncated (if t then Member (codes "truncated") True (character_json n evidence character) else character_json n evidence character) ≡ t
@@ -141,31 +119,39 @@ after_by false digits n evidence (Some character) = refl
 character_is : (n : ℕ) (evidence : List ℕ) (character : Option BadCharacter) → after_evidence (end_json n evidence (character_json n evidence character)) ≡ character_json n evidence character
 character_is n evidence character = after_by (nat_lt (n / 2) (length evidence)) (encode_lower (drop (length evidence - n / 2) evidence)) n evidence character
 
-body_by : (n : ℕ) (t : Bool) (body : List ℕ) → view_in n (if t then text_json n body else hex_json n body) ≡ (if t then text_view n body else hex_view n body)
+body_by : (n : ℕ) (t : Bool) (body : List ℕ)
+    → view_in n (view_json (if t then view_of_text n body else view_of_bytes n body)) ≡ view_text n (if t then view_of_text n body else view_of_bytes n body)
 body_by n true body = text_is n body
 body_by n false body = hex_is n body
 
-reason_is : (reason : List ℕ) → reason_in (reason_json reason) ≡ reason_text reason
+reason_is : (reason : List ℕ) → reason_in (reason_json reason End) ≡ reason_text reason
 reason_is [] = refl
 reason_is (b ∷ reason) = refl
 
-close_by : (n high low : ℕ) (reason : List ℕ) (t : Bool) → view_in n (if t then Member (codes "code") Null (Member (codes "truncated") True End) else Member (codes "code") (number (high * 256 + low)) (reason_json reason))
-    ≡ (if t then codes "-" else decimal (high * 256 + low) ++ reason_text reason)
-close_by n high low reason true = refl
-close_by n high low reason false = ap (λ (bs : List ℕ). decimal (high * 256 + low) ++ bs) (reason_is reason)
+no_code : (t : Bool) → codes "-" ≡ (if t && false then codes "-" else codes "-" ++ [])
+no_code true = refl
+no_code false = refl
 
-close_is : (n : ℕ) (body : List ℕ) → view_in n (close_json n body) ≡ close_view n body
-close_is n [] = refl
-close_is n (b ∷ []) = refl
-close_is n (high ∷ low ∷ reason) = close_by n high low reason (n == 0)
+close_by : (n code : ℕ) (reason : List ℕ) (t : Bool) → (n == 0) ≡ t
+    → view_in n (view_json (if t then as_view NoCode true else as_view (Code code reason) false)) ≡ view_text n (if t then as_view NoCode true else as_view (Code code reason) false)
+close_by n code reason true none = sym (ap (λ (b : Bool). if b && true then codes "-" else codes "-" ++ codes " ..") none)
+close_by n code reason false some =
+    ap (λ (bs : List ℕ). decimal code ++ bs) (reason_is reason)
+    ∙ sym (append-nil (decimal code ++ reason_text reason))
+    ∙ sym (ap (λ (b : Bool). if b && false then codes "-" else (decimal code ++ reason_text reason) ++ []) some)
 
-view_is : (n : ℕ) (event : MeantEvent) → view_in n (event_view_json n event) ≡ event_view n event
+close_is : (n : ℕ) (body : List ℕ) → view_in n (view_json (view_of_close n body)) ≡ view_text n (view_of_close n body)
+close_is n [] = no_code (n == 0)
+close_is n (b ∷ []) = no_code (n == 0)
+close_is n (high ∷ low ∷ reason) = close_by n (high * 256 + low) reason (n == 0) refl
+
+view_is : (n : ℕ) (event : MeantEvent) → view_in n (view_json (view_of_event n event)) ≡ event_view n event
 view_is n (Message kinds.Text payload) = text_is n payload
 view_is n (Message kinds.Binary payload) = hex_is n payload
 view_is n (Control ops.Close body) = close_is n body
 view_is n (Control op body) = body_by n (is_printable body) body
 
-unfinished_is : (n : ℕ) (event : MeantEvent) → view_in n (unfinished_view_json n event) ≡ unfinished_view n event
+unfinished_is : (n : ℕ) (event : MeantEvent) → view_in n (view_json (view_of_unfinished n event)) ≡ unfinished_view n event
 unfinished_is n (Message kinds.Text payload) = text_is n payload
 unfinished_is n (Message kinds.Binary payload) = hex_is n payload
 unfinished_is n (Control op body) = hex_is n body
@@ -277,11 +263,11 @@ event_same event other frames more_frames rest other_rest fits also frames_fit m
 
 -- The number of some bytes, and the first of them.
 bytes_same : (n : ℕ) (bytes other : List ℕ) → AreBytesInRange bytes → AreBytesInRange other
-    → Member (codes "bytes") (number (length bytes)) (hex_json n bytes) ≡ Member (codes "bytes") (number (length other)) (hex_json n other)
+    → Member (codes "bytes") (number (length bytes)) (view_json (view_of_bytes n bytes)) ≡ Member (codes "bytes") (number (length other)) (view_json (view_of_bytes n other))
     → (length bytes ≡ length other) × (hex_view n bytes ≡ hex_view n other)
 bytes_same n bytes other fits also same =
     let sizes : number (length bytes) ≡ number (length other) = cc in
-    let views : hex_json n bytes ≡ hex_json n other = ap after_first same in
+    let views : view_json (view_of_bytes n bytes) ≡ view_json (view_of_bytes n other) = ap after_first same in
     (one_number (length bytes) (length other) fits.0 also.0 sizes, sym (hex_is n bytes) ∙ ap (view_in n) views ∙ hex_is n other)
 
 -- ---- two bad characters with one object
@@ -348,14 +334,14 @@ characters_same n evidence other_evidence (Some character) (Some other) fits als
 pub look_alike : (n : ℕ) (item other : Item) → IsItemInRange item → IsItemInRange other → item_type item ≡ item_type other → offset_of item ≡ offset_of other
     → item_json n item ≡ item_json n other → LookAlike n item other
 look_alike n (Event offset event frames) (Event another other more_frames) fits also types offsets same =
-    let parts = event_same event other frames more_frames (event_view_json n event) (event_view_json n other) fits.2 also.2 fits.1 also.1 same in
+    let parts = event_same event other frames more_frames (view_json (view_of_event n event)) (view_json (view_of_event n other)) fits.2 also.2 fits.1 also.1 same in
     (offsets, parts.0, parts.1, sym (view_is n event) ∙ ap (view_in n) parts.2 ∙ view_is n other)
 look_alike n (Head h) (Head g) fits also types offsets same =
     one_head h g fits also (ap (Member (codes "offset") (number h.place)) same ∙ ap (λ (k : ℕ). Member (codes "offset") (number k) (item_json n (Head g))) offsets)
 look_alike n (Unfinished offset event frames lacks) (Unfinished another other more_frames lacking) fits also types offsets same =
-    let parts = event_same event other frames more_frames (Member (codes "lacks") (optional_number lacks) (unfinished_view_json n event)) (Member (codes "lacks") (optional_number lacking) (unfinished_view_json n other))
+    let parts = event_same event other frames more_frames (Member (codes "lacks") (optional_number lacks) (view_json (view_of_unfinished n event))) (Member (codes "lacks") (optional_number lacking) (view_json (view_of_unfinished n other)))
     fits.2 also.2 fits.1 also.1 same in
-    let rests : Member (codes "lacks") (optional_number lacks) (unfinished_view_json n event) ≡ Member (codes "lacks") (optional_number lacking) (unfinished_view_json n other) = parts.2 in
+    let rests : Member (codes "lacks") (optional_number lacks) (view_json (view_of_unfinished n event)) ≡ Member (codes "lacks") (optional_number lacking) (view_json (view_of_unfinished n other)) = parts.2 in
     let lacks_same : optional_number lacks ≡ optional_number lacking = cc in (
       offsets,
       parts.0,

@@ -1,5 +1,5 @@
 -- The pieces of what is shown of a bad character.
-use Rattle.std.proofs.Common.{◌≡◌, ◌≢◌, ℕ, ◌+◌, Bool, nat_lt, ◌==◌, ◌||◌, if◌then◌else◌, List, [], ◌∷◌, ◌++◌, length, take, codes, decimal, refl, sym, ap, ◌∙◌, append_assoc, arith}
+use Rattle.std.proofs.Common.{◌≡◌, ◌≢◌, ℕ, Bool, nat_lt, ◌==◌, ◌||◌, if◌then◌else◌, List, [], ◌∷◌, ◌++◌, length, take, codes, decimal, refl, sym, ap, ◌∙◌, append_assoc, arith}
 use Rattle.std.specs.Prelude.{flat_map}
 use Rattle.std.specs.Str.{chars, IsUtf8}
 use Rattle.std.specs.Str.Lossy.{utf8_valid_len}
@@ -8,7 +8,7 @@ use Rattle.hex.specs.Hex.{encode_lower}
 use Rattle.wsn_rules.specs.BadCharacter.{BadCharacter}
 use Rattle.wsn_print.specs.Json.{field, number_field}
 use Rattle.wsn_print.specs.EscapedText.{quoted_character, quoted}
-use Rattle.wsn_shown_text.specs.ShownObjects.{hex_field, truncated_field}
+use Rattle.wsn_shown_text.specs.ShownObjects.{hex_field}
 use Rattle.wsn_shown_text.specs.CharacterText.{whole_characters, from_character, bytes_before, text_before, byte_escape, character_text, character_view, shown_bytes, truncated_text, character_object}
 use Rattle.wsn_shown_text.proofs.HeldViews.{not_zero}
 use Rattle.wsn_shown_text.proofs.TextFronts.{whole_is_utf8}
@@ -67,13 +67,6 @@ pub object_is : (n : ℕ) (all : List ℕ) (character : BadCharacter)
 object_is n all character =
     ap (λ (bytes : List ℕ). codes ",\"character\":{\"offset\":" ++ bytes)
     (object_whole (decimal character.offset) (number_field (codes "in_payload") character.in_payload) (hex_field (shown_bytes n character)) (field (codes "before") (quoted (text_before n all character))) (truncated_text n all character) (codes "}"))
-
-pub truncated_unseen : (n shown all : ℕ) → n ≡ 0 → codes ",\"truncated\":true" ≡ (if n == 0 || nat_lt shown all then codes ",\"truncated\":true" else [])
-truncated_unseen n shown all none = ap (λ (k : ℕ). if k == 0 || nat_lt shown all then codes ",\"truncated\":true" else []) (sym none)
-
-pub truncated_seen : (n shown all : ℕ) → n ≢ 0 → truncated_field shown all ≡ (if n == 0 || nat_lt shown all then codes ",\"truncated\":true" else [])
-truncated_seen n shown all some =
-    sym (ap (λ (none : Bool). if none || nat_lt shown all then codes ",\"truncated\":true" else []) (not_zero n some))
 
 pub before_is : (n : ℕ) (all shown before : List ℕ) (character : BadCharacter) → shown ≡ text_before n all character → before ≡ text_before n all character
     → codes ",\"before\":" ++ (quoted shown ++ (if n == 0 || nat_lt (length before) character.in_payload then codes ",\"truncated\":true" else []))

@@ -1,15 +1,18 @@
 -- What is held of two payloads is enough to show where they differ.
-use Rattle.std.proofs.Common.{◌≡◌, ◌≢◌, ℕ, Bool, true, ◌==◌, if◌then◌else◌, Option, None, Some, List, ◌++◌, length, take, sym, ap, ◌∙◌, subst, codes, decimal, append_assoc, arith}
+use Rattle.std.proofs.Common.{◌≡◌, ◌≢◌, ℕ, ◌+◌, ◌-◌, ◌/◌, ◌≤◌, inl, inr, Bool, true, false, ◌==◌, nat_lt, if◌then◌else◌, Option, None, Some, List, [], ◌++◌, length, take, refl, sym, ap, ◌∙◌, subst, codes, decimal, append_assoc, arith}
 use Rattle.std.proofs.lemmas.Bool.Decides.{nat_tests}
 use Rattle.std.specs.Str.Lossy.{utf8_valid_len}
-use Rattle.wsn_rules.specs.Meaning.{MeantEvent}
+use Rattle.wsn_wire.specs.declared.opcode.Kind.TheVariants as kinds
+use Rattle.wsn_rules.specs.Meaning.{MeantEvent, Message, Control}
 use Rattle.wsn_print.specs.declared.shown.DifferingPayloads.{DifferingPayloads}
-use Rattle.wsn_print.specs.DifferingPayloads.{view_start, payload_on, part_length, part_at, IsPartOf, StandsForPlace}
-use Rattle.wsn_shown_text.specs.DifferingText.{part_text, left_out_before, view_at, part_field, view_value}
-use Rattle.wsn_shown_text.specs.ShownObjects.{truncated_field}
+use Rattle.wsn_print.specs.DifferingPayloads.{view_start, payload_on, is_text, IsPartOf, StandsForPlace}
+use Rattle.wsn_shown_text.specs.DifferingText.{view_at, view_value}
+use Rattle.wsn_shown_text.specs.ShownObjects.{view_fields}
+use Rattle.wsn_shown_text.specs.Views.{view_of_part}
+use Rattle.wsn_shown_text.specs.Views.Shown.{Ascii, Hex}
 use Rattle.wsn_print.specs.ShownParts.{HoldsFirst, text_part}
-use Rattle.wsn_shown_text.specs.ShownText.{left_out}
-use Rattle.wsn_shown_text.proofs.HeldViews.{shown_part, shown_size, not_zero}
+use Rattle.wsn_shown_text.specs.ShownText.{seen_text}
+use Rattle.wsn_shown_text.proofs.HeldViews.{shown_part, not_zero, as_view}
 
 -- ---- the first bytes
 
@@ -18,14 +21,6 @@ pub characters_are : (most : ℕ) (all held front shown : List ℕ) → HoldsFir
 characters_are most all held front shown holds is valid =
     valid ∙ ap (λ (bytes : List ℕ). take (utf8_valid_len bytes) bytes) is ∙ shown_part most all held holds
 
--- A text's view, and whether there are more bytes.
-pub text_is : (f : List ℕ → List ℕ) (g : ℕ → ℕ → List ℕ) (most size : ℕ) (all shown : List ℕ) → size ≡ length all → shown ≡ take (text_part most all) all
-    → f shown ++ g (length shown) size ≡ f (take (text_part most all) all) ++ g (text_part most all) (length all)
-text_is f g most size all shown is_size is =
-    ap (λ (bytes : List ℕ). f bytes ++ g (length bytes) size) is
-    ∙ ap (λ (k : ℕ). f (take (text_part most all) all) ++ g k size) (shown_size most all)
-    ∙ ap (λ (k : ℕ). f (take (text_part most all) all) ++ g (text_part most all) k) is_size
-
 -- ---- views
 
 zero : (n : ℕ) → n ≡ 0 → (n == 0) ≡ true
@@ -33,27 +28,48 @@ zero n none = grind (arith, nat_tests)
 
 pub no_view : (n place : ℕ) (event : MeantEvent) → n ≡ 0 → codes "-" ≡ view_at n place event
 no_view n place event none =
-    sym (ap (λ (b : Bool). if b then codes "-" else left_out_before (view_start place event) ++ part_text event (part_at n place event) ++ left_out (part_length n place event) (length (payload_on place event))) (zero n none))
+    sym (ap (λ (b : Bool). if b then codes "-" else (if nat_lt 0 (view_start place event) then codes ".." else []) ++ seen_text (view_of_part n place event)) (zero n none))
 
 pub view_is : (n place : ℕ) (event : MeantEvent) → n ≢ 0
-    → left_out_before (view_start place event) ++ (part_text event (part_at n place event) ++ left_out (part_length n place event) (length (payload_on place event))) ≡ view_at n place event
+    → (if nat_lt 0 (view_start place event) then codes ".." else []) ++ seen_text (view_of_part n place event) ≡ view_at n place event
 view_is n place event some =
-    sym (append_assoc (left_out_before (view_start place event)) (part_text event (part_at n place event)) (left_out (part_length n place event) (length (payload_on place event))))
-    ∙ sym (ap (λ (b : Bool). if b then codes "-" else left_out_before (view_start place event) ++ part_text event (part_at n place event) ++ left_out (part_length n place event) (length (payload_on place event))) (not_zero n some))
-
--- What a part's value is made of.
-value_parts : (start part more : List ℕ) → (codes "{\"from\":" ++ start) ++ ((part ++ more) ++ codes "}") ≡ codes "{\"from\":" ++ start ++ part ++ more ++ codes "}"
-value_parts start part more = simp append_assoc
+    sym (ap (λ (b : Bool). if b then codes "-" else (if nat_lt 0 (view_start place event) then codes ".." else []) ++ seen_text (view_of_part n place event)) (not_zero n some))
 
 pub no_value : (n place : ℕ) (event : MeantEvent) → n ≡ 0 → codes "null" ≡ view_value n place event
 no_value n place event none =
-    sym (ap (λ (b : Bool). if b then codes "null" else codes "{\"from\":" ++ decimal (view_start place event) ++ part_field event (part_at n place event) ++ truncated_field (part_length n place event) (length (payload_on place event)) ++ codes "}") (zero n none))
+    sym (ap (λ (b : Bool). if b then codes "null" else codes "{\"from\":" ++ decimal (view_start place event) ++ view_fields (view_of_part n place event) ++ codes "}") (zero n none))
+
+-- What a part's value is made of.
+value_parts : (start view : List ℕ) → (codes "{\"from\":" ++ start) ++ (view ++ codes "}") ≡ codes "{\"from\":" ++ start ++ view ++ codes "}"
+value_parts start view = simp append_assoc
 
 pub value_is : (n place : ℕ) (event : MeantEvent) → n ≢ 0
-    → (codes "{\"from\":" ++ decimal (view_start place event)) ++ ((part_field event (part_at n place event) ++ truncated_field (part_length n place event) (length (payload_on place event))) ++ codes "}") ≡ view_value n place event
+    → (codes "{\"from\":" ++ decimal (view_start place event)) ++ (view_fields (view_of_part n place event) ++ codes "}") ≡ view_value n place event
 value_is n place event some =
-    value_parts (decimal (view_start place event)) (part_field event (part_at n place event)) (truncated_field (part_length n place event) (length (payload_on place event)))
-    ∙ sym (ap (λ (b : Bool). if b then codes "null" else codes "{\"from\":" ++ decimal (view_start place event) ++ part_field event (part_at n place event) ++ truncated_field (part_length n place event) (length (payload_on place event)) ++ codes "}") (not_zero n some))
+    value_parts (decimal (view_start place event)) (view_fields (view_of_part n place event))
+    ∙ sym (ap (λ (b : Bool). if b then codes "null" else codes "{\"from\":" ++ decimal (view_start place event) ++ view_fields (view_of_part n place event) ++ codes "}") (not_zero n some))
+
+-- The text or the bytes that are shown.
+pub ascii_of_part : (n place : ℕ) (event : MeantEvent) → is_text event ≡ true
+    → as_view (Ascii (take (text_part (place - view_start place event + n) (payload_on place event)) (payload_on place event)))
+    (nat_lt (text_part (place - view_start place event + n) (payload_on place event)) (length (payload_on place event))) ≡ view_of_part n place event
+ascii_of_part n place (Message kinds.Text text) is = refl
+ascii_of_part n place (Message kinds.Binary payload) is = absurd cc
+ascii_of_part n place (Control op body) is = absurd cc
+
+pub bytes_of_part : (n place : ℕ) (event : MeantEvent) → is_text event ≡ false
+    → as_view (Hex (take (place - view_start place event + n / 2) (payload_on place event)))
+    (nat_lt (place - view_start place event + n / 2) (length (payload_on place event))) ≡ view_of_part n place event
+bytes_of_part n place (Message kinds.Text text) is = absurd cc
+bytes_of_part n place (Message kinds.Binary payload) is = refl
+bytes_of_part n place (Control op body) is = refl
+
+pub below : (m a n : ℕ) → m ≡ a + n / 2 → m ≤ a + n
+below m a n is = omega (arith, is)
+
+pub fewer : (k n : ℕ) (all held : List ℕ) → k ≤ n → HoldsFirst n all held → HoldsFirst k all held
+fewer k n all held less (first, inl enough) = (first, inl (omega (arith, less, enough)))
+fewer k n all held less (first, inr whole) = (first, inr whole)
 
 -- ---- the place
 

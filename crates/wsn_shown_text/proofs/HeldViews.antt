@@ -1,5 +1,5 @@
 -- The views of bytes of which a part is held.
-use Rattle.std.proofs.Common.{◌≡◌, ◌≢◌, ℕ, suc, zero, ◌+◌, ◌*◌, ◌-◌, ◌/◌, ◌≤◌, inl, inr, Bool, false, nat_lt, ◌==◌, ◌&&◌, if◌then◌else◌, Option, List, [], ◌∷◌, ◌++◌, length, take, drop, get_or, refl, sym, ap, ◌∙◌, codes, decimal, append_assoc, arith, length-drop}
+use Rattle.std.proofs.Common.{◌≡◌, ◌≢◌, ℕ, suc, zero, ◌+◌, ◌*◌, ◌-◌, ◌<◌, ◌≤◌, inl, inr, Bool, true, false, nat_lt, ◌==◌, ◌&&◌, if◌then◌else◌, Option, List, [], ◌∷◌, ◌++◌, length, take, drop, get_or, refl, sym, ap, ◌∙◌, codes, decimal, append_assoc, arith, length-drop}
 use Rattle.std.proofs.Math.Seq.{take-length, take-add}
 use Rattle.std.proofs.lemmas.List.{length-take, length-take-le, take-take, take-append-drop, drop-drop}
 use Rattle.std.proofs.lemmas.Bool.Decides.{nat_tests}
@@ -9,7 +9,9 @@ use Rattle.hex.specs.Hex.{encode_with, encode_lower, lower_digits}
 use Rattle.wsn_wire.specs.declared.endpoint.Role.{Role}
 use Rattle.wsn_print.specs.declared.shown.Remainder.{Remainder}
 use Rattle.wsn_print.specs.declared.shown.Remainder.TheVariants as remainders
-use Rattle.wsn_shown_text.specs.ShownText.{front_text, item_line, text_view, left_out, hex_text, hex_view, end_view, reason_text, close_view}
+use Rattle.wsn_shown_text.specs.Views.{Shown, PayloadView, EndView, view_of_close}
+use Rattle.wsn_shown_text.specs.Views.Shown.{Hex, Code, NoCode}
+use Rattle.wsn_shown_text.specs.ShownText.{front_text, item_line, seen_text, view_text, end_text, hex_view, reason_text}
 use Rattle.wsn_print.specs.EscapedText.{quoted}
 use Rattle.wsn_print.specs.ShownParts.{text_part, HoldsFirst, HoldsLast, remainder_word, item_of_remainder}
 
@@ -48,16 +50,34 @@ shown_size n all =
     let few : utf8_valid_len (take n all) ≤ length all = omega (arith, utf8_valid_len_le (take n all), length-take n all) in
     length-take-le (utf8_valid_len (take n all)) all few
 
--- A text's view.
-pub text_view_is : (n size : ℕ) (all shown : List ℕ) → size ≡ length all → shown ≡ take (text_part n all) all → (n == 0 && nat_lt 0 size) ≡ false
-    → quoted shown ++ left_out (length shown) size ≡ text_view n all
-text_view_is n size all shown is_size is some =
-    let test : (n == 0 && nat_lt 0 (length all)) ≡ false = ap (λ (k : ℕ). n == 0 && nat_lt 0 k) (sym is_size) ∙ some in
-    let whole : quoted shown ++ left_out (length shown) size ≡ quoted (take (text_part n all) all) ++ left_out (text_part n all) (length all) =
-    ap (λ (bytes : List ℕ). quoted bytes ++ left_out (length bytes) size) is
-    ∙ ap (λ (k : ℕ). quoted (take (text_part n all) all) ++ left_out k size) (shown_size n all)
-    ∙ ap (λ (k : ℕ). quoted (take (text_part n all) all) ++ left_out (text_part n all) k) is_size in
-    whole ∙ sym (ap (λ (b : Bool). if b then codes "-" else (quoted (take (text_part n all) all) ++ left_out (text_part n all) (length all))) test)
+-- A view of this.
+abbrev pub as_view : Shown → Bool → PayloadView
+as_view shown more = record { shown = shown; more = more }
+
+-- The first characters of a text.
+pub characters_view : (f : List ℕ → Shown) (most size : ℕ) (all shown : List ℕ) → size ≡ length all → shown ≡ take (text_part most all) all
+    → as_view (f shown) (nat_lt (length shown) size) ≡ as_view (f (take (text_part most all) all)) (nat_lt (text_part most all) (length all))
+characters_view f most size all shown is_size is =
+    ap (λ (bytes : List ℕ). as_view (f bytes) (nat_lt (length bytes) size)) is
+    ∙ ap (λ (k : ℕ). as_view (f (take (text_part most all) all)) (nat_lt k size)) (shown_size most all)
+    ∙ ap (λ (k : ℕ). as_view (f (take (text_part most all) all)) (nat_lt (text_part most all) k)) is_size
+
+-- The first bytes.
+pub bytes_view : (most size : ℕ) (all held front : List ℕ) → size ≡ length all → HoldsFirst most all held → front ≡ take most held
+    → as_view (Hex front) (nat_lt most size) ≡ as_view (Hex (take most all)) (nat_lt most (length all))
+bytes_view most size all held front is_size holds is =
+    ap (λ (bytes : List ℕ). as_view (Hex bytes) (nat_lt most size)) (is ∙ take_held most all held holds)
+    ∙ ap (λ (k : ℕ). as_view (Hex (take most all)) (nat_lt most k)) is_size
+
+-- The last bytes.
+abbrev pub as_end : List ℕ → Bool → EndView
+as_end bytes more = record { bytes = bytes; more = more }
+
+pub last_view : (most size : ℕ) (all held last : List ℕ) → size ≡ length all → HoldsLast most all held → last ≡ drop (length held - most) held
+    → as_end last (nat_lt most size) ≡ as_end (drop (length all - most) all) (nat_lt most (length all))
+last_view most size all held last is_size holds is =
+    ap (λ (bytes : List ℕ). as_end bytes (nat_lt most size)) (is ∙ drop_held most all held holds)
+    ∙ ap (λ (k : ℕ). as_end (drop (length all - most) all) (nat_lt most k)) is_size
 
 -- The quoted reason of a Close.
 pub reason_is : (reason : List ℕ) → (length reason == 0) ≡ false → codes " " ++ quoted reason ≡ reason_text reason
@@ -96,21 +116,36 @@ all_digits bytes next done n is =
 pub not_zero : (n : ℕ) → n ≢ 0 → (n == 0) ≡ false
 not_zero n some = grind (arith, nat_tests)
 
-pub hex_view_is : (n : ℕ) (all : List ℕ) → n ≢ 0 → hex_text (take (n / 2) all) ++ left_out (n / 2) (length all) ≡ hex_view n all
-hex_view_is n all some =
-    sym (ap (λ (b : Bool). if b then codes "-" else (hex_text (take (n / 2) all) ++ left_out (n / 2) (length all))) (not_zero n some))
+-- A view of 0 bytes of what isn't empty, and any other.
+pub hidden : (n : ℕ) (view : PayloadView) → (n == 0 && view.more) ≡ true → codes "-" ≡ view_text n view
+hidden n view test = sym (ap (λ (b : Bool). if b then codes "-" else seen_text view) test)
 
-pub end_view_is : (n : ℕ) (all : List ℕ) → n ≢ 0
-    → (if nat_lt (n / 2) (length all) then codes ".." else []) ++ encode_lower (drop (length all - n / 2) all) ≡ end_view n all
-end_view_is n all some =
-    sym (ap (λ (b : Bool). if b then codes "-" else ((if nat_lt (n / 2) (length all) then codes ".." else []) ++ encode_lower (drop (length all - n / 2) all))) (not_zero n some))
+pub seen : (n : ℕ) (view : PayloadView) → (n == 0 && view.more) ≡ false → seen_text view ≡ view_text n view
+seen n view test = sym (ap (λ (b : Bool). if b then codes "-" else seen_text view) test)
 
-pub close_view_is : (n : ℕ) (body : List ℕ) → n ≢ 0 → 2 ≤ length body
-    → decimal (get_or body 0 0 * 256 + get_or body 1 0) ++ reason_text (drop 2 body) ≡ close_view n body
-close_view_is n [] some two = absurd (omega arith)
-close_view_is n (high ∷ []) some two = absurd (omega arith)
-close_view_is n (high ∷ low ∷ reason) some two =
-    sym (ap (λ (b : Bool). if b then codes "-" else (decimal (high * 256 + low) ++ reason_text reason)) (not_zero n some))
+pub no_end : (n : ℕ) (end : EndView) → n ≡ 0 → codes "-" ≡ end_text n end
+no_end n end none = ap (λ (k : ℕ). end_text k end) (sym none)
+
+pub end_is : (n : ℕ) (end : EndView) → n ≢ 0 → (if end.more then codes ".." else []) ++ encode_lower end.bytes ≡ end_text n end
+end_is n end some =
+    sym (ap (λ (b : Bool). if b then codes "-" else ((if end.more then codes ".." else []) ++ encode_lower end.bytes)) (not_zero n some))
+
+pub code_is : (n : ℕ) (body : List ℕ) → n ≢ 0 → 2 ≤ length body
+    → as_view (Code (get_or body 0 0 * 256 + get_or body 1 0) (drop 2 body)) false ≡ view_of_close n body
+code_is n [] some two = absurd (omega arith)
+code_is n (high ∷ []) some two = absurd (omega arith)
+code_is n (high ∷ low ∷ reason) some two =
+    sym (ap (λ (b : Bool). if b then as_view NoCode true else as_view (Code (high * 256 + low) reason) false) (not_zero n some))
+
+pub code_unseen : (n : ℕ) (body : List ℕ) → n ≡ 0 → 2 ≤ length body → as_view NoCode true ≡ view_of_close n body
+code_unseen n [] none two = absurd (omega arith)
+code_unseen n (high ∷ []) none two = absurd (omega arith)
+code_unseen n (high ∷ low ∷ reason) none two = ap (λ (k : ℕ). view_of_close k (high ∷ low ∷ reason)) (sym none)
+
+pub no_code : (n : ℕ) (body : List ℕ) → length body < 2 → as_view NoCode false ≡ view_of_close n body
+no_code n [] short = refl
+no_code n (high ∷ []) short = refl
+no_code n (high ∷ low ∷ reason) short = absurd (omega arith)
 
 pub remainder_is : (n : ℕ) (role : Role) (time : Option (List ℕ)) (which : Remainder) (offset : ℕ) (all : List ℕ)
     → front_text role time offset ++ ((remainder_word which ++ codes " " ++ decimal (length all) ++ codes " ") ++ (hex_view n all ++ codes "\n"))

@@ -1,5 +1,5 @@
 -- Bytes that begin a text, and the characters of them that are shown.
-use Rattle.std.proofs.Common.{◌≡◌, ℕ, ◌≤◌, true, List, [], ◌∷◌, length, take, sym, ◌∙◌, subst, arith}
+use Rattle.std.proofs.Common.{◌≡◌, ℕ, ◌+◌, ◌*◌, ◌≤◌, ◌==◌, Bool, true, false, if◌then◌else◌, List, [], ◌∷◌, length, take, drop, sym, ◌∙◌, subst, arith}
 use Rattle.std.proofs.lemmas.Bool.{and_parts}
 use Rattle.std.proofs.lemmas.Bool.Decides.{nat_tests}
 use Rattle.std.proofs.lemmas.List.{length-take, take-take}
@@ -11,10 +11,14 @@ use Rattle.wsn_text.specs.Utf8.{BeginsText}
 use Rattle.wsn_text.proofs.Prefixes.{begins_take, text_begins}
 use Rattle.wsn_text.proofs.Scalars.{text_is_utf8}
 use Rattle.wsn_print.specs.EscapedText.{is_from}
-use Rattle.wsn_shown_text.specs.ShownText.{is_printable}
-use Rattle.wsn_print.specs.ShownParts.{text_part, HoldsFirst}
+use Rattle.wsn_shown_text.specs.Views.{is_printable, IsReadable, view_of_text, view_of_bytes, view_of_close, view_of_event, view_of_unfinished, view_of_part}
+use Rattle.wsn_print.specs.ShownParts.{text_part, HoldsFirst, HasText, HasTextReason}
+use Rattle.wsn_rules.specs.Meaning.{MeantEvent, Message, Control}
+use Rattle.wsn_wire.specs.declared.opcode.Kind.TheVariants as kinds
+use Rattle.wsn_wire.specs.declared.opcode.Op.TheVariants as ops
+use Rattle.wsn_shown_text.specs.Views.Shown.{Code, NoCode}
 use Rattle.wsn_shown_text.specs.CharacterText.{whole_characters}
-use Rattle.wsn_shown_text.proofs.HeldViews.{take_held}
+use Rattle.wsn_shown_text.proofs.HeldViews.{take_held, as_view}
 use Rattle.wsn_shown_text.proofs.VisibleTexts.{front_is_utf8}
 
 utf8_begins : (bytes : List ℕ) → IsUtf8 bytes → BeginsText bytes
@@ -45,3 +49,42 @@ shown_is_utf8 n all shown is = subst IsUtf8 (sym is) (part_is_utf8 n all)
 pub whole_is_utf8 : (bytes : List ℕ) → IsUtf8 (whole_characters bytes)
 unfolding utf8_valid_len
 whole_is_utf8 bytes = front_is_utf8 bytes (length bytes)
+
+-- ---- what is quoted of a view is UTF-8
+
+body_by : (n : ℕ) (t : Bool) (body : List ℕ) → IsReadable (if t then view_of_text n body else view_of_bytes n body).shown
+body_by n true body = part_is_utf8 n body
+body_by n false body = tt
+
+close_by : (code : ℕ) (reason : List ℕ) (t : Bool) → IsUtf8 reason → IsReadable (if t then as_view NoCode true else as_view (Code code reason) false).shown
+close_by code reason true utf8 = tt
+close_by code reason false utf8 = utf8
+
+close_readable : (n : ℕ) (body : List ℕ) → IsUtf8 (drop 2 body) → IsReadable (view_of_close n body).shown
+close_readable n [] utf8 = tt
+close_readable n (high ∷ []) utf8 = tt
+close_readable n (high ∷ low ∷ reason) utf8 = close_by (high * 256 + low) reason (n == 0) utf8
+
+pub event_readable : (n : ℕ) (event : MeantEvent) → HasTextReason event → IsReadable (view_of_event n event).shown
+event_readable n (Message kinds.Text payload) reason = part_is_utf8 n payload
+event_readable n (Message kinds.Binary payload) reason = tt
+event_readable n (Control ops.Close body) reason = close_readable n body reason
+event_readable n (Control ops.Continue body) reason = body_by n (is_printable body) body
+event_readable n (Control ops.Text body) reason = body_by n (is_printable body) body
+event_readable n (Control ops.Binary body) reason = body_by n (is_printable body) body
+event_readable n (Control ops.Ping body) reason = body_by n (is_printable body) body
+event_readable n (Control ops.Pong body) reason = body_by n (is_printable body) body
+
+pub has_reason : (event : MeantEvent) → HasText event → HasTextReason event
+has_reason (Message kind payload) text = tt
+has_reason (Control op body) text = text
+
+pub unfinished_readable : (n : ℕ) (event : MeantEvent) → IsReadable (view_of_unfinished n event).shown
+unfinished_readable n (Message kinds.Text payload) = part_is_utf8 n payload
+unfinished_readable n (Message kinds.Binary payload) = tt
+unfinished_readable n (Control op body) = tt
+
+pub part_readable : (n place : ℕ) (event : MeantEvent) → IsReadable (view_of_part n place event).shown
+part_readable n place (Message kinds.Text payload) = tt
+part_readable n place (Message kinds.Binary payload) = tt
+part_readable n place (Control op body) = tt

@@ -1,6 +1,6 @@
 -- Nothing of a line of `show` is hidden but the LF at its end.
 use Rattle.std.proofs.Common.{◌≡◌, ℕ, zero, suc, ◌+◌, ◌*◌, ◌-◌, ◌/◌, ◌%◌, ◌<◌, Bool, true, false, nat_lt, ◌==◌, ◌&&◌, if◌then◌else◌, Option, None, Some, List, [], ◌∷◌, ◌++◌, length, take, drop, codes, decimal, refl, sym, inl, inr, append_assoc, arith}
-use Rattle.std.specs.Prelude.{flat_map}
+use Rattle.std.specs.Prelude.{flat_map, ⊤}
 use Rattle.std.specs.Fmt.{digits, digits_onto, digit_glyph}
 use Rattle.std.specs.List.{AllByRecursion}
 use Rattle.std.specs.Option.{IfSome}
@@ -28,8 +28,11 @@ use Rattle.wsn_rules.specs.ShownStream.Item.{Event, Head, Unfinished, Unfinished
 use Rattle.wsn_print.specs.Fields.{number_text, refusal_text, fin_word, op_word, key_text, form_text}
 use Rattle.wsn_print.specs.HeadText.{head_fields}
 use Rattle.wsn_print.specs.EscapedText.{is_from, quoted_character, quoted, comment_line, comment_text}
-use Rattle.wsn_shown_text.specs.ShownText.{left_out, text_view, hex_text, hex_view, end_view, is_printable, body_view, reason_text, close_view, event_view, unfinished_view, event_word, event_size, event_text, role_letter, time_text, front_text, offset_of, item_text, item_line, end_line}
-use Rattle.wsn_print.specs.ShownParts.{text_part, HasTextReason, payload_in}
+use Rattle.wsn_shown_text.specs.ShownText.{hex_text, end_view, reason_text, shown_text, seen_text, view_text, event_word, event_size, event_text, role_letter, time_text, front_text, offset_of, item_text, item_line, end_line}
+use Rattle.wsn_shown_text.specs.Views.{Shown, PayloadView, is_printable, view_of_text, view_of_bytes, view_of_close, view_of_event, view_of_unfinished}
+use Rattle.wsn_shown_text.specs.Views.Shown.{Text, Ascii, Hex, Code, NoCode}
+use Rattle.wsn_print.specs.ShownParts.{HasTextReason, payload_in}
+use Rattle.wsn_shown_text.proofs.HeldViews.{as_view}
 use Rattle.wsn_shown_text.specs.CharacterText.{from_character, bytes_before, text_before, leaves_out, byte_escape, character_text, character_view, character_line}
 use Rattle.wsn_shown_text.specs.QuotedTexts.{IsAllVisible, bytes_in, ShowsTextReason, IsVisibleLine}
 use Rattle.wsn_shown_text.proofs.TextFronts.{part_is_utf8, whole_is_utf8}
@@ -156,21 +159,32 @@ hex_or_dash : (bytes : List ℕ) → IsBytes bytes → Seen (hex_text bytes)
 hex_or_dash [] fits = word (codes "-") refl
 hex_or_dash (b ∷ bytes) fits = hex (b ∷ bytes) fits
 
-more : (shown all : ℕ) → Seen (left_out shown all)
-more shown all = seen_if (nat_lt shown all) (codes " ..") [] (word (codes " ..") refl) (word [] refl)
-
 in_quotes : (text : List ℕ) → IsUtf8 text → Seen (quoted text)
 in_quotes text utf8 = record { is = quoted_text_visible text utf8 }
 
-text_seen : (n : ℕ) (text : List ℕ) → Seen (text_view n text)
-text_seen n text =
-    seen_if (n == 0 && nat_lt 0 (length text)) (codes "-") (quoted (take (text_part n text) text) ++ left_out (text_part n text) (length text)) (word (codes "-") refl)
-    (in_quotes (take (text_part n text) text) (part_is_utf8 n text) ⊕ more (text_part n text) (length text))
+reason_seen : (reason : List ℕ) → IsUtf8 reason → Seen (reason_text reason)
+reason_seen [] utf8 = word [] refl
+reason_seen (b ∷ reason) utf8 = space ⊕ in_quotes (b ∷ reason) utf8
 
-hex_seen : (n : ℕ) (bytes : List ℕ) → IsBytes bytes → Seen (hex_view n bytes)
-hex_seen n bytes fits =
-    seen_if (n == 0) (codes "-") (hex_text (take (n / 2) bytes) ++ left_out (n / 2) (length bytes)) (word (codes "-") refl)
-    (hex_or_dash (take (n / 2) bytes) (take_bytes (n / 2) bytes fits) ⊕ more (n / 2) (length bytes))
+-- What is quoted is UTF-8, and bytes are bytes.
+abbrev CanBeSeen : Shown → Type 0
+CanBeSeen (Text text) = IsUtf8 text
+CanBeSeen (Ascii text) = ⊥
+CanBeSeen (Hex bytes) = IsBytes bytes
+CanBeSeen (Code code reason) = IsUtf8 reason
+CanBeSeen NoCode = ⊤
+
+shown_seen : (shown : Shown) → CanBeSeen shown → Seen (shown_text shown)
+shown_seen (Text text) can = in_quotes text can
+shown_seen (Ascii text) can = absurd can
+shown_seen (Hex bytes) can = hex_or_dash bytes can
+shown_seen (Code code reason) can = number code ⊕ reason_seen reason can
+shown_seen NoCode can = word (codes "-") refl
+
+view_seen : (n : ℕ) (view : PayloadView) → CanBeSeen view.shown → Seen (view_text n view)
+view_seen n view can =
+    seen_if (n == 0 && view.more) (codes "-") (seen_text view) (word (codes "-") refl)
+    (shown_seen view.shown can ⊕ seen_if view.more (codes " ..") [] (word (codes " ..") refl) (word [] refl))
 
 end_seen : (n : ℕ) (bytes : List ℕ) → IsBytes bytes → Seen (end_view n bytes)
 end_seen n bytes fits =
@@ -178,34 +192,33 @@ end_seen n bytes fits =
     (seen_if (nat_lt (n / 2) (length bytes)) (codes "..") [] (word (codes "..") refl) (word [] refl)
     ⊕ hex (drop (length bytes - n / 2) bytes) (drop_bytes (length bytes - n / 2) bytes fits))
 
-body_seen : (n : ℕ) (body : List ℕ) → IsBytes body → Seen (body_view n body)
-body_seen n body fits = seen_if (is_printable body) (text_view n body) (hex_view n body) (text_seen n body) (hex_seen n body fits)
+body_by : (n : ℕ) (t : Bool) (body : List ℕ) → IsBytes body → CanBeSeen (if t then view_of_text n body else view_of_bytes n body).shown
+body_by n true body fits = part_is_utf8 n body
+body_by n false body fits = take_bytes (n / 2) body fits
 
-reason_seen : (reason : List ℕ) → IsUtf8 reason → Seen (reason_text reason)
-reason_seen [] utf8 = word [] refl
-reason_seen (b ∷ reason) utf8 = space ⊕ in_quotes (b ∷ reason) utf8
+close_by : (code : ℕ) (reason : List ℕ) (t : Bool) → IsUtf8 reason → CanBeSeen (if t then as_view NoCode true else as_view (Code code reason) false).shown
+close_by code reason true utf8 = tt
+close_by code reason false utf8 = utf8
 
-close_seen : (n : ℕ) (body : List ℕ) → IsUtf8 (drop 2 body) → Seen (close_view n body)
-close_seen n [] utf8 = word (codes "-") refl
-close_seen n (high ∷ []) utf8 = word (codes "-") refl
-close_seen n (high ∷ low ∷ reason) utf8 =
-    seen_if (n == 0) (codes "-") (decimal (high * 256 + low) ++ reason_text reason) (word (codes "-") refl)
-    (number (high * 256 + low) ⊕ reason_seen reason utf8)
+close_seen : (n : ℕ) (body : List ℕ) → IsUtf8 (drop 2 body) → CanBeSeen (view_of_close n body).shown
+close_seen n [] utf8 = tt
+close_seen n (high ∷ []) utf8 = tt
+close_seen n (high ∷ low ∷ reason) utf8 = close_by (high * 256 + low) reason (n == 0) utf8
 
-event_seen : (n : ℕ) (event : MeantEvent) → IsBytes (payload_in event) → HasTextReason event → Seen (event_view n event)
-event_seen n (Message kinds.Text payload) fits reason = text_seen n payload
-event_seen n (Message kinds.Binary payload) fits reason = hex_seen n payload fits
+event_seen : (n : ℕ) (event : MeantEvent) → IsBytes (payload_in event) → HasTextReason event → CanBeSeen (view_of_event n event).shown
+event_seen n (Message kinds.Text payload) fits reason = part_is_utf8 n payload
+event_seen n (Message kinds.Binary payload) fits reason = take_bytes (n / 2) payload fits
 event_seen n (Control ops.Close body) fits reason = close_seen n body reason
-event_seen n (Control ops.Continue body) fits reason = body_seen n body fits
-event_seen n (Control ops.Text body) fits reason = body_seen n body fits
-event_seen n (Control ops.Binary body) fits reason = body_seen n body fits
-event_seen n (Control ops.Ping body) fits reason = body_seen n body fits
-event_seen n (Control ops.Pong body) fits reason = body_seen n body fits
+event_seen n (Control ops.Continue body) fits reason = body_by n (is_printable body) body fits
+event_seen n (Control ops.Text body) fits reason = body_by n (is_printable body) body fits
+event_seen n (Control ops.Binary body) fits reason = body_by n (is_printable body) body fits
+event_seen n (Control ops.Ping body) fits reason = body_by n (is_printable body) body fits
+event_seen n (Control ops.Pong body) fits reason = body_by n (is_printable body) body fits
 
-unfinished_seen : (n : ℕ) (event : MeantEvent) → IsBytes (payload_in event) → Seen (unfinished_view n event)
-unfinished_seen n (Message kinds.Text payload) fits = text_seen n payload
-unfinished_seen n (Message kinds.Binary payload) fits = hex_seen n payload fits
-unfinished_seen n (Control op body) fits = hex_seen n body fits
+unfinished_seen : (n : ℕ) (event : MeantEvent) → IsBytes (payload_in event) → CanBeSeen (view_of_unfinished n event).shown
+unfinished_seen n (Message kinds.Text payload) fits = part_is_utf8 n payload
+unfinished_seen n (Message kinds.Binary payload) fits = take_bytes (n / 2) payload fits
+unfinished_seen n (Control op body) fits = take_bytes (n / 2) body fits
 
 -- ---- lines
 
@@ -231,17 +244,17 @@ head info fits =
     ⊕ form_seen info.form
 
 item : (n : ℕ) (item : Item) → IsBytes (bytes_in item) → ShowsTextReason item → Seen (item_text n item)
-item n (Event offset event frames) fits reason = fields event frames ⊕ space ⊕ event_seen n event fits reason
+item n (Event offset event frames) fits reason = fields event frames ⊕ space ⊕ view_seen n (view_of_event n event) (event_seen n event fits reason)
 item n (Head info) fits reason = head info fits
 item n (Unfinished offset event frames lacks) fits reason =
     word (codes "unfinished ") refl ⊕ fields event frames ⊕ word (codes " lacks ") refl ⊕ number_or_dash lacks ⊕ space
-    ⊕ unfinished_seen n event fits
+    ⊕ view_seen n (view_of_unfinished n event) (unfinished_seen n event fits)
 item n (UnfinishedHead offset) fits reason = word (codes "unfinished head 0 0 lacks - -") refl
 item n (RefusedFrame offset refusal evidence character) fits reason = verdict refusal ⊕ space ⊕ end_seen n evidence fits
 item n (Unread offset bytes) fits reason =
-    word (codes "unread") refl ⊕ space ⊕ number (length bytes) ⊕ space ⊕ hex_seen n bytes fits
+    word (codes "unread") refl ⊕ space ⊕ number (length bytes) ⊕ space ⊕ view_seen n (view_of_bytes n bytes) (take_bytes (n / 2) bytes fits)
 item n (Tail offset bytes) fits reason =
-    word (codes "tail") refl ⊕ space ⊕ number (length bytes) ⊕ space ⊕ hex_seen n bytes fits
+    word (codes "tail") refl ⊕ space ⊕ number (length bytes) ⊕ space ⊕ view_seen n (view_of_bytes n bytes) (take_bytes (n / 2) bytes fits)
 
 pub item_line_visible : (n : ℕ) (role : Role) (time : Option (List ℕ)) (shown : Item) → IfSome time IsAllVisible → IsBytes (bytes_in shown) → ShowsTextReason shown
     → IsVisibleLine (item_line n role time shown)

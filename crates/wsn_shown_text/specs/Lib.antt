@@ -1,4 +1,6 @@
 -- Definitions of what is shown of streams and captures, in reading order.
+pub mod Views
+pub mod AsciiText
 pub mod ShownText
 pub mod CharacterText
 pub mod ShownObjects

@@ -1,83 +1,53 @@
 -- The JSON objects of `show`, one a line, each with its LF: entries of what both sides sent, and comments.
-use Rattle.std.specs.Prelude.{ℕ, ◌+◌, ◌*◌, ◌-◌, ◌/◌, ◌==◌, nat_lt, if◌then◌else◌, None, Some, List, [], ◌∷◌, ◌++◌, length, take, drop, codes}
+use Rattle.std.specs.Prelude.{ℕ, ◌==◌, Bool, if◌then◌else◌, None, Some, List, [], ◌∷◌, ◌++◌, length, drop, codes}
 use Rattle.std.specs.Str.Lossy.{utf8_valid_len}
 use Rattle.hex.specs.Hex.{encode_lower}
 use Rattle.wsn_wire.specs.declared.endpoint.Role.{Role}
 use Rattle.wsn_wire.specs.declared.endpoint.Role.TheVariants.{Client, Server}
-use Rattle.wsn_wire.specs.declared.opcode.Kind.{Kind}
-use Rattle.wsn_wire.specs.declared.opcode.Kind.TheVariants as kinds
-use Rattle.wsn_wire.specs.declared.opcode.Op.{Op}
-use Rattle.wsn_wire.specs.declared.opcode.Op.TheVariants as ops
 use Rattle.wsn_rules.specs.declared.head_info.HeadInfo.{HeadInfo}
-use Rattle.wsn_rules.specs.Meaning.{MeantEvent, Message, Control}
 use Rattle.wsn_rules.specs.ShownStream.{Item}
 use Rattle.wsn_rules.specs.ShownStream.Item.{Event, Head, Unfinished, UnfinishedHead, RefusedFrame, Unread, Tail}
 use Rattle.wsn_print.specs.Json.{field, string_field, number_field, number_or_null_field}
 use Rattle.wsn_print.specs.Objects.{refusal_fields, head_fields}
 use Rattle.wsn_shown_text.specs.CharacterText.{character_fields}
 use Rattle.wsn_print.specs.EscapedText.{quoted}
-use Rattle.wsn_print.specs.ShownParts.{Position, text_part}
+use Rattle.wsn_print.specs.ShownParts.{Position}
 use Rattle.wsn_print.specs.ShownParts.Position.{InLine, AtEnd, InStream}
-use Rattle.wsn_shown_text.specs.ShownText.{is_printable, event_word, event_size, offset_of}
+use Rattle.wsn_shown_text.specs.AsciiText.{ascii_quoted}
+use Rattle.wsn_shown_text.specs.Views.{Shown, PayloadView, EndView, view_of_bytes, view_of_end, view_of_event, view_of_unfinished}
+use Rattle.wsn_shown_text.specs.Views.Shown.{Text, Ascii, Hex, Code, NoCode}
+use Rattle.wsn_shown_text.specs.ShownText.{event_word, event_size, offset_of}
 
 -- ---- views
 
--- A member follows a view that shows fewer bytes than there are.
-abbrev pub truncated_field : ℕ → ℕ → List ℕ
-truncated_field shown all = if nat_lt shown all then codes ",\"truncated\":true" else []
-
--- A text's first bytes: at most n, whole characters.
-abbrev pub text_fields : ℕ → List ℕ → List ℕ
-text_fields n text =
-    field (codes "text") (quoted (take (text_part n text) text)) ++ truncated_field (text_part n text) (length text)
+-- There is more than is shown.
+abbrev pub truncated_field : Bool → List ℕ
+truncated_field more = if more then codes ",\"truncated\":true" else []
 
 -- Bytes in hexadecimal.
 abbrev pub hex_field : List ℕ → List ℕ
 hex_field bytes = string_field (codes "hex") (encode_lower bytes)
 
--- The first n/2 bytes in hexadecimal.
-abbrev pub hex_fields : ℕ → List ℕ → List ℕ
-hex_fields n bytes = hex_field (take (n / 2) bytes) ++ truncated_field (n / 2) (length bytes)
-
--- The last n/2 bytes in hexadecimal.
-abbrev pub end_fields : ℕ → List ℕ → List ℕ
-end_fields n bytes = hex_field (drop (length bytes - n / 2) bytes) ++ truncated_field (n / 2) (length bytes)
-
--- A ping's or pong's body: a text if all of it is printable, otherwise hexadecimal.
-abbrev pub body_fields : ℕ → List ℕ → List ℕ
-body_fields n body = if is_printable body then text_fields n body else hex_fields n body
-
--- A Close's reason, whole; nothing without one.
+-- A Close's reason; nothing without one.
 abbrev pub reason_field : List ℕ → List ℕ
 reason_field [] = []
 reason_field (b ∷ reason) = field (codes "reason") (quoted (b ∷ reason))
 
--- A Close's code and reason; null for an empty body. Of a body that isn't empty, none is shown if n is 0.
-abbrev pub close_fields : ℕ → List ℕ → List ℕ
-close_fields n (high ∷ low ∷ reason) =
-    if n == 0 then codes ",\"code\":null,\"truncated\":true"
-    else number_field (codes "code") (high * 256 + low) ++ reason_field reason
-close_fields n body = codes ",\"code\":null"
+-- A text is a string, and bytes are one in hexadecimal.
+abbrev pub shown_fields : Shown → List ℕ
+shown_fields (Text text) = field (codes "text") (quoted text)
+shown_fields (Ascii text) = field (codes "text") (ascii_quoted text)
+shown_fields (Hex bytes) = hex_field bytes
+shown_fields (Code code reason) = number_field (codes "code") code ++ reason_field reason
+shown_fields NoCode = codes ",\"code\":null"
 
--- A control's body.
-abbrev pub control_fields : ℕ → Op → List ℕ → List ℕ
-control_fields n ops.Close body = close_fields n body
-control_fields n op body = body_fields n body
+-- A view, with a member that follows if there is more.
+abbrev pub view_fields : PayloadView → List ℕ
+view_fields view = shown_fields view.shown ++ truncated_field view.more
 
--- A message's payload.
-abbrev pub message_fields : ℕ → Kind → List ℕ → List ℕ
-message_fields n kinds.Text payload = text_fields n payload
-message_fields n kinds.Binary payload = hex_fields n payload
-
--- What is shown of an event's payload.
-abbrev pub event_view_fields : ℕ → MeantEvent → List ℕ
-event_view_fields n (Message kind payload) = message_fields n kind payload
-event_view_fields n (Control op body) = control_fields n op body
-
--- What is shown of the payload of an event that isn't complete.
-abbrev pub unfinished_view_fields : ℕ → MeantEvent → List ℕ
-unfinished_view_fields n (Message kind payload) = message_fields n kind payload
-unfinished_view_fields n (Control op body) = hex_fields n body
+-- The last bytes, likewise.
+abbrev pub end_fields : EndView → List ℕ
+end_fields end = hex_field end.bytes ++ truncated_field end.more
 
 -- ---- entries
 
@@ -131,17 +101,17 @@ shown_frame_object role position head = object_front (codes "frame") role positi
 -- The members of an item after its offset, with views of at most n bytes. (A frame has all its members by its head.)
 abbrev pub item_fields : ℕ → Item → List ℕ
 item_fields n (Event offset event frames) =
-    event_fields (event_word event) (event_size event) frames ++ event_view_fields n event
+    event_fields (event_word event) (event_size event) frames ++ view_fields (view_of_event n event)
 item_fields n (Head info) = []
 item_fields n (Unfinished offset event frames lacks) =
     event_fields (event_word event) (event_size event) frames ++ number_or_null_field (codes "lacks") lacks
-    ++ unfinished_view_fields n event
+    ++ view_fields (view_of_unfinished n event)
 item_fields n (UnfinishedHead offset) =
     event_fields (codes "head") 0 0 ++ number_or_null_field (codes "lacks") None ++ hex_field []
 item_fields n (RefusedFrame offset refusal evidence character) =
-    refusal_fields (codes "place") refusal ++ end_fields n evidence ++ character_fields n evidence character
-item_fields n (Unread offset bytes) = number_field (codes "bytes") (length bytes) ++ hex_fields n bytes
-item_fields n (Tail offset bytes) = number_field (codes "bytes") (length bytes) ++ hex_fields n bytes
+    refusal_fields (codes "place") refusal ++ end_fields (view_of_end n evidence) ++ character_fields n evidence character
+item_fields n (Unread offset bytes) = number_field (codes "bytes") (length bytes) ++ view_fields (view_of_bytes n bytes)
+item_fields n (Tail offset bytes) = number_field (codes "bytes") (length bytes) ++ view_fields (view_of_bytes n bytes)
 
 -- An item of an endpoint's stream.
 abbrev pub item_object : ℕ → Role → Position → Item → List ℕ

@@ -1,88 +1,73 @@
 -- The lines of `show`, each with its LF: entries of what both sides sent, and end marks. (Comments are in `EscapedText`.)
-use Rattle.std.specs.Prelude.{ℕ, ◌+◌, ◌*◌, ◌-◌, ◌/◌, ◌==◌, ◌&&◌, nat_lt, Bool, true, if◌then◌else◌, Option, None, Some, List, [], ◌∷◌, ◌++◌, length, take, drop, codes, decimal}
+use Rattle.std.specs.Prelude.{ℕ, ◌==◌, ◌&&◌, if◌then◌else◌, Option, None, Some, List, [], ◌∷◌, ◌++◌, length, codes, decimal}
 use Rattle.hex.specs.Hex.{encode_lower}
 use Rattle.wsn_wire.specs.declared.endpoint.Role.{Role}
 use Rattle.wsn_wire.specs.declared.endpoint.Role.TheVariants.{Client, Server}
 use Rattle.wsn_wire.specs.declared.opcode.Kind.{Kind}
 use Rattle.wsn_wire.specs.declared.opcode.Kind.TheVariants as kinds
-use Rattle.wsn_wire.specs.declared.opcode.Op.{Op}
-use Rattle.wsn_wire.specs.declared.opcode.Op.TheVariants as ops
 use Rattle.wsn_rules.specs.Meaning.{MeantEvent, Message, Control}
 use Rattle.wsn_rules.specs.ShownStream.{Item}
 use Rattle.wsn_rules.specs.ShownStream.Item.{Event, Head, Unfinished, UnfinishedHead, RefusedFrame, Unread, Tail}
 use Rattle.wsn_print.specs.Fields.{number_text, refusal_text, op_word}
 use Rattle.wsn_print.specs.HeadText.{head_fields}
-use Rattle.wsn_print.specs.EscapedText.{is_from, quoted}
-use Rattle.wsn_print.specs.ShownParts.{text_part}
+use Rattle.wsn_print.specs.EscapedText.{quoted}
+use Rattle.wsn_shown_text.specs.AsciiText.{ascii_quoted}
+use Rattle.wsn_shown_text.specs.Views.{Shown, PayloadView, EndView, view_of_text, view_of_bytes, view_of_end, view_of_body, view_of_event, view_of_unfinished}
+use Rattle.wsn_shown_text.specs.Views.Shown.{Text, Ascii, Hex, Code, NoCode}
 
 -- ---- views
-
--- ` ..` follows a view that shows fewer bytes than there are.
-abbrev pub left_out : ℕ → ℕ → List ℕ
-left_out shown all = if nat_lt shown all then codes " .." else []
-
--- A text's first bytes, quoted. Of a text that isn't empty, none are shown if n is 0.
-abbrev pub text_view : ℕ → List ℕ → List ℕ
-text_view n text =
-    if n == 0 && nat_lt 0 (length text) then codes "-"
-    else quoted (take (text_part n text) text) ++ left_out (text_part n text) (length text)
 
 -- Bytes in hexadecimal; a dash for none.
 abbrev pub hex_text : List ℕ → List ℕ
 hex_text [] = codes "-"
 hex_text (b ∷ bytes) = encode_lower (b ∷ bytes)
 
--- The first n/2 bytes in hexadecimal. Of some bytes, none are shown if n is 0.
-abbrev pub hex_view : ℕ → List ℕ → List ℕ
-hex_view n bytes =
-    if n == 0 then codes "-" else hex_text (take (n / 2) bytes) ++ left_out (n / 2) (length bytes)
-
--- The last n/2 bytes in hexadecimal, with `..` in front if there are more. None are shown if n is 0.
-abbrev pub end_view : ℕ → List ℕ → List ℕ
-end_view n bytes =
-    if n == 0 then codes "-"
-    else (if nat_lt (n / 2) (length bytes) then codes ".." else [])
-    ++ encode_lower (drop (length bytes - n / 2) bytes)
-
--- All bytes are printable ASCII characters.
-abbrev pub is_printable : List ℕ → Bool
-is_printable [] = true
-is_printable (b ∷ bytes) = is_from 0x20 0x7e b && is_printable bytes
-
--- A ping's or pong's body: a text if all of it is printable, otherwise hexadecimal.
-abbrev pub body_view : ℕ → List ℕ → List ℕ
-body_view n body = if is_printable body then text_view n body else hex_view n body
-
--- A Close's reason, quoted whole, after a space; nothing without one.
+-- A Close's reason, quoted, after a space; nothing without one.
 abbrev pub reason_text : List ℕ → List ℕ
 reason_text [] = []
 reason_text (b ∷ reason) = codes " " ++ quoted (b ∷ reason)
 
--- A Close's code and reason; a dash for an empty body, and if n is 0.
-abbrev pub close_view : ℕ → List ℕ → List ℕ
-close_view n (high ∷ low ∷ reason) =
-    if n == 0 then codes "-" else decimal (high * 256 + low) ++ reason_text reason
-close_view n body = codes "-"
+-- A text is quoted, and bytes are in hexadecimal.
+abbrev pub shown_text : Shown → List ℕ
+shown_text (Text text) = quoted text
+shown_text (Ascii text) = ascii_quoted text
+shown_text (Hex bytes) = hex_text bytes
+shown_text (Code code reason) = decimal code ++ reason_text reason
+shown_text NoCode = codes "-"
 
--- A control's body.
-abbrev pub control_view : ℕ → Op → List ℕ → List ℕ
-control_view n ops.Close body = close_view n body
-control_view n op body = body_view n body
+-- With ` ..` after it if there is more.
+abbrev pub seen_text : PayloadView → List ℕ
+seen_text view = shown_text view.shown ++ (if view.more then codes " .." else [])
 
--- A message's payload.
-abbrev pub message_view : ℕ → Kind → List ℕ → List ℕ
-message_view n kinds.Text payload = text_view n payload
-message_view n kinds.Binary payload = hex_view n payload
+-- A view of at most n bytes. If n is 0, a dash is shown of what isn't empty.
+abbrev pub view_text : ℕ → PayloadView → List ℕ
+view_text n view = if n == 0 && view.more then codes "-" else seen_text view
+
+-- The last bytes in hexadecimal, with `..` in front if there are more. None are shown if n is 0.
+abbrev pub end_text : ℕ → EndView → List ℕ
+end_text n end =
+    if n == 0 then codes "-" else (if end.more then codes ".." else []) ++ encode_lower end.bytes
+
+-- Of a text, of bytes, of the last of some bytes, and of a ping's or pong's body.
+abbrev pub text_view : ℕ → List ℕ → List ℕ
+text_view n text = view_text n (view_of_text n text)
+
+abbrev pub hex_view : ℕ → List ℕ → List ℕ
+hex_view n bytes = view_text n (view_of_bytes n bytes)
+
+abbrev pub end_view : ℕ → List ℕ → List ℕ
+end_view n bytes = end_text n (view_of_end n bytes)
+
+abbrev pub body_view : ℕ → List ℕ → List ℕ
+body_view n body = view_text n (view_of_body n body)
 
 -- What is shown of an event's payload.
 abbrev pub event_view : ℕ → MeantEvent → List ℕ
-event_view n (Message kind payload) = message_view n kind payload
-event_view n (Control op body) = control_view n op body
+event_view n event = view_text n (view_of_event n event)
 
 -- What is shown of the payload of an event that isn't complete.
 abbrev pub unfinished_view : ℕ → MeantEvent → List ℕ
-unfinished_view n (Message kind payload) = message_view n kind payload
-unfinished_view n (Control op body) = hex_view n body
+unfinished_view n event = view_text n (view_of_unfinished n event)
 
 -- ---- entries
 

@@ -3,7 +3,7 @@ ghost use Rattle.std.specs.Str.{chars};
 ghost use Rattle.std.specs.Str.Lossy.{utf8_valid_len};
 ghost use Rattle.wsn_io.specs.Stops.{IsWrittenOrStops};
 ghost use Rattle.wsn_print.specs.EscapedText.{unicode_escape, ascii_escape};
-ghost use Rattle.wsn_shown_text.specs.DifferingText.{ascii_character, ascii_quoted};
+ghost use Rattle.wsn_shown_text.specs.AsciiText.{ascii_character, ascii_quoted};
 
 use std::io::Write;
 use wsn_io::{Output, Stop, put_line};
@@ -28,8 +28,7 @@ pub(crate) fn first_characters(bytes: &[u8]) -> &str
 /// Writes a text in printable ASCII characters between quotation marks.
 pub(crate) fn put_ascii_quoted<W: Write>(to: &mut Output<W>, text: &str) -> Result<(), Stop>
     requires { to.old.failed ≡ false }
-    ensures text { IsWrittenOrStops to.old to.new (ascii_quoted text.now) result }
-    ensures unfailed { IfOk result (λ done. to.new.failed ≡ false) }
+    ensures { IsWrittenOrStops to.old to.new (ascii_quoted text.now) result }
 {
     put_line(to, b"\"")?;
     put_ascii_characters(to, text)?;

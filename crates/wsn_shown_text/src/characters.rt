@@ -7,8 +7,9 @@ ghost use Rattle.wsn_print.specs.ShownParts.{IsEndOf, time_of, character_of, cha
 ghost use Rattle.wsn_shown_text.specs.CharacterText.{from_character, whole_characters, end_part, known_text, text_before, byte_escape, character_text, character_view, character_line, shown_bytes, truncated_text, character_object, character_fields};
 
 use crate::entries::put_front;
+use crate::line_views::{put_hex, put_if};
 use crate::object_views::{put_hex_field, put_truncated};
-use crate::views::{end_of, front_of, put_hex, put_left_out_before};
+use crate::views::{end_of, front_of};
 use std::io::Write;
 use wsn_io::{Output, Stop, put_line};
 use wsn_print::{
@@ -102,7 +103,7 @@ fn put_character_text<W: Write>(
 {
     let end = end_of_text(view, evidence, character);
     let before = text_before(end.as_slice(), character);
-    put_left_out_before(to, before.len(), character.in_payload)?;
+    put_if(to, (before.len() as u64) < character.in_payload, b"..")?;
     put_line(to, b"\"")?;
     put_quoted_characters(to, before)?;
     put_byte_escapes(to, character.bytes)?;
@@ -268,23 +269,12 @@ fn put_before_field<W: Write>(
     let before = text_before(end.as_slice(), character);
     put_line(to, b",\"before\":")?;
     put_quoted(to, before.as_bytes())?;
-    put_truncated_text(to, view, before.len(), character.in_payload)
+    put_truncated(to, hides_some(view, before.len(), character.in_payload))
 }
 
-/// Writes whether a view is 0, or fewer bytes are shown than there are.
-#[tactic(none)]
-fn put_truncated_text<W: Write>(
-    to: &mut Output<W>,
-    view: ViewLimit,
-    shown: usize,
-    all: u64,
-) -> Result<(), Stop>
-    requires { to.old.failed ≡ false }
-    ensures { IsWrittenOrStops to.old to.new
-        (if view == 0 || nat_lt shown all then codes ",\"truncated\":true" else []) result }
+/// Whether a view is 0, or fewer bytes are shown than there are.
+fn hides_some(view: ViewLimit, shown: usize, all: u64) -> bool
+    ensures { result ≡ (view == 0 || nat_lt shown all) }
 {
-    if view.bytes() == 0 {
-        return put_line(to, b",\"truncated\":true");
-    }
-    put_truncated(to, shown, all)
+    view.bytes() == 0 || (shown as u64) < all
 }

@@ -8,7 +8,8 @@ ghost use Rattle.wsn_print.specs.HeadText.{head_fields};
 ghost use Rattle.wsn_shown_text.specs.ShownText.{item_line, end_line, front_text, event_text, role_letter, time_text};
 ghost use Rattle.wsn_print.specs.ShownParts.{time_of, Represents, HasText, HasTextPayload, IsFrontOf, IsEndOf, item_of_remainder, remainder_word};
 
-use crate::views::{put_end_view, put_event_view, put_hex_view, put_unfinished_view};
+use crate::line_views::{put_end_text, put_view};
+use crate::views::{view_of_bytes, view_of_end, view_of_event, view_of_unfinished};
 use std::io::Write;
 use wsn_io::{Output, Stop, put_line};
 use wsn_print::{Front, HeldBytes, Line, Remainder, ShownEvent, ViewLimit, op_word};
@@ -49,7 +50,7 @@ pub fn put_event<W: Write>(
 {
     put_endpoint(to, front)?;
     put_line(to, line_of_event(front.offset, event).bytes())?;
-    put_event_view(to, view, event)?;
+    put_view(to, view, &view_of_event(view, event))?;
     put_line(to, b"\n")
 }
 
@@ -87,7 +88,7 @@ pub fn put_unfinished<W: Write>(
 {
     put_front(to, front)?;
     put_line(to, line_of_unfinished_event(event, lacks).bytes())?;
-    put_unfinished_view(to, view, event)?;
+    put_view(to, view, &view_of_unfinished(view, event))?;
     put_line(to, b"\n")
 }
 
@@ -121,7 +122,7 @@ pub fn put_refused<W: Write>(
 {
     put_front(to, front)?;
     put_line(to, line_of_refusal(refusal).bytes())?;
-    put_end_view(to, view, evidence)?;
+    put_end_text(to, view, &view_of_end(view, evidence))?;
     put_line(to, b"\n")
 }
 
@@ -141,7 +142,7 @@ pub fn put_remainder<W: Write>(
 {
     put_front(to, front)?;
     put_line(to, line_of_remainder(which, bytes.bytes).bytes())?;
-    put_hex_view(to, view, bytes)?;
+    put_view(to, view, &view_of_bytes(view, bytes))?;
     put_line(to, b"\n")
 }
 

@@ -9,8 +9,9 @@
 //! `put_.._object` writes an entry as a JSON object, and [`put_end_as`] and [`put_comment_as`] write an end mark or a
 //! comment in a [`Format`](wsn_print::Format). [`put_difference_as`] writes a difference with the events that differ.
 //!
-//! `ShownText` and `CharacterText` define the lines, `ShownObjects` the objects, `EntryFormats` the texts in each format,
-//! `DifferenceText` a difference with its events, and `DifferingText` what is shown where their payloads differ.
+//! `Views` says what is shown of a payload, whatever the format. `ShownText` and `CharacterText` define the lines,
+//! `ShownObjects` the objects, `EntryFormats` the texts in each format, `DifferenceText` a difference with its events, and
+//! `DifferingText` what is shown where their payloads differ.
 //! `QuotedTexts` says what a quoted text is ([`quoted_laws`]). [`printed_entries`], [`printed_objects`] and
 //! [`printed_differences`] have examples of printed lines, computed from the definitions.
 #![tactic(auto)]
@@ -22,6 +23,7 @@ mod differing;
 mod differing_members;
 mod entries;
 mod entry_formats;
+mod line_views;
 mod object_views;
 pub mod printed_differences;
 pub mod printed_entries;

@@ -1,139 +1,68 @@
-ghost use Rattle.std.specs.Prelude.{◌≡◌, ℕ, ◌/◌, ◌≤◌, false, List, IfOk, drop, length, codes};
+ghost use Rattle.std.specs.Prelude.{◌≡◌, false, IfOk, codes};
 ghost use Rattle.std.specs.Str.{IsUtf8};
 ghost use Rattle.wsn_io.specs.Stops.{IsWrittenOrStops};
-ghost use Rattle.wsn_text.specs.Utf8.{BeginsText};
-ghost use Rattle.wsn_rules.specs.Meaning.{MeantEvent};
-ghost use Rattle.wsn_print.specs.Json.{field, number_field};
 ghost use Rattle.wsn_print.specs.EscapedText.{quoted};
-ghost use Rattle.wsn_print.specs.ShownParts.{Represents, HasText, HasTextPayload, IsFrontOf, IsEndOf};
-ghost use Rattle.wsn_shown_text.specs.ShownObjects.{truncated_field, text_fields, hex_field, hex_fields, end_fields, body_fields, reason_field, close_fields, event_view_fields, unfinished_view_fields};
+ghost use Rattle.wsn_print.specs.Json.{field, number_field};
+ghost use Rattle.wsn_shown_text.specs.AsciiText.{ascii_quoted};
+ghost use Rattle.wsn_shown_text.specs.ShownObjects.{truncated_field, hex_field, reason_field, shown_fields, view_fields, end_fields};
+ghost use Rattle.wsn_shown_text.specs.Views.{PayloadView, EndView, view_in, end_in, shown_in, IsReadable};
+ghost use Rattle.wsn_shown_text.specs.Views.Shown.{Code};
 
-use crate::views::{end_of, front_of, is_printable, payload_of, put_hex};
+use crate::ascii_text::put_ascii_quoted;
+use crate::line_views::{put_hex, put_if};
+use crate::views::{Ending, Shown, View};
 use std::io::Write;
 use wsn_io::{Output, Stop, put_line};
-use wsn_print::{HeldBytes, Line, ShownEvent, ViewLimit, push_number_field, put_quoted};
-use wsn_text::whole_characters;
-use wsn_wire::Op;
+use wsn_print::{Line, push_number_field, put_quoted};
 
 /// The space for a member with a close code in bytes.
 const CODE_MAX: usize = 28;
 
-/// Writes what is shown of a complete event's payload.
-pub(crate) fn put_event_view_fields<W: Write>(
-    to: &mut Output<W>,
-    view: ViewLimit,
-    event: &ShownEvent<'_>,
-) -> Result<(), Stop>
+/// Writes the members of a view.
+pub(crate) fn put_view_fields<W: Write>(to: &mut Output<W>, view: &View<'_>) -> Result<(), Stop>
     requires { to.old.failed ≡ false }
-    ensures text { (e : MeantEvent) → Represents view event.now e → HasText e →
-        IsWrittenOrStops to.old to.new (event_view_fields view e) result }
+    ensures text { (v : PayloadView) → view_in view.now ≡ v → IsReadable v.shown →
+        IsWrittenOrStops to.old to.new (view_fields v) result }
     ensures unfailed { IfOk result (λ done. to.new.failed ≡ false) }
 {
-    match event.op {
-        Op::Text => put_text_fields(to, view, &payload_of(event)),
-        Op::Binary => put_hex_fields(to, view, &payload_of(event)),
-        Op::Close => put_close_fields(to, view, event.held),
-        Op::Continue | Op::Ping | Op::Pong => put_body_fields(to, view, event.held),
+    put_shown_fields(to, &view.shown)?;
+    put_truncated(to, view.more)
+}
+
+/// Writes the last bytes, and whether there are more.
+pub(crate) fn put_end_fields<W: Write>(to: &mut Output<W>, end: &Ending<'_>) -> Result<(), Stop>
+    requires { to.old.failed ≡ false }
+    ensures text { (e : EndView) → end_in end.now ≡ e → IsWrittenOrStops to.old to.new (end_fields e) result }
+    ensures unfailed { IfOk result (λ done. to.new.failed ≡ false) }
+{
+    put_hex_field(to, end.bytes)?;
+    put_truncated(to, end.more)
+}
+
+/// Writes a text as a string, and bytes in hexadecimal.
+fn put_shown_fields<W: Write>(to: &mut Output<W>, shown: &Shown<'_>) -> Result<(), Stop>
+    requires { to.old.failed ≡ false }
+    ensures text { IsReadable (shown_in shown.now) →
+        IsWrittenOrStops to.old to.new (shown_fields (shown_in shown.now)) result }
+    ensures unfailed { IfOk result (λ done. to.new.failed ≡ false) }
+{
+    match *shown {
+        Shown::Text(text) => put_text_field(to, text),
+        Shown::Ascii(text) => put_ascii_field(to, text),
+        Shown::Hex(bytes) => put_hex_field(to, bytes),
+        Shown::Code(code, reason) => put_code_fields(to, code, reason),
+        Shown::NoCode => put_line(to, b",\"code\":null"),
     }
 }
 
-/// Writes what is shown of the payload of an event that isn't complete.
-pub(crate) fn put_unfinished_view_fields<W: Write>(
-    to: &mut Output<W>,
-    view: ViewLimit,
-    event: &ShownEvent<'_>,
-) -> Result<(), Stop>
+/// Writes a Close's code and reason.
+fn put_code_fields<W: Write>(to: &mut Output<W>, code: u16, reason: &[u8]) -> Result<(), Stop>
     requires { to.old.failed ≡ false }
-    ensures text { (e : MeantEvent) → Represents view event.now e → HasTextPayload e →
-        IsWrittenOrStops to.old to.new (unfinished_view_fields view e) result }
+    ensures text { IsUtf8 reason.now → IsWrittenOrStops to.old to.new (shown_fields (Code code reason.now)) result }
     ensures unfailed { IfOk result (λ done. to.new.failed ≡ false) }
 {
-    match event.op {
-        Op::Text => put_text_fields(to, view, &payload_of(event)),
-        _ => put_hex_fields(to, view, &payload_of(event)),
-    }
-}
-
-/// Writes a text's first bytes, quoted.
-fn put_text_fields<W: Write>(
-    to: &mut Output<W>,
-    view: ViewLimit,
-    text: &HeldBytes<'_>,
-) -> Result<(), Stop>
-    requires { to.old.failed ≡ false }
-    ensures text { (all : List ℕ) → IsFrontOf view all text.now → BeginsText all →
-        IsWrittenOrStops to.old to.new (text_fields view all) result }
-    ensures unfailed { IfOk result (λ done. to.new.failed ≡ false) }
-{
-    let shown = whole_characters(front_of(text.held, view.bytes()));
-    put_line(to, b",\"text\":")?;
-    put_quoted(to, shown)?;
-    put_truncated(to, shown.len(), text.bytes)
-}
-
-/// Writes the first bytes in hexadecimal.
-pub(crate) fn put_hex_fields<W: Write>(
-    to: &mut Output<W>,
-    view: ViewLimit,
-    bytes: &HeldBytes<'_>,
-) -> Result<(), Stop>
-    requires { to.old.failed ≡ false }
-    ensures text { (all : List ℕ) → IsFrontOf (view / 2) all bytes.now →
-        IsWrittenOrStops to.old to.new (hex_fields view all) result }
-    ensures unfailed { IfOk result (λ done. to.new.failed ≡ false) }
-{
-    let most = view.bytes() / 2;
-    put_hex_field(to, front_of(bytes.held, most))?;
-    put_truncated(to, most, bytes.bytes)
-}
-
-/// Writes the last bytes in hexadecimal.
-pub(crate) fn put_end_fields<W: Write>(
-    to: &mut Output<W>,
-    view: ViewLimit,
-    bytes: &HeldBytes<'_>,
-) -> Result<(), Stop>
-    requires { to.old.failed ≡ false }
-    ensures text { (all : List ℕ) → IsEndOf (view / 2) all bytes.now →
-        IsWrittenOrStops to.old to.new (end_fields view all) result }
-    ensures unfailed { IfOk result (λ done. to.new.failed ≡ false) }
-{
-    let most = view.bytes() / 2;
-    put_hex_field(to, end_of(bytes.held, most))?;
-    put_truncated(to, most, bytes.bytes)
-}
-
-/// Writes a ping's or pong's body: a text if all of it is printable, otherwise hexadecimal.
-fn put_body_fields<W: Write>(to: &mut Output<W>, view: ViewLimit, body: &[u8]) -> Result<(), Stop>
-    requires { to.old.failed ≡ false }
-    ensures { IsWrittenOrStops to.old to.new (body_fields view body.now) result }
-{
-    let whole = HeldBytes {
-        bytes: body.len() as u64,
-        held: body,
-    };
-    if is_printable(body) {
-        put_text_fields(to, view, &whole)
-    } else {
-        put_hex_fields(to, view, &whole)
-    }
-}
-
-/// Writes a Close's code and reason: null for an empty body, and if the view is 0.
-fn put_close_fields<W: Write>(to: &mut Output<W>, view: ViewLimit, body: &[u8]) -> Result<(), Stop>
-    requires { to.old.failed ≡ false }
-    ensures text { IsUtf8 (drop 2 body.now) → IsWrittenOrStops to.old to.new (close_fields view body.now) result }
-    ensures unfailed { IfOk result (λ done. to.new.failed ≡ false) }
-{
-    if body.len() < 2 {
-        return put_line(to, b",\"code\":null");
-    }
-    if view.bytes() == 0 {
-        return put_line(to, b",\"code\":null,\"truncated\":true");
-    }
-    let code = u16::from(body[0]) * 256 + u16::from(body[1]);
     put_line(to, line_of_code(code).bytes())?;
-    put_reason_field(to, &body[2..])
+    put_reason_field(to, reason)
 }
 
 fn line_of_code(code: u16) -> Line<CODE_MAX>
@@ -167,6 +96,14 @@ pub(crate) fn put_text_field<W: Write>(to: &mut Output<W>, text: &[u8]) -> Resul
     put_quoted(to, text)
 }
 
+fn put_ascii_field<W: Write>(to: &mut Output<W>, text: &str) -> Result<(), Stop>
+    requires { to.old.failed ≡ false }
+    ensures { IsWrittenOrStops to.old to.new (field (codes "text") (ascii_quoted text.now)) result }
+{
+    put_line(to, b",\"text\":")?;
+    put_ascii_quoted(to, text)
+}
+
 /// Writes bytes in hexadecimal.
 pub(crate) fn put_hex_field<W: Write>(to: &mut Output<W>, bytes: &[u8]) -> Result<(), Stop>
     requires { to.old.failed ≡ false }
@@ -177,18 +114,10 @@ pub(crate) fn put_hex_field<W: Write>(to: &mut Output<W>, bytes: &[u8]) -> Resul
     put_line(to, b"\"")
 }
 
-/// Writes whether fewer bytes are shown than there are.
-pub(crate) fn put_truncated<W: Write>(
-    to: &mut Output<W>,
-    shown: usize,
-    all: u64,
-) -> Result<(), Stop>
+/// Writes whether there is more than is shown.
+pub(crate) fn put_truncated<W: Write>(to: &mut Output<W>, more: bool) -> Result<(), Stop>
     requires { to.old.failed ≡ false }
-    ensures { IsWrittenOrStops to.old to.new (truncated_field shown all) result }
+    ensures { IsWrittenOrStops to.old to.new (truncated_field more) result }
 {
-    if (shown as u64) < all {
-        put_line(to, b",\"truncated\":true")
-    } else {
-        Ok(())
-    }
+    put_if(to, more, b",\"truncated\":true")
 }

@@ -10,10 +10,8 @@ ghost use Rattle.wsn_print.specs.ShownParts.{position_of, Represents, HasText, H
 
 use crate::characters::put_character_fields;
 use crate::entries::remainder_word;
-use crate::object_views::{
-    put_end_fields, put_event_view_fields, put_hex_field, put_hex_fields, put_text_field,
-    put_unfinished_view_fields,
-};
+use crate::object_views::{put_end_fields, put_hex_field, put_text_field, put_view_fields};
+use crate::views::{view_of_bytes, view_of_end, view_of_event, view_of_unfinished};
 use std::io::Write;
 use std::str;
 use wsn_io::{Output, Stop, put_line};
@@ -72,7 +70,7 @@ pub(crate) fn put_event_members<W: Write>(
 {
     put_front(to, "event", front.role, &front.origin)?;
     put_line(to, line_of_event(front.offset, event).bytes())?;
-    put_event_view_fields(to, view, event)
+    put_view_fields(to, &view_of_event(view, event))
 }
 
 /// Writes an event that isn't complete as a JSON object in one line: as that of a complete one, and how many bytes its
@@ -92,7 +90,7 @@ pub fn put_unfinished_object<W: Write>(
 {
     put_front(to, "unfinished", front.role, &front.origin)?;
     put_line(to, line_of_unfinished(front.offset, event, lacks).bytes())?;
-    put_unfinished_view_fields(to, view, event)?;
+    put_view_fields(to, &view_of_unfinished(view, event))?;
     put_line(to, b"}\n")
 }
 
@@ -132,7 +130,7 @@ pub fn put_refused_object<W: Write>(
 {
     put_front(to, "refused", front.role, &front.origin)?;
     put_line(to, line_of_refusal(front.offset, refusal).bytes())?;
-    put_end_fields(to, view, evidence)?;
+    put_end_fields(to, &view_of_end(view, evidence))?;
     put_character_fields(to, view, evidence, character)?;
     put_line(to, b"}\n")
 }
@@ -153,7 +151,7 @@ pub fn put_remainder_object<W: Write>(
 {
     put_front(to, remainder_word(which), front.role, &front.origin)?;
     put_line(to, line_of_remainder(front.offset, bytes.bytes).bytes())?;
-    put_hex_fields(to, view, bytes)?;
+    put_view_fields(to, &view_of_bytes(view, bytes))?;
     put_line(to, b"}\n")
 }
 

@@ -1,65 +1,74 @@
-ghost use Rattle.std.specs.Prelude.{◌≡◌, ℕ, ◌-◌, ◌/◌, ◌<◌, ◌≤◌, [], ◌++◌, ◌==◌, ◌&&◌, nat_lt, if◌then◌else◌, false, List, IfOk, take, drop, length, decimal, codes};
-ghost use Rattle.std.specs.Str.{IsUtf8};
-ghost use Rattle.hex.specs.Hex.{encode_lower};
-ghost use Rattle.wsn_io.specs.Stops.{IsWrittenOrStops};
+ghost use Rattle.std.specs.Prelude.{◌≡◌, ℕ, ◌-◌, ◌/◌, nat_lt, List, take, drop, length};
 ghost use Rattle.wsn_text.specs.Utf8.{BeginsText};
 ghost use Rattle.wsn_rules.specs.Meaning.{MeantEvent};
-ghost use Rattle.wsn_shown_text.specs.ShownText.{left_out, text_view, hex_text, hex_view, end_view, is_printable, body_view, reason_text, close_view, event_view, unfinished_view};
-ghost use Rattle.wsn_print.specs.ShownParts.{Represents, HasText, HasTextPayload, IsFrontOf, IsEndOf};
+ghost use Rattle.wsn_print.specs.DifferingPayloads.{IsPartOf};
+ghost use Rattle.wsn_print.specs.ShownParts.{Represents, HasText, HasTextPayload, IsFrontOf, IsEndOf, text_part};
+ghost use Rattle.wsn_shown_text.specs.Views.{view_of_text, view_of_bytes, view_of_end, is_printable, view_of_body, view_of_close, view_of_event, view_of_unfinished, view_of_part, view_in, end_in};
+ghost use Rattle.wsn_shown_text.specs.Views.Shown.{Ascii, Hex, NoCode};
 
-use std::io::Write;
-use wsn_io::{Output, Stop, put_line};
-use wsn_print::{HeldBytes, Line, ShownEvent, ViewLimit, put_quoted};
+use crate::ascii_text::first_characters;
+use wsn_print::{HeldBytes, PayloadPart, ShownEvent, ViewLimit};
 use wsn_text::whole_characters;
 use wsn_wire::Op;
 
-/// The most bytes that are encoded at once.
-const CHUNK: usize = 32;
+/// What is shown of a payload, whatever the format.
+#[derive(Clone, Copy)]
+pub(crate) enum Shown<'a> {
+    /// The first bytes of a text, which are whole characters.
+    Text(&'a [u8]),
+    /// A text, of which only printable ASCII characters are shown as they are.
+    Ascii(&'a str),
+    /// Bytes in hexadecimal.
+    Hex(&'a [u8]),
+    /// A Close's code and reason.
+    Code(u16, &'a [u8]),
+    /// That a Close has no code, or none that is shown.
+    NoCode,
+}
 
-/// The number of their digits.
-const CHUNK_DIGITS: usize = 64;
+/// What is shown of a payload, and whether there is more.
+#[derive(Clone, Copy)]
+pub(crate) struct View<'a> {
+    /// What is shown.
+    pub(crate) shown: Shown<'a>,
+    /// Whether there is more.
+    pub(crate) more: bool,
+}
 
-/// The space for a close code in bytes.
-const CODE_MAX: usize = 20;
+/// The last bytes of some, and whether there are more before them.
+#[derive(Clone, Copy)]
+pub(crate) struct Ending<'a> {
+    /// The bytes.
+    pub(crate) bytes: &'a [u8],
+    /// Whether there are more.
+    pub(crate) more: bool,
+}
 
-/// Writes what is shown of a complete event's payload.
-pub(crate) fn put_event_view<W: Write>(
-    to: &mut Output<W>,
-    view: ViewLimit,
-    event: &ShownEvent<'_>,
-) -> Result<(), Stop>
-    requires { to.old.failed ≡ false }
-    ensures text { (e : MeantEvent) → Represents view event.now e → HasText e →
-        IsWrittenOrStops to.old to.new (event_view view e) result }
-    ensures unfailed { IfOk result (λ done. to.new.failed ≡ false) }
+/// What is shown of a complete event's payload.
+pub(crate) fn view_of_event<'a>(view: ViewLimit, event: &ShownEvent<'a>) -> View<'a>
+    ensures { (e : MeantEvent) → Represents view event.now e → HasText e → view_in result ≡ view_of_event view e }
 {
     match event.op {
-        Op::Text => put_text_view(to, view, &payload_of(event)),
-        Op::Binary => put_hex_view(to, view, &payload_of(event)),
-        Op::Close => put_close_view(to, view, event.held),
-        Op::Continue | Op::Ping | Op::Pong => put_body_view(to, view, event.held),
+        Op::Text => view_of_text(view, &payload_of(event)),
+        Op::Binary => view_of_bytes(view, &payload_of(event)),
+        Op::Close => view_of_close(view, event.held),
+        Op::Continue | Op::Ping | Op::Pong => view_of_body(view, event.held),
     }
 }
 
-/// Writes what is shown of the payload of an event that isn't complete.
-pub(crate) fn put_unfinished_view<W: Write>(
-    to: &mut Output<W>,
-    view: ViewLimit,
-    event: &ShownEvent<'_>,
-) -> Result<(), Stop>
-    requires { to.old.failed ≡ false }
-    ensures text { (e : MeantEvent) → Represents view event.now e → HasTextPayload e →
-        IsWrittenOrStops to.old to.new (unfinished_view view e) result }
-    ensures unfailed { IfOk result (λ done. to.new.failed ≡ false) }
+/// What is shown of the payload of an event that isn't complete.
+pub(crate) fn view_of_unfinished<'a>(view: ViewLimit, event: &ShownEvent<'a>) -> View<'a>
+    ensures { (e : MeantEvent) → Represents view event.now e → HasTextPayload e →
+        view_in result ≡ view_of_unfinished view e }
 {
     match event.op {
-        Op::Text => put_text_view(to, view, &payload_of(event)),
-        _ => put_hex_view(to, view, &payload_of(event)),
+        Op::Text => view_of_text(view, &payload_of(event)),
+        _ => view_of_bytes(view, &payload_of(event)),
     }
 }
 
 /// The payload of an event, as far as it is held.
-pub(crate) fn payload_of<'a>(event: &ShownEvent<'a>) -> HeldBytes<'a>
+fn payload_of<'a>(event: &ShownEvent<'a>) -> HeldBytes<'a>
     ensures bytes { result.bytes ≡ event.now.bytes }
     ensures held { result.held.now ≡ event.now.held.now }
 {
@@ -69,132 +78,117 @@ pub(crate) fn payload_of<'a>(event: &ShownEvent<'a>) -> HeldBytes<'a>
     }
 }
 
-/// Writes a text's first bytes, quoted; a dash for a text that isn't empty if the view is 0.
-#[tactic(none)]
-fn put_text_view<W: Write>(
-    to: &mut Output<W>,
-    view: ViewLimit,
-    text: &HeldBytes<'_>,
-) -> Result<(), Stop>
-    requires { to.old.failed ≡ false }
-    ensures text { (all : List ℕ) → IsFrontOf view all text.now → BeginsText all →
-        IsWrittenOrStops to.old to.new (text_view view all) result }
-    ensures unfailed { IfOk result (λ done. to.new.failed ≡ false) }
+/// A text's first bytes.
+fn view_of_text<'a>(view: ViewLimit, text: &HeldBytes<'a>) -> View<'a>
+    ensures { (all : List ℕ) → IsFrontOf view all text.now → BeginsText all → view_in result ≡ view_of_text view all }
 {
-    if shows_nothing(view, text.bytes) {
-        return put_line(to, b"-");
-    }
     let shown = whole_characters(front_of(text.held, view.bytes()));
-    put_quoted(to, shown)?;
-    put_left_out(to, shown.len(), text.bytes)
-}
-
-/// Whether nothing is shown of a text that isn't empty.
-#[tactic(none)]
-fn shows_nothing(view: ViewLimit, bytes: u64) -> bool
-    ensures { result ≡ (view == 0 && nat_lt 0 bytes) }
-{
-    view.bytes() == 0 && bytes > 0
-}
-
-/// Writes the first bytes in hexadecimal.
-#[tactic(none)]
-pub(crate) fn put_hex_view<W: Write>(
-    to: &mut Output<W>,
-    view: ViewLimit,
-    bytes: &HeldBytes<'_>,
-) -> Result<(), Stop>
-    requires { to.old.failed ≡ false }
-    ensures text { (all : List ℕ) → IsFrontOf (view / 2) all bytes.now →
-        IsWrittenOrStops to.old to.new (hex_view view all) result }
-    ensures unfailed { IfOk result (λ done. to.new.failed ≡ false) }
-{
-    if view.bytes() == 0 {
-        return put_line(to, b"-");
+    View {
+        shown: Shown::Text(shown),
+        more: (shown.len() as u64) < text.bytes,
     }
-    let most = view.bytes() / 2;
-    put_hex_text(to, front_of(bytes.held, most))?;
-    put_left_out(to, most, bytes.bytes)
 }
 
-/// Writes the last bytes in hexadecimal.
-pub(crate) fn put_end_view<W: Write>(
-    to: &mut Output<W>,
-    view: ViewLimit,
-    bytes: &HeldBytes<'_>,
-) -> Result<(), Stop>
-    requires { to.old.failed ≡ false }
-    ensures text { (all : List ℕ) → IsEndOf (view / 2) all bytes.now →
-        IsWrittenOrStops to.old to.new (end_view view all) result }
-    ensures unfailed { IfOk result (λ done. to.new.failed ≡ false) }
+/// The first bytes, half as many as of a text.
+pub(crate) fn view_of_bytes<'a>(view: ViewLimit, bytes: &HeldBytes<'a>) -> View<'a>
+    ensures { (all : List ℕ) → IsFrontOf (view / 2) all bytes.now → view_in result ≡ view_of_bytes view all }
 {
-    if view.bytes() == 0 {
-        return put_line(to, b"-");
-    }
-    let most = view.bytes() / 2;
-    put_left_out_before(to, most, bytes.bytes)?;
-    put_hex(to, end_of(bytes.held, most))
+    first_bytes(view.bytes() / 2, bytes)
 }
 
-/// Writes a ping's or pong's body: a text if all of it is printable, otherwise hexadecimal.
-fn put_body_view<W: Write>(to: &mut Output<W>, view: ViewLimit, body: &[u8]) -> Result<(), Stop>
-    requires { to.old.failed ≡ false }
-    ensures { IsWrittenOrStops to.old to.new (body_view view body.now) result }
+/// The last bytes, half as many as of a text.
+pub(crate) fn view_of_end<'a>(view: ViewLimit, bytes: &HeldBytes<'a>) -> Ending<'a>
+    ensures { (all : List ℕ) → IsEndOf (view / 2) all bytes.now → end_in result ≡ view_of_end view all }
+{
+    let most = view.bytes() / 2;
+    Ending {
+        bytes: end_of(bytes.held, most),
+        more: (most as u64) < bytes.bytes,
+    }
+}
+
+/// A ping's or pong's body: a text if all of it is printable.
+fn view_of_body<'a>(view: ViewLimit, body: &'a [u8]) -> View<'a>
+    ensures { view_in result ≡ view_of_body view body.now }
 {
     let whole = HeldBytes {
         bytes: body.len() as u64,
         held: body,
     };
     if is_printable(body) {
-        put_text_view(to, view, &whole)
+        view_of_text(view, &whole)
     } else {
-        put_hex_view(to, view, &whole)
+        view_of_bytes(view, &whole)
     }
 }
 
-/// Writes a Close's code and reason; a dash for an empty body, and if the view is 0.
+/// A Close's code and reason.
 #[tactic(none)]
-fn put_close_view<W: Write>(to: &mut Output<W>, view: ViewLimit, body: &[u8]) -> Result<(), Stop>
-    requires { to.old.failed ≡ false }
-    ensures text { IsUtf8 (drop 2 body.now) → IsWrittenOrStops to.old to.new (close_view view body.now) result }
-    ensures unfailed { IfOk result (λ done. to.new.failed ≡ false) }
+fn view_of_close<'a>(view: ViewLimit, body: &'a [u8]) -> View<'a>
+    ensures { view_in result ≡ view_of_close view body.now }
 {
-    if view.bytes() == 0 {
-        return put_line(to, b"-");
-    }
     if body.len() < 2 {
-        return put_line(to, b"-");
+        return no_code(false);
+    }
+    if view.bytes() == 0 {
+        return no_code(true);
     }
     let code = u16::from(body[0]) * 256 + u16::from(body[1]);
-    put_line(to, line_of_code(code).bytes())?;
-    put_reason(to, &body[2..])
-}
-
-fn line_of_code(code: u16) -> Line<CODE_MAX>
-    ensures { result ≡ decimal code }
-{
-    let mut line = Line::new();
-    line.push_number(u64::from(code));
-    line
-}
-
-/// Writes a Close's reason after a space; nothing without one.
-#[tactic(none)]
-fn put_reason<W: Write>(to: &mut Output<W>, reason: &[u8]) -> Result<(), Stop>
-    requires { to.old.failed ≡ false }
-    ensures text { IsUtf8 reason.now → IsWrittenOrStops to.old to.new (reason_text reason.now) result }
-    ensures unfailed { IfOk result (λ done. to.new.failed ≡ false) }
-{
-    if reason.is_empty() {
-        return Ok(());
+    View {
+        shown: Shown::Code(code, &body[2..]),
+        more: false,
     }
-    put_line(to, b" ")?;
-    put_quoted(to, reason)
+}
+
+fn no_code<'a>(more: bool) -> View<'a>
+    ensures { view_in result ≡ record { shown = NoCode; more = more } }
+{
+    View {
+        shown: Shown::NoCode,
+        more,
+    }
+}
+
+/// What is shown of a payload around a place.
+#[tactic(none)]
+pub(crate) fn view_of_part<'a>(view: ViewLimit, part: &PayloadPart<'a>) -> View<'a>
+    ensures { (place : ℕ) (event : MeantEvent) → IsPartOf view place part.now event →
+        view_in result ≡ view_of_part view place event }
+{
+    let before = usize::from(part.before);
+    if part.is_text {
+        ascii_part(before + view.bytes(), &part.bytes)
+    } else {
+        first_bytes(before + view.bytes() / 2, &part.bytes)
+    }
+}
+
+/// The whole characters of the first bytes, at most `most`.
+fn ascii_part<'a>(most: usize, bytes: &HeldBytes<'a>) -> View<'a>
+    ensures { (all : List ℕ) → IsFrontOf most all bytes.now → view_in result ≡
+        record { shown = Ascii (take (text_part most all) all); more = nat_lt (text_part most all) (length all) } }
+{
+    let shown = first_characters(front_of(bytes.held, most));
+    View {
+        shown: Shown::Ascii(shown),
+        more: (shown.len() as u64) < bytes.bytes,
+    }
+}
+
+/// The first bytes, at most `most`.
+fn first_bytes<'a>(most: usize, bytes: &HeldBytes<'a>) -> View<'a>
+    ensures { (all : List ℕ) → IsFrontOf most all bytes.now →
+        view_in result ≡ record { shown = Hex (take most all); more = nat_lt most (length all) } }
+{
+    View {
+        shown: Shown::Hex(front_of(bytes.held, most)),
+        more: (most as u64) < bytes.bytes,
+    }
 }
 
 /// Whether all bytes are printable ASCII characters.
 #[tactic(none)]
-pub(crate) fn is_printable(bytes: &[u8]) -> bool
+fn is_printable(bytes: &[u8]) -> bool
     ensures { result ≡ is_printable bytes.now }
 {
     for b in bytes {
@@ -226,68 +220,4 @@ pub(crate) fn end_of(bytes: &[u8], most: usize) -> &[u8]
     } else {
         &bytes[bytes.len() - most..]
     }
-}
-
-/// Writes ` ..` if fewer bytes are shown than there are.
-pub(crate) fn put_left_out<W: Write>(to: &mut Output<W>, shown: usize, all: u64) -> Result<(), Stop>
-    requires { to.old.failed ≡ false }
-    ensures { IsWrittenOrStops to.old to.new (left_out shown all) result }
-{
-    if (shown as u64) < all {
-        put_line(to, b" ..")
-    } else {
-        Ok(())
-    }
-}
-
-/// Writes `..` if fewer bytes are shown than there are.
-pub(crate) fn put_left_out_before<W: Write>(
-    to: &mut Output<W>,
-    shown: usize,
-    all: u64,
-) -> Result<(), Stop>
-    requires { to.old.failed ≡ false }
-    ensures { IsWrittenOrStops to.old to.new (if nat_lt shown all then codes ".." else []) result }
-{
-    if (shown as u64) < all {
-        put_line(to, b"..")
-    } else {
-        Ok(())
-    }
-}
-
-/// Writes bytes in hexadecimal; a dash for none.
-pub(crate) fn put_hex_text<W: Write>(to: &mut Output<W>, bytes: &[u8]) -> Result<(), Stop>
-    requires { to.old.failed ≡ false }
-    ensures { IsWrittenOrStops to.old to.new (hex_text bytes.now) result }
-{
-    if bytes.is_empty() {
-        put_line(to, b"-")
-    } else {
-        put_hex(to, bytes)
-    }
-}
-
-/// Writes bytes in hexadecimal.
-#[inline(never)]
-pub(crate) fn put_hex<W: Write>(to: &mut Output<W>, bytes: &[u8]) -> Result<(), Stop>
-    requires { to.old.failed ≡ false }
-    ensures { IsWrittenOrStops to.old to.new (encode_lower bytes.now) result }
-{
-    let mut done = 0;
-    while done < bytes.len() {
-        let next = front_of(&bytes[done..], CHUNK);
-        put_line(to, hex_of(next).bytes())?;
-        done += next.len();
-    }
-    Ok(())
-}
-
-fn hex_of(bytes: &[u8]) -> Line<CHUNK_DIGITS>
-    requires { length bytes.now ≤ 32 }
-    ensures { result ≡ encode_lower bytes.now }
-{
-    let mut line = Line::new();
-    line.push_hex(bytes);
-    line
 }

@@ -8,7 +8,7 @@ use Rattle.std.proofs.lemmas.Str.{chars-nil, chars_past_char, IsUtf8-past_char}
 use Rattle.wsn_io.specs.Transfer.{IsWritten, IsPartlyWritten}
 use Rattle.wsn_io.specs.declared.stop.Stop.TheVariants as stop
 use Rattle.wsn_io.proofs.PutTexts.{put_both}
-use Rattle.wsn_shown_text.specs.DifferingText.{ascii_character}
+use Rattle.wsn_shown_text.specs.AsciiText.{ascii_character}
 use Rattle.wsn_print.proofs.Pieces.{second_stops}
 use Rattle.wsn_shown_text.proofs.ascii_text.put_ascii_characters.Goals as goal
 

@@ -2,7 +2,7 @@ use Rattle.std.proofs.Common.{◌≡◌, ◌++◌, ℕ, List, chars, IsUtf8}
 use Rattle.std.specs.Prelude.{flat_map}
 use Rattle.std.specs.Str.Iter.{chars_rest}
 use Rattle.wsn_io.specs.Transfer.{IsWritten}
-use Rattle.wsn_shown_text.specs.DifferingText.{ascii_character}
+use Rattle.wsn_shown_text.specs.AsciiText.{ascii_character}
 use Rattle.wsn_shown_text.proofs.ascii_text.put_ascii_characters.Given as goal
 
 -- Some of the text is written, and the rest is still to come.

@@ -1,5 +1,7 @@
-use Rattle.std.proofs.Common.{ℕ, ◌+◌, ◌==◌, ◌||◌, nat_lt, if◌then◌else◌, List, [], ◌++◌, length, codes, ◌∙◌, rules}
+use Rattle.std.proofs.Common.{ℕ, Bool, subst, ◌==◌, ◌||◌, nat_lt, if◌then◌else◌, List, [], ◌++◌, length, codes, ◌∙◌, rules}
+use Rattle.wsn_io.specs.Stops.{IsWrittenOrStops}
 use Rattle.wsn_print.specs.Json.{field}
+use Rattle.wsn_shown_text.specs.ShownObjects.{truncated_field}
 use Rattle.wsn_print.specs.EscapedText.{quoted}
 use Rattle.wsn_print.specs.ShownParts.{character_of}
 use Rattle.wsn_shown_text.specs.CharacterText.{text_before, truncated_text}
@@ -22,8 +24,8 @@ put_quoted-requires g c = search rules
 pub returns-in_err-put_quoted-clause-unfailed : goal.returns-in_err-put_quoted-clause-unfailed
 returns-in_err-put_quoted-clause-unfailed g c = search rules
 
-pub put_truncated_text-requires : goal.put_truncated_text-requires
-put_truncated_text-requires g c = search rules
+pub put_truncated-requires : goal.put_truncated-requires
+put_truncated-requires g c = search rules
 
 pub returns-clause-unfailed : goal.returns-clause-unfailed
 returns-clause-unfailed g c = search rules
@@ -62,4 +64,5 @@ returns-clause-text g c = λ all holds.
     let truncated : List ℕ = if n == 0 || nat_lt (length before) character.in_payload then codes ",\"truncated\":true" else [] in
     let text : List ℕ = field (codes "before") (quoted (text_before n all character)) ++ truncated_text n all character in
     let whole = before_is n all shown before character (c.as_bytes.ensures.value ∙ is) is in
-    three_pieces c.args.to.now c.put_line.new.to c.put_quoted.new.to c.put_truncated_text.new.to (codes ",\"before\":") (quoted shown) truncated text c.put_truncated_text.result whole c.in_ok-put_line.ensures (c.in_ok-put_quoted.ensures.text (before_is_utf8 n all shown character (c.as_bytes.ensures.value ∙ is))) c.put_truncated_text.ensures
+    three_pieces c.args.to.now c.put_line.new.to c.put_quoted.new.to c.put_truncated.new.to (codes ",\"before\":") (quoted shown) truncated text c.put_truncated.result whole c.in_ok-put_line.ensures (c.in_ok-put_quoted.ensures.text (before_is_utf8 n all shown character (c.as_bytes.ensures.value ∙ is)))
+    (subst (λ (more : Bool). IsWrittenOrStops c.put_quoted.new.to c.put_truncated.new.to (truncated_field more) c.put_truncated.result) c.hides_some.ensures c.put_truncated.ensures)

@@ -1,4 +1,4 @@
-use Rattle.std.proofs.Common.{ℕ, ◌+◌, nat_lt, if◌then◌else◌, List, [], ◌++◌, length, codes, ◌∙◌, rules}
+use Rattle.std.proofs.Common.{ℕ, nat_lt, if◌then◌else◌, List, [], ◌++◌, length, codes, ◌∙◌, rules}
 use Rattle.std.specs.Prelude.{flat_map}
 use Rattle.std.specs.Str.{chars}
 use Rattle.wsn_print.specs.EscapedText.{quoted_character}
@@ -11,11 +11,11 @@ use Rattle.wsn_shown_text.proofs.characters.put_character_text.Goals as goal
 pub as_slice-requires : goal.as_slice-requires
 as_slice-requires g c = search rules
 
-pub put_left_out_before-requires : goal.put_left_out_before-requires
-put_left_out_before-requires g c = search rules
+pub put_if-requires : goal.put_if-requires
+put_if-requires g c = search rules
 
-pub returns-in_err-put_left_out_before-clause-unfailed : goal.returns-in_err-put_left_out_before-clause-unfailed
-returns-in_err-put_left_out_before-clause-unfailed g c = search rules
+pub returns-in_err-put_if-clause-unfailed : goal.returns-in_err-put_if-clause-unfailed
+returns-in_err-put_if-clause-unfailed g c = search rules
 
 pub put_line-requires : goal.put_line-requires
 put_line-requires g c = search rules
@@ -41,8 +41,8 @@ put_line-requires-2 g c = search rules
 pub returns-clause-unfailed : goal.returns-clause-unfailed
 returns-clause-unfailed g c = search rules
 
-pub returns-in_err-put_left_out_before-clause-text : goal.returns-in_err-put_left_out_before-clause-text
-returns-in_err-put_left_out_before-clause-text g c = λ all holds.
+pub returns-in_err-put_if-clause-text : goal.returns-in_err-put_if-clause-text
+returns-in_err-put_if-clause-text g c = λ all holds.
     let n = c.args.view in
     let character = character_of c.args.character.now in
     let before = c.text_before-before.result.now in
@@ -50,7 +50,7 @@ returns-in_err-put_left_out_before-clause-text g c = λ all holds.
     let text : List ℕ = flat_map quoted_character (chars before) in
     let escapes : List ℕ = flat_map byte_escape character.bytes in
     let whole = text_is n all before character (c.text_before-before.ensures n all (c.as_slice.ensures.value ∙ c.end_of_text-end.ensures all holds)) in
-    first_stops c.args.to.now c.put_left_out_before.new.to dots ((codes "\"") ++ (text ++ (escapes ++ (codes "\"")))) (character_text n all character) c.in_err-put_left_out_before.field-0.0 c.from_residual.result whole c.in_err-put_left_out_before.ensures c.from_residual.ensures.1
+    first_stops c.args.to.now c.put_if.new.to dots ((codes "\"") ++ (text ++ (escapes ++ (codes "\"")))) (character_text n all character) c.in_err-put_if.field-0.0 c.from_residual.result whole c.in_err-put_if.ensures c.from_residual.ensures.1
 
 pub returns-in_err-put_line-clause-text : goal.returns-in_err-put_line-clause-text
 returns-in_err-put_line-clause-text g c = λ all holds.
@@ -61,7 +61,7 @@ returns-in_err-put_line-clause-text g c = λ all holds.
     let text : List ℕ = flat_map quoted_character (chars before) in
     let escapes : List ℕ = flat_map byte_escape character.bytes in
     let whole = text_is n all before character (c.text_before-before.ensures n all (c.as_slice.ensures.value ∙ c.end_of_text-end.ensures all holds)) in
-    second_stops c.args.to.now c.put_left_out_before.new.to c.put_line.new.to dots (codes "\"") (text ++ (escapes ++ (codes "\""))) (character_text n all character) c.in_err-put_line.field-0.0 c.from_residual-in_err-put_line.result whole c.in_ok-put_left_out_before.ensures c.in_err-put_line.ensures c.from_residual-in_err-put_line.ensures.1
+    second_stops c.args.to.now c.put_if.new.to c.put_line.new.to dots (codes "\"") (text ++ (escapes ++ (codes "\""))) (character_text n all character) c.in_err-put_line.field-0.0 c.from_residual-in_err-put_line.result whole c.in_ok-put_if.ensures c.in_err-put_line.ensures c.from_residual-in_err-put_line.ensures.1
 
 pub returns-in_err-put_quoted_characters-clause-text : goal.returns-in_err-put_quoted_characters-clause-text
 returns-in_err-put_quoted_characters-clause-text g c = λ all holds.
@@ -72,7 +72,7 @@ returns-in_err-put_quoted_characters-clause-text g c = λ all holds.
     let text : List ℕ = flat_map quoted_character (chars before) in
     let escapes : List ℕ = flat_map byte_escape character.bytes in
     let whole = text_is n all before character (c.text_before-before.ensures n all (c.as_slice.ensures.value ∙ c.end_of_text-end.ensures all holds)) in
-    third_stops c.args.to.now c.put_left_out_before.new.to c.put_line.new.to c.put_quoted_characters.new.to dots (codes "\"") text (escapes ++ (codes "\"")) (character_text n all character) c.in_err-put_quoted_characters.field-0.0 c.from_residual-in_err-put_quoted_characters.result whole c.in_ok-put_left_out_before.ensures c.in_ok-put_line.ensures c.in_err-put_quoted_characters.ensures c.from_residual-in_err-put_quoted_characters.ensures.1
+    third_stops c.args.to.now c.put_if.new.to c.put_line.new.to c.put_quoted_characters.new.to dots (codes "\"") text (escapes ++ (codes "\"")) (character_text n all character) c.in_err-put_quoted_characters.field-0.0 c.from_residual-in_err-put_quoted_characters.result whole c.in_ok-put_if.ensures c.in_ok-put_line.ensures c.in_err-put_quoted_characters.ensures c.from_residual-in_err-put_quoted_characters.ensures.1
 
 pub returns-in_err-put_byte_escapes-clause-text : goal.returns-in_err-put_byte_escapes-clause-text
 returns-in_err-put_byte_escapes-clause-text g c = λ all holds.
@@ -83,7 +83,7 @@ returns-in_err-put_byte_escapes-clause-text g c = λ all holds.
     let text : List ℕ = flat_map quoted_character (chars before) in
     let escapes : List ℕ = flat_map byte_escape character.bytes in
     let whole = text_is n all before character (c.text_before-before.ensures n all (c.as_slice.ensures.value ∙ c.end_of_text-end.ensures all holds)) in
-    fourth_stops c.args.to.now c.put_left_out_before.new.to c.put_line.new.to c.put_quoted_characters.new.to c.put_byte_escapes.new.to dots (codes "\"") text escapes (codes "\"") (character_text n all character) c.in_err-put_byte_escapes.field-0.0 c.from_residual-in_err-put_byte_escapes.result whole c.in_ok-put_left_out_before.ensures c.in_ok-put_line.ensures c.in_ok-put_quoted_characters.ensures c.in_err-put_byte_escapes.ensures c.from_residual-in_err-put_byte_escapes.ensures.1
+    fourth_stops c.args.to.now c.put_if.new.to c.put_line.new.to c.put_quoted_characters.new.to c.put_byte_escapes.new.to dots (codes "\"") text escapes (codes "\"") (character_text n all character) c.in_err-put_byte_escapes.field-0.0 c.from_residual-in_err-put_byte_escapes.result whole c.in_ok-put_if.ensures c.in_ok-put_line.ensures c.in_ok-put_quoted_characters.ensures c.in_err-put_byte_escapes.ensures c.from_residual-in_err-put_byte_escapes.ensures.1
 
 pub returns-clause-text : goal.returns-clause-text
 returns-clause-text g c = λ all holds.
@@ -94,4 +94,4 @@ returns-clause-text g c = λ all holds.
     let text : List ℕ = flat_map quoted_character (chars before) in
     let escapes : List ℕ = flat_map byte_escape character.bytes in
     let whole = text_is n all before character (c.text_before-before.ensures n all (c.as_slice.ensures.value ∙ c.end_of_text-end.ensures all holds)) in
-    five_pieces c.args.to.now c.put_left_out_before.new.to c.put_line.new.to c.put_quoted_characters.new.to c.put_byte_escapes.new.to c.put_line-2.new.to dots (codes "\"") text escapes (codes "\"") (character_text n all character) c.put_line-2.result whole c.in_ok-put_left_out_before.ensures c.in_ok-put_line.ensures c.in_ok-put_quoted_characters.ensures c.in_ok-put_byte_escapes.ensures c.put_line-2.ensures
+    five_pieces c.args.to.now c.put_if.new.to c.put_line.new.to c.put_quoted_characters.new.to c.put_byte_escapes.new.to c.put_line-2.new.to dots (codes "\"") text escapes (codes "\"") (character_text n all character) c.put_line-2.result whole c.in_ok-put_if.ensures c.in_ok-put_line.ensures c.in_ok-put_quoted_characters.ensures c.in_ok-put_byte_escapes.ensures c.put_line-2.ensures

@@ -1,5 +1,5 @@
 use Rattle.std.proofs.Common.{◌≡◌, drop}
-use Rattle.wsn_shown_text.specs.ShownText.{is_printable}
+use Rattle.wsn_shown_text.specs.Views.{is_printable}
 use Rattle.wsn_shown_text.proofs.views.is_printable.Given as goal
 
 -- The bytes so far are printable.
