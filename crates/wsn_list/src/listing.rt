@@ -9,7 +9,7 @@ use std::io::{Read, Write};
 use wsn_io::{Stop, put_line};
 use wsn_print::{Format, HeadLines, put_verdict_as};
 use wsn_rules::{Limits, Refusal, Verdict};
-use wsn_scan::{CHUNK, Part, Scan, Taken, read_chunk};
+use wsn_scan::{CHUNK, ChunkReader, Part, Scan, Taken};
 use wsn_wire::{Input, Output, Role};
 
 /// Prints a line for each frame of an input and then the verdict's line, and returns the verdict (RFC 6455 section
@@ -51,29 +51,19 @@ pub fn list_as<R: Read, W: Write>(
         IsListedWholeAs format role limits all output.old output.new result }
 {
     let mut scan = Scan::new(role, limits);
-    let mut buffer = [0; CHUNK];
     let mut lines = HeadLines::new();
-    loop {
-        let Some(chunk) = read_chunk(input, scan.room(), &mut buffer)? else {
-            return end(output, format, scan.finish());
-        };
-        let refusal = list_chunk(
-            &mut scan,
-            &mut buffer[..chunk.len],
-            &mut lines,
-            output,
-            format,
-        );
+    let mut chunks = ChunkReader::new(limits);
+    let mut buffer = [0; CHUNK];
+    while let Some(len) = chunks.next(input, &mut buffer)? {
+        let refusal = list_chunk(&mut scan, &mut buffer[..len], &mut lines, output, format);
         if output.failed() {
             return Err(Stop::Write);
         }
         if let Some(refusal) = refusal {
             return end(output, format, Verdict::Refused(refusal));
         }
-        if chunk.past_limit {
-            return Err(Stop::InputLimit);
-        }
     }
+    end(output, format, scan.finish())
 }
 
 /// Prints the verdict's line and returns the verdict. `Write` if the writer fails: a prefix of the line is written.

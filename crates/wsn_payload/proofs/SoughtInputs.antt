@@ -2,12 +2,11 @@
 use Rattle.std.proofs.Common.{◌≡◌, ℕ, ◌+◌, ◌<◌, ◌≤◌, ◌⊎◌, Bool, true, false, Option, None, Some, Result, Ok, Err, List, [], ◌∷◌, ◌++◌, length, take, drop, if◌then◌else◌, inl, inr, refl, sym, ap, ◌∙◌, subst, append_assoc, append-nil, length-append, take-append-drop, arith}
 use Rattle.std.proofs.KnownBytes.{Appends-nil}
 use Rattle.std.proofs.lemmas.Bool.{cond-true, cond-false}
-use Rattle.std.proofs.lemmas.List.{length-take-le, take-take, take_all, take-append-le}
+use Rattle.std.proofs.lemmas.List.{take-append-le}
 use Rattle.std.specs.Io.KnownBytes.{Consumes, IsAtEnd}
-use Rattle.wsn_io.specs.Transfer.{Incoming, Outgoing, IsConsumed, IsKept, IsReceived, IsWritten}
+use Rattle.wsn_io.specs.Transfer.{Incoming, Outgoing, IsWritten}
 use Rattle.wsn_io.specs.declared.stop.Stop.{Stop}
 use Rattle.wsn_io.specs.declared.stop.Stop.TheVariants as stop
-use Rattle.wsn_io.proofs.Received.{consumed_none, consumed_on, consumed_end, consumed_kept, received_of}
 use Rattle.wsn_wire.specs.declared.endpoint.Role.{Role}
 use Rattle.wsn_wire.specs.Frame.{Frame, stream}
 use Rattle.wsn_rules.specs.declared.verdict.Verdict.{Verdict}
@@ -16,13 +15,15 @@ use Rattle.wsn_rules.specs.Accepted.{EndsWithClose}
 use Rattle.wsn_rules.specs.Limits.{Limits}
 use Rattle.wsn_rules.specs.Verdict.{IsRefused, IsVerdict}
 use Rattle.wsn_rules.proofs.StaysRefused.{place_within}
-use Rattle.wsn_scan.specs.declared.refill.ReadChunk.{ReadChunk}
+use Rattle.wsn_scan.specs.declared.chunk_reader.ChunkReader.{ChunkReader}
 use Rattle.wsn_scan.specs.declared.scan.Scan.{Scan}
+use Rattle.wsn_scan.specs.ChunkReaders.{HasCome, IsEndOf, IsHaltOf}
 use Rattle.wsn_scan.specs.Judging.{IsReached, IsUnrefused, IsWithinLimit}
 use Rattle.wsn_scan.specs.Positions.{Position, BetweenFrames}
-use Rattle.wsn_scan.specs.Refill.{IsChunk, chunk_size, count_of}
-use Rattle.wsn_scan.specs.Scans.{HasScanned, room_of}
-use Rattle.wsn_scan.proofs.Chunks.{one_past, none_past, in_count, most_of, chunk_within}
+use Rattle.wsn_scan.specs.Refill.{chunk_size}
+use Rattle.wsn_scan.specs.Scans.{HasScanned}
+use Rattle.wsn_scan.proofs.ChunksSoFar.{received}
+use Rattle.wsn_scan.proofs.JudgedInputs.{stopped_unrefused}
 use Rattle.wsn_scan.proofs.Unrefused.{unrefused_first, place_after}
 use Rattle.wsn_scan.proofs.WholeInputs.{of_all as verdict_of_all}
 use Rattle.wsn_payload.specs.declared.answer.EventStart.{EventStart}
@@ -32,7 +33,7 @@ use Rattle.wsn_payload.specs.declared.event_at.EventAt.{EventAt}
 use Rattle.wsn_payload.specs.EventsAt.{IsWholeAt, IsRestAt, judged_bytes, AreApart, IsUnfinishedAt, EndsBefore, IsInHeadAt, IsAfterAll, IsInsideAt}
 use Rattle.wsn_payload.specs.Following.{HasBegunAt, Keeps, is_judged, answer_without_event, ended_answer, HasSought, IsRefusedHere, IsAnsweredAt, SeeksThrough}
 use Rattle.wsn_payload.specs.Payloads.{IsPartAt, IsPayloadInFront, IsPayloadAnswer, IsPayloadTaken, IsPayloadOfAll, IsWrittenBut}
-use Rattle.wsn_scan.proofs.FollowedScans.{room_within, unrefused_so_far, judged_so_far}
+use Rattle.wsn_scan.proofs.FollowedScans.{unrefused_so_far, judged_so_far}
 use Rattle.wsn_payload.proofs.EndedAnswers.{IsAnswered, answered_without, in_head, after_all}
 use Rattle.wsn_payload.proofs.EndedAnswers.IsAnswered.{InHead, AfterAll}
 use Rattle.wsn_payload.proofs.SoughtSteps.{apart, part_of}
@@ -79,15 +80,14 @@ front_longer role limits bytes more at payload w = record {
 
 module _ (role : Role) (limits : Limits) (at : ℕ) where
   -- All bytes that came aren't refused, and what has come of the payload was written.
-  pub record HasSoughtInput (old mid : Incoming) (first now : Outgoing) (scan : Scan) (kept : EventAt) (came : List ℕ) : Type 0 where
-    pub consumed : IsConsumed old mid came
+  pub record HasSoughtInput (old mid : Incoming) (chunks : ChunkReader) (first now : Outgoing) (scan : Scan) (kept : EventAt) (came : List ℕ) : Type 0 where
+    pub come : HasCome limits old mid chunks came
     pub sought : HasSought role limits at scan kept came first now
-    pub unfailed : mid.failed ≡ false
 
-  pub begins : (input : Incoming) (output : Outgoing) (scan : Scan) (kept : EventAt) → HasScanned role limits scan [] [] [] BetweenFrames → Keeps kept at [] BetweenFrames [] → input.failed ≡ false → output.failed ≡ false
-      → HasSoughtInput input input output output scan kept []
-  begins input output scan kept has_scanned keeps unfailed works = record {
-    consumed = consumed_none input;
+  pub begins : (input : Incoming) (chunks : ChunkReader) (output : Outgoing) (scan : Scan) (kept : EventAt) → HasCome limits input input chunks [] → HasScanned role limits scan [] [] [] BetweenFrames → Keeps kept at [] BetweenFrames [] → output.failed ≡ false
+      → HasSoughtInput input input chunks output output scan kept []
+  begins input chunks output scan kept come has_scanned keeps works = record {
+    come = come;
     sought = record {
       frames = [];
       position = BetweenFrames;
@@ -97,15 +97,11 @@ module _ (role : Role) (limits : Limits) (at : ℕ) where
       keeps = keeps;
       written = (works, Appends-nil output.written);
     };
-    unfailed = unfailed;
   }
 
-  module _ (old mid : Incoming) (first now : Outgoing) (scan : Scan) (kept : EventAt) (came : List ℕ) (read : HasSoughtInput old mid first now scan kept came) where
+  module _ (old mid : Incoming) (chunks : ChunkReader) (first now : Outgoing) (scan : Scan) (kept : EventAt) (came : List ℕ) (read : HasSoughtInput old mid chunks first now scan kept came) where
     abbrev h : HasSought role limits at scan kept came first now
     h = read.sought
-
-    fits : length came ≤ limits.input
-    fits = room_within role limits scan came h.frames h.position h.rest h.followed
 
     none_refused : IsUnrefused role limits came
     none_refused = unrefused_so_far role limits scan came h.frames h.position h.rest h.followed
@@ -113,26 +109,37 @@ module _ (role : Role) (limits : Limits) (at : ℕ) where
     some_part : (verdict : Verdict) × IsPartAt role limits came verdict at h.payload
     some_part = let v = judged_so_far role limits scan came h.frames h.position h.rest h.followed in (v.0, part_of role limits at scan kept came first now h v.0 v.1)
 
-    -- a read failed
-    pub stopped : (new : Incoming) → IsKept mid new → new.failed ≡ true → IsPayloadTaken role limits at old new first now (Err stop.Read)
-    stopped new keeps failed = record {
-      came = came;
-      received = received_of (limits.input + 1) old new came (consumed_kept old mid new came read.consumed keeps) (omega (arith, fits));
-      at_once = λ is. cc;
-      answer = (h.payload, (some_part.0, subst (λ (bs : List ℕ). IsPartAt role limits bs some_part.0 at h.payload) (sym (take_all limits.input came fits)) some_part.1), h.written, (failed, fits, none_refused));
-    }
+    -- no more is read
+    pub stopped : (new : Incoming) (halted : Stop) → IsHaltOf limits old new came halted → IsPayloadTaken role limits at old new first now (Err halted)
+    stopped new halted halt = by halted halt
+      where
+        by : (s : Stop) → IsHaltOf limits old new came s → IsPayloadTaken role limits at old new first now (Err s)
+        by stop.InputLimit it = record {
+          came = it.all;
+          received = it.received;
+          answer = (h.payload, (some_part.0, subst (λ (bs : List ℕ). IsPartAt role limits bs some_part.0 at h.payload) (sym it.within) some_part.1), h.written, stopped_unrefused role limits new came it.all stop.InputLimit it.stops it.within none_refused);
+          at_once = λ is. cc;
+        }
+        by stop.Read it = record {
+          came = it.all;
+          received = it.received;
+          answer = (h.payload, (some_part.0, subst (λ (bs : List ℕ). IsPartAt role limits bs some_part.0 at h.payload) (sym it.within) some_part.1), h.written, stopped_unrefused role limits new came it.all stop.Read it.stops it.within none_refused);
+          at_once = λ is. cc;
+        }
+        by stop.Memory it = absurd it.stops
+        by stop.Write it = absurd it.stops
 
     -- the input ended
-    module _ (new : Incoming) (nothing : IsConsumed mid new []) (at_end : IsAtEnd new.remaining) (same : new.failed ≡ mid.failed) (v : Verdict) (is : IsVerdict role limits came h.frames v) where
+    module _ (new : Incoming) (end : IsEndOf limits old new came) (v : Verdict) (is : IsVerdict role limits came h.frames v) where
       reached : (w : Verdict) → IsVerdict role limits came h.frames w → IsReached role limits new came w
-      reached (Accepted s) is_w = (h.frames, is_w, at_end, fits, same ∙ read.unfailed)
-      reached (Cut s) is_w = (h.frames, is_w, at_end, fits, same ∙ read.unfailed)
+      reached (Accepted s) is_w = (h.frames, is_w, end.at_end, end.within, end.unfailed)
+      reached (Cut s) is_w = (h.frames, is_w, end.at_end, end.within, end.unfailed)
       reached (Refused r) is_w = absurd (none_refused h.frames r.place r.reason is_w)
 
       pub ended : (answer : Payload) → answer ≡ ended_answer kept v → IsPayloadTaken role limits at old new first now (Ok answer)
       ended answer answer_is = record {
         came = came;
-        received = received_of (limits.input + 1) old new came (consumed_end old mid new came read.consumed nothing) (omega (arith, fits));
+        received = end.received;
         answer = by kept.begun refl h.keeps.begun;
         at_once = λ is. cc;
       }
@@ -157,134 +164,74 @@ module _ (role : Role) (limits : Limits) (at : ℕ) where
                   subst (λ (a : Payload). IsPayloadAnswer role limits at new came first now (Ok a)) (sym it)
                   (after_all role limits came h.frames at kept h.position h.payload h.keeps v are_apart has.0 why, none, reached v is)
 
-    -- ---- one read gave a chunk
+    -- ---- the next chunk came
 
-    module _ (new : Incoming) (buffer : List ℕ) (chunk : ReadChunk) (got : IsChunk mid new (room_of scan) buffer chunk) (size : length buffer ≡ chunk_size) (next : Scan) (next_kept : EventAt) (after : Outgoing) where
-      abbrev piece : List ℕ
-      piece = take chunk.len buffer
-
+    module _ (new : Incoming) (later : ChunkReader) (piece : List ℕ) (come : HasCome limits old new later (came ++ piece)) (short : length piece + length come.past ≤ chunk_size) (next : Scan) (next_kept : EventAt) (after : Outgoing) where
       abbrev all_came : List ℕ
-      all_came = came ++ take (count_of chunk) buffer
+      all_came = (came ++ piece) ++ come.past
 
-      consumed_all : IsConsumed old new all_came
-      consumed_all = consumed_on old mid new came (take (count_of chunk) buffer) read.consumed got.consumed
-
-      length_all : length all_came ≡ length came + count_of chunk
-      length_all = length-append came (take (count_of chunk) buffer) ∙ ap (λ (m : ℕ). length came + m) (length-take-le (count_of chunk) buffer got.in_buffer)
-
-      room : room_of scan + length came ≡ limits.input
-      room = h.followed.has_scanned.has_consumed.room
-
-      received_all : IsReceived (limits.input + 1) old new all_came
-      received_all = received_of (limits.input + 1) old new all_came consumed_all (omega (arith, length_all, room, most_of mid new (room_of scan) buffer chunk got))
-
-      unfailed_now : new.failed ≡ false
-      unfailed_now = got.unfailed ∙ read.unfailed
-
-      -- the piece, and perhaps one byte more
-      whole_chunk : take (count_of chunk) buffer ≡ piece ++ drop chunk.len (take (count_of chunk) buffer)
-      whole_chunk =
-          sym (take-append-drop chunk.len (take (count_of chunk) buffer))
-          ∙ ap (λ (bs : List ℕ). bs ++ drop chunk.len (take (count_of chunk) buffer)) (take-take chunk.len (count_of chunk) buffer (in_count chunk))
-
-      after_piece : all_came ≡ (came ++ piece) ++ drop chunk.len (take (count_of chunk) buffer)
-      after_piece = ap (λ (bs : List ℕ). came ++ bs) whole_chunk ∙ sym (append_assoc came piece (drop chunk.len (take (count_of chunk) buffer)))
-
-      after_first : (n : ℕ) → all_came ≡ (came ++ take n piece) ++ (drop n piece ++ drop chunk.len (take (count_of chunk) buffer))
+      after_first : (n : ℕ) → all_came ≡ (came ++ take n piece) ++ (drop n piece ++ come.past)
       after_first n =
-          after_piece
-          ∙ ap (λ (bs : List ℕ). (came ++ bs) ++ drop chunk.len (take (count_of chunk) buffer)) (sym (take-append-drop n piece))
-          ∙ ap (λ (bs : List ℕ). bs ++ drop chunk.len (take (count_of chunk) buffer)) (sym (append_assoc came (take n piece) (drop n piece)))
-          ∙ append_assoc (came ++ take n piece) (drop n piece) (drop chunk.len (take (count_of chunk) buffer))
+          ap (λ (bs : List ℕ). (came ++ bs) ++ come.past) (sym (take-append-drop n piece))
+          ∙ ap (λ (bs : List ℕ). bs ++ come.past) (sym (append_assoc came (take n piece) (drop n piece)))
+          ∙ append_assoc (came ++ take n piece) (drop n piece) come.past
 
-      within_is : take limits.input all_came ≡ came ++ piece
-      within_is = chunk_within mid new (room_of scan) buffer chunk got limits.input came room
-
-      pub goes_on : chunk.past_limit ≡ false → SeeksThrough role limits at next next_kept came piece first after (Ok None) → HasSoughtInput old new first after next next_kept (came ++ piece)
-      goes_on none sought = record { consumed = subst (λ (m : ℕ). IsConsumed old new (came ++ take m buffer)) (none_past chunk none) consumed_all; sought = sought; unfailed = unfailed_now }
-
-      pub passes_limit : chunk.past_limit ≡ true → SeeksThrough role limits at next next_kept came piece first after (Ok None) → IsPayloadTaken role limits at old new first after (Err stop.InputLimit)
-      passes_limit past sought =
-          let v = judged_so_far role limits next (came ++ piece) sought.frames sought.position sought.rest sought.followed in
-          let none = unrefused_so_far role limits next (came ++ piece) sought.frames sought.position sought.rest sought.followed in
-          record {
-            came = all_came;
-            received = received_all;
-            answer = (
-              sought.payload,
-              (v.0, subst (λ (bs : List ℕ). IsPartAt role limits bs v.0 at sought.payload) (sym within_is) (part_of role limits at next next_kept (came ++ piece) first after sought v.0 v.1)),
-              sought.written,
-              (omega (arith, length_all, room, got.past past, one_past chunk past), subst (λ (bs : List ℕ). IsUnrefused role limits bs) (sym within_is) none, unfailed_now),
-            );
-            at_once = λ is. cc;
-          }
+      pub goes_on : SeeksThrough role limits at next next_kept came piece first after (Ok None) → HasSoughtInput old new later first after next next_kept (came ++ piece)
+      goes_on sought = record { come = come; sought = sought }
 
       pub write_failed : (stopped : Stop) → SeeksThrough role limits at next next_kept came piece first after (Err stopped) → IsPayloadTaken role limits at old new first after (Err stopped)
       write_failed stopped given =
           subst (λ (s : Stop). IsPayloadTaken role limits at old new first after (Err s)) (sym given.0)
           (record {
             came = all_came;
-            received = received_all;
-            answer = (
-              given.1.0,
-              subst (λ (bs : List ℕ). IsPayloadInFront role limits bs at given.1.0) (sym after_piece) (front_longer role limits (came ++ piece) (drop chunk.len (take (count_of chunk) buffer)) at given.1.0 given.1.1),
-              given.1.2,
-              unfailed_now,
-            );
+            received = received limits old new later (came ++ piece) come;
+            answer = (given.1.0, front_longer role limits (came ++ piece) come.past at given.1.0 given.1.1, given.1.2, come.unfailed);
             at_once = λ is. at_once;
           })
         where
           but : IsWrittenBut (length piece) role limits at (came ++ piece) first after
           but = given.2
 
-          beyond : List ℕ
-          beyond = drop chunk.len (take (count_of chunk) buffer)
-
           at_once : IsWrittenBut chunk_size role limits at all_came first after
           at_once = record {
             done = but.done;
-            last = but.last ++ beyond;
-            whole = after_piece ∙ ap (λ (bs : List ℕ). bs ++ beyond) but.whole ∙ append_assoc but.done but.last beyond;
-            short =
-                let most = but.short in
-                let sizes = length-append but.last beyond in
-                let chunk_is = ap (λ (bs : List ℕ). length bs) whole_chunk ∙ length-append piece beyond in
-                omega (arith, most, sizes, chunk_is, length-take-le (count_of chunk) buffer got.in_buffer, got.in_buffer, size);
+            last = but.last ++ come.past;
+            whole = ap (λ (bs : List ℕ). bs ++ come.past) but.whole ∙ append_assoc but.done but.last come.past;
+            short = let most = but.short in omega (arith, most, length-append but.last come.past, short);
             written = but.written;
           }
 
       -- the verdict is a refusal in the piece
       refused_reached : (n : ℕ) (v : Verdict) → length (came ++ take n piece) ≤ limits.input → IsRefusedHere role limits (came ++ take n piece) v → IsReached role limits new all_came v
       refused_reached n v most r =
-          let later = drop n piece ++ drop chunk.len (take (count_of chunk) buffer) in
+          let rest = drop n piece ++ come.past in
           let place = r.place in
           let after_came : length came ≤ r.refusal.place =
           place_after role limits came (take n piece) r.frames r.refusal.place r.refusal.reason none_refused (subst (λ (bs : List ℕ). IsRefused role limits bs r.frames r.refusal.place r.refusal.reason) (append-nil (came ++ take n piece)) (r.refused [])) in
           subst (λ (w : Verdict). IsReached role limits new all_came w) (sym r.is) (
             r.frames,
             λ more. subst (λ (bs : List ℕ). IsRefused role limits bs r.frames r.refusal.place r.refusal.reason)
-                (sym (append_assoc (came ++ take n piece) later more) ∙ ap (λ (bs : List ℕ). bs ++ more) (sym (after_first n))) (r.refused (later ++ more)),
-            omega (arith, length_all, got.in_buffer, size, after_came),
+                (sym (append_assoc (came ++ take n piece) rest more) ∙ ap (λ (bs : List ℕ). bs ++ more) (sym (after_first n))) (r.refused (rest ++ more)),
+            omega (arith, length-append (came ++ piece) come.past, length-append came piece, short, after_came),
             omega (arith, most, place),
-            unfailed_now,
+            come.unfailed,
           )
 
       pub answered : (answer : Payload) → SeeksThrough role limits at next next_kept came piece first after (Ok (Some answer)) → IsPayloadTaken role limits at old new first after (Ok answer)
-      answered answer given = record { came = all_came; received = received_all; answer = by answer given.2.1; at_once = λ is. cc }
+      answered answer given = record { came = all_came; received = received limits old new later (came ++ piece) come; answer = by answer given.2.1; at_once = λ is. cc }
         where
           n : ℕ
           n = given.0
 
-          later : List ℕ
-          later = drop n piece ++ drop chunk.len (take (count_of chunk) buffer)
+          rest : List ℕ
+          rest = drop n piece ++ come.past
 
           by : (a : Payload) → IsAnsweredAt role limits at (came ++ take n piece) first after a → IsPayloadAnswer role limits at new all_came first after (Ok a)
-          by Whole w = (w.0, subst (λ (bs : List ℕ). IsWholeAt role limits bs at w.0) (sym (after_first n)) (whole_longer role limits (came ++ take n piece) later at w.0 w.1), w.2, unfailed_now)
-          by (Unfinished v) w =
-              (w.1.0, subst (λ (bs : List ℕ). IsUnfinishedAt role limits bs v at w.1.0) (sym (after_first n)) (w.1.1 later), w.1.2, refused_reached n v given.2.0 w.0)
-          by (Inside start) w = (subst (λ (bs : List ℕ). IsInsideAt role limits bs at start) (sym (after_first n)) (inside_longer role limits (came ++ take n piece) later at start w.0), w.1, unfailed_now)
-          by (Head start v) w = (subst (λ (bs : List ℕ). IsInHeadAt role limits bs v at start) (sym (after_first n)) (w.1 later), w.2, refused_reached n v given.2.0 w.0)
-          by (Nothing v) w = (subst (λ (bs : List ℕ). IsAfterAll role limits bs v at) (sym (after_first n)) (w.1 later), w.2, refused_reached n v given.2.0 w.0)
+          by Whole w = (w.0, subst (λ (bs : List ℕ). IsWholeAt role limits bs at w.0) (sym (after_first n)) (whole_longer role limits (came ++ take n piece) rest at w.0 w.1), w.2, come.unfailed)
+          by (Unfinished v) w = (w.1.0, subst (λ (bs : List ℕ). IsUnfinishedAt role limits bs v at w.1.0) (sym (after_first n)) (w.1.1 rest), w.1.2, refused_reached n v given.2.0 w.0)
+          by (Inside start) w = (subst (λ (bs : List ℕ). IsInsideAt role limits bs at start) (sym (after_first n)) (inside_longer role limits (came ++ take n piece) rest at start w.0), w.1, come.unfailed)
+          by (Head start v) w = (subst (λ (bs : List ℕ). IsInHeadAt role limits bs v at start) (sym (after_first n)) (w.1 rest), w.2, refused_reached n v given.2.0 w.0)
+          by (Nothing v) w = (subst (λ (bs : List ℕ). IsAfterAll role limits bs v at) (sym (after_first n)) (w.1 rest), w.2, refused_reached n v given.2.0 w.0)
 
 -- ---- an input whose bytes are known
 

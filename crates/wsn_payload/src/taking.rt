@@ -13,7 +13,7 @@ use crate::event_at::EventAt;
 use std::io::{Read, Write};
 use wsn_io::{Input, Output, Stop};
 use wsn_rules::Limits;
-use wsn_scan::{CHUNK, Part, Scan, Taken, read_chunk};
+use wsn_scan::{CHUNK, ChunkReader, Part, Scan, Taken};
 use wsn_wire::Role;
 
 /// Writes the payload of the event whose first frame begins at the offset `at`: of a message, ping, pong or Close,
@@ -38,19 +38,14 @@ pub fn payload<R: Read, W: Write>(
 {
     let mut scan = Scan::new(role, limits);
     let mut event = EventAt::new(at);
+    let mut chunks = ChunkReader::new(limits);
     let mut buffer = [0; CHUNK];
-    loop {
-        let Some(chunk) = read_chunk(input, scan.room(), &mut buffer)? else {
-            return Ok(event.ended(scan.finish()));
-        };
-        let piece = &mut buffer[..chunk.len];
-        if let Some(answer) = take_chunk(&mut scan, &mut event, piece, output)? {
+    while let Some(len) = chunks.next(input, &mut buffer)? {
+        if let Some(answer) = take_chunk(&mut scan, &mut event, &mut buffer[..len], output)? {
             return Ok(answer);
         }
-        if chunk.past_limit {
-            return Err(Stop::InputLimit);
-        }
     }
+    Ok(event.ended(scan.finish()))
 }
 
 /// Takes all parts of frames in the piece, up to an answer.

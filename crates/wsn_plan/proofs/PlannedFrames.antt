@@ -1,13 +1,12 @@
 -- The plan of the frames of an input that comes in chunks.
-use Rattle.std.proofs.Common.{◌≡◌, ◌≢◌, ℕ, ◌+◌, ◌<◌, ◌≤◌, true, false, Option, None, Some, Result, Ok, Err, List, [], ◌∷◌, ◌++◌, length, take, refl, sym, ap, ◌∙◌, subst, append-nil, length-append, length-take-le, arith}
+use Rattle.std.proofs.Common.{◌≡◌, ◌≢◌, ℕ, ◌+◌, ◌<◌, ◌≤◌, true, false, Option, None, Some, Result, Ok, Err, List, [], ◌∷◌, ◌++◌, length, take, refl, sym, ap, ◌∙◌, subst, append-nil, arith}
 use Rattle.std.proofs.lemmas.List.{take_all}
-use Rattle.std.specs.Io.KnownBytes.{Consumes, IsAtEnd}
+use Rattle.std.specs.Io.KnownBytes.{Consumes}
 use Rattle.wsn_wire.specs.declared.endpoint.Role.{Role}
 use Rattle.wsn_wire.specs.Frame.{Frame}
-use Rattle.wsn_io.specs.Transfer.{Incoming, IsConsumed, IsKept}
+use Rattle.wsn_io.specs.Transfer.{Incoming}
 use Rattle.wsn_io.specs.declared.stop.Stop.{Stop}
 use Rattle.wsn_io.specs.declared.stop.Stop.TheVariants as stop
-use Rattle.wsn_io.proofs.Received.{received_of}
 use Rattle.wsn_rules.specs.declared.head_info.HeadInfo.{HeadInfo}
 use Rattle.wsn_rules.specs.declared.step.Step.{Step}
 use Rattle.wsn_rules.specs.declared.verdict.Refusal.{Refusal}
@@ -19,15 +18,16 @@ use Rattle.wsn_rules.specs.Limits.{Limits}
 use Rattle.wsn_rules.specs.Recut.{plan_of}
 use Rattle.wsn_rules.specs.Summary.{size_of_open}
 use Rattle.wsn_rules.specs.Verdict.{IsRefused, IsVerdict}
-use Rattle.wsn_scan.specs.declared.refill.ReadChunk.{ReadChunk}
+use Rattle.wsn_scan.specs.declared.chunk_reader.ChunkReader.{ChunkReader}
 use Rattle.wsn_scan.specs.declared.scan.Scan.{Scan}
+use Rattle.wsn_scan.specs.ChunkReaders.{HasCome, IsEndOf, IsHaltOf, StopsAt}
 use Rattle.wsn_scan.specs.Feeding.{IsRunning}
-use Rattle.wsn_scan.specs.Judging.{IsWithinLimit}
+use Rattle.wsn_scan.specs.Judging.{IsStopped, IsWithinLimit}
 use Rattle.wsn_scan.specs.Positions.{Position, BetweenFrames}
-use Rattle.wsn_scan.specs.Refill.{IsChunk, chunk_size, count_of}
+use Rattle.wsn_scan.specs.Refill.{chunk_size}
 use Rattle.wsn_scan.specs.Scans.{HasScanned, room_of, refusal_in, refusal_judged}
-use Rattle.wsn_scan.proofs.Chunks.{by_past, none_past, most_of}
-use Rattle.wsn_scan.proofs.JudgedInputs.{HasRead, begins as read_none, room_is, stopped, ended, goes_on, all_consumed, up_to_limit, passes_limit, refuses_input}
+use Rattle.wsn_scan.proofs.ChunksSoFar.{received, within_limit}
+use Rattle.wsn_scan.proofs.JudgedInputs.{HasRead, begins as read_none, stopped, ended, goes_on, refuses_input}
 use Rattle.wsn_scan.proofs.WholeInputs.{of_all}
 use Rattle.wsn_plan.specs.declared.planning.PlanAnswer.{PlanAnswer}
 use Rattle.wsn_plan.specs.declared.planning.PlanAnswer.TheVariants.{Plan, NotAccepted, Unfinished}
@@ -56,40 +56,46 @@ answer_for {A} role limits came done (Refused r) plan answer is same says = subs
 -- ---- while planning
 
 -- The scan has consumed all that came and not refused, and the plan is that of the frames that it has taken.
-pub record HasPlanned (role : Role) (limits : Limits) (old new : Incoming) (scan : Scan) (plan : List Step) : Type 0 where
+pub record HasPlanned (role : Role) (limits : Limits) (old new : Incoming) (chunks : ChunkReader) (scan : Scan) (plan : List Step) : Type 0 where
   pub came : List ℕ
   pub heads : List HeadInfo
-  pub read : HasRead role limits old new scan came heads
+  pub read : HasRead role limits old new chunks scan came heads
   pub planned : HasScannedPlan role limits scan came plan
 
 module _ (role : Role) (limits : Limits) (old : Incoming) where
-  pub begins : (scan : Scan) → HasScanned role limits scan [] [] [] BetweenFrames → old.failed ≡ false → HasPlanned role limits old old scan []
-  begins scan has_scanned readable = record {
+  pub begins : (chunks : ChunkReader) (scan : Scan) → HasCome limits old old chunks [] → HasScanned role limits scan [] [] [] BetweenFrames → HasPlanned role limits old old chunks scan []
+  begins chunks scan come has_scanned = record {
     came = [];
     heads = [];
-    read = read_none role limits old scan has_scanned readable;
+    read = read_none role limits old chunks scan come has_scanned;
     planned = record { frames = []; since = []; position = BetweenFrames; has_scanned = has_scanned; steps = refl };
   }
 
-  module _ (mid new : Incoming) (scan : Scan) (plan : List Step) (so_far : HasPlanned role limits old mid scan plan) where
+  module _ (mid : Incoming) (chunks : ChunkReader) (scan : Scan) (plan : List Step) (so_far : HasPlanned role limits old mid chunks scan plan) where
     -- a scan that has consumed something
     pub is_running : IsRunning scan
     is_running = record { role = role; limits = limits; bytes = so_far.came; heads = so_far.heads; taken = so_far.read.taken }
 
-    -- a read failed
-    pub is_stopped : {A : Type 0} → IsKept mid new → new.failed ≡ true → IsPlanned {A = A} role limits old new (Err stop.Read)
-    is_stopped keeps failed =
-        let judged = stopped role limits old mid new scan so_far.came so_far.heads so_far.read keeps failed in
-        record { came = so_far.came; received = judged.received; of_bytes = judged.answer }
+    -- no more is read
+    pub is_stopped : {A : Type 0} (new : Incoming) (halted : Stop) → IsHaltOf limits old new so_far.came halted → IsPlanned {A = A} role limits old new (Err halted)
+    is_stopped {A} new halted halt =
+        let judged = stopped role limits old mid chunks scan so_far.came so_far.heads so_far.read new halted halt in
+        record { came = halt.all; received = judged.received; of_bytes = by halted halt.stops judged.answer }
+      where
+        by : (h : Stop) → StopsAt limits new halt.all h → IsStopped role limits new halt.all h → IsPlanOf {A = A} role limits new halt.all (Err h)
+        by stop.Memory stops is = absurd stops
+        by stop.Read stops is = is
+        by stop.InputLimit stops is = is
+        by stop.Write stops is = is
 
     -- the input ended
-    pub is_ended : {A : Type 0} (verdict : Verdict) (answer : PlanAnswer A) → IsConsumed mid new [] → IsAtEnd new.remaining → new.failed ≡ mid.failed
+    pub is_ended : {A : Type 0} (new : Incoming) (verdict : Verdict) (answer : PlanAnswer A) → IsEndOf limits old new so_far.came
         → ((bytes since : List ℕ) (fs : List Frame) (at : Position) → HasScanned role limits scan bytes fs since at → IsVerdict role limits bytes fs verdict) → refusal_judged verdict ≡ refusal_in scan
         → IsAnswerWith verdict plan answer → IsPlanned role limits old new (Ok answer)
-    is_ended verdict answer nothing at_end failed verdict_is reported says =
+    is_ended new verdict answer end verdict_is reported says =
         let read = so_far.read.taken in
         let planned = so_far.planned in
-        let judged = ended role limits old mid new scan so_far.came so_far.heads verdict so_far.read nothing at_end failed (verdict_is so_far.came read.since read.frames read.position read.has_scanned) reported in
+        let judged = ended role limits old mid chunks scan so_far.came so_far.heads so_far.read new verdict end (verdict_is so_far.came read.since read.frames read.position read.has_scanned) reported in
         let is = verdict_is so_far.came planned.since planned.frames planned.position planned.has_scanned in
         record {
           came = so_far.came;
@@ -97,61 +103,35 @@ module _ (role : Role) (limits : Limits) (old : Incoming) where
           of_bytes = (verdict, planned.frames, judged.answer, is, answer_for role limits so_far.came planned.frames verdict plan answer is planned.steps says);
         }
 
-    -- One read gave a chunk, and the scan got the bytes within the limit.
-    module _ (next : Scan) (buffer : List ℕ) (chunk : ReadChunk) (after : List Step) (got : IsChunk mid new (room_of scan) buffer chunk) (size : length buffer ≡ chunk_size) where
-      abbrev got_within : List ℕ
-      got_within = take chunk.len buffer
-
-      abbrev now_came : List ℕ
-      now_came = so_far.came ++ take (count_of chunk) buffer
-
-      -- the scan has consumed all of it
-      pub has_more : chunk.past_limit ≡ false → IsPlannedChunk scan next got_within plan after (Ok None) → HasPlanned role limits old new next after
-      has_more none (fed, plans) = record {
-        came = now_came;
+    -- The scan got the next chunk.
+    module _ (new : Incoming) (later : ChunkReader) (next : Scan) (piece : List ℕ) (come : HasCome limits old new later (so_far.came ++ piece)) (after : List Step) where
+      -- it has consumed all of it
+      pub has_more : IsPlannedChunk scan next piece plan after (Ok None) → HasPlanned role limits old new later next after
+      has_more (fed, plans) = record {
+        came = so_far.came ++ piece;
         heads = so_far.heads ++ fed.heads;
-        read = goes_on role limits old mid new scan next buffer chunk so_far.came so_far.heads so_far.read got size none fed;
-        planned =
-            let front : take fed.count got_within ≡ take (count_of chunk) buffer = take_all fed.count got_within (omega (arith, fed.all refl)) ∙ ap (λ (m : ℕ). take m buffer) (sym (none_past chunk none)) in
-            subst (λ (bs : List ℕ). HasScannedPlan role limits next (so_far.came ++ bs) after) front (plans role limits so_far.came so_far.planned);
+        read = goes_on role limits old mid chunks scan so_far.came so_far.heads so_far.read new later next piece come fed;
+        planned = subst (λ (bs : List ℕ). HasScannedPlan role limits next (so_far.came ++ bs) after) (take_all fed.count piece (omega (arith, fed.all refl))) (plans role limits so_far.came so_far.planned);
       }
 
-      -- it has consumed a byte
-      pub falls : chunk.past_limit ≡ false → IsPlannedChunk scan next got_within plan after (Ok None) → room_of next < room_of scan
-      falls none (fed, plans) = omega (arith, got.some, none_past chunk none, fed.room, fed.all refl, length-take-le chunk.len buffer (omega (arith, got.in_buffer)))
-
-      -- a byte past the limit came
-      pub is_past : {A : Type 0} → chunk.past_limit ≡ true → IsPlannedChunk scan next got_within plan after (Ok None) → IsPlanned {A = A} role limits old new (Err stop.InputLimit)
-      is_past past (fed, plans) =
-          let judged = passes_limit role limits old mid new scan next buffer chunk so_far.came so_far.heads so_far.read got size past fed in
-          record { came = now_came; received = judged.received; of_bytes = judged.answer }
-
-      -- the scan refused
-      pub is_refused : {A : Type 0} (refusal : Refusal) → IsPlannedChunk scan next got_within plan after (Ok (Some refusal)) → IsPlanned {A = A} role limits old new (Ok (NotAccepted (Refused refusal)))
-      is_refused refusal (fed, plans) =
-          let judged = refuses_input role limits old mid new scan next buffer chunk so_far.came so_far.heads so_far.read got size refusal fed in
+      -- it refused
+      pub is_refused : {A : Type 0} → length piece + length come.past ≤ chunk_size → (refusal : Refusal) → IsPlannedChunk scan next piece plan after (Ok (Some refusal))
+          → IsPlanned {A = A} role limits old new (Ok (NotAccepted (Refused refusal)))
+      is_refused short refusal (fed, plans) =
+          let judged = refuses_input role limits old mid chunks scan so_far.came so_far.heads so_far.read new later next piece come short refusal fed in
           let reached = judged.answer in
-          let is = subst (λ (bs : List ℕ). IsRefused role limits bs reached.0 refusal.place refusal.reason) (append-nil now_came) (reached.1 []) in
-          record { came = now_came; received = judged.received; of_bytes = (Refused refusal, reached.0, reached, is, (refl, λ no. no)) }
-
-      -- what came within the limit is what the scan got
-      within_limit : take limits.input now_came ≡ so_far.came ++ got_within
-      within_limit =
-          by_past chunk.past_limit (λ past. up_to_limit role limits old mid new scan next buffer chunk so_far.came so_far.heads so_far.read got size past)
-          (λ none.
-          let fits : length (so_far.came ++ got_within) ≤ limits.input =
-          omega (arith, room_is role limits scan so_far.came so_far.heads so_far.read.taken, got.in_room, length-append so_far.came got_within, length-take-le chunk.len buffer (omega (arith, got.in_buffer))) in
-          ap (λ (m : ℕ). take limits.input (so_far.came ++ take m buffer)) (none_past chunk none) ∙ take_all limits.input (so_far.came ++ got_within) fits)
+          let all = (so_far.came ++ piece) ++ come.past in
+          let is = subst (λ (bs : List ℕ). IsRefused role limits bs reached.0 refusal.place refusal.reason) (append-nil all) (reached.1 []) in
+          record { came = all; received = judged.received; of_bytes = (Refused refusal, reached.0, reached, is, (refl, λ no. no)) }
 
       -- an allocation failed
-      pub is_out_of_memory : {A : Type 0} → HasFrameEnd scan got_within → IsPlanned {A = A} role limits old new (Err stop.Memory)
+      pub is_out_of_memory : {A : Type 0} → HasFrameEnd scan piece → IsPlanned {A = A} role limits old new (Err stop.Memory)
       is_out_of_memory has_end = record {
-        came = now_came;
-        received = received_of (limits.input + 1) old new now_came (all_consumed role limits old mid new scan next buffer chunk so_far.came so_far.heads so_far.read got size)
-            (omega (arith, room_is role limits scan so_far.came so_far.heads so_far.read.taken, most_of mid new (room_of scan) buffer chunk got, length-append so_far.came (take (count_of chunk) buffer), length-take-le (count_of chunk) buffer got.in_buffer));
+        came = (so_far.came ++ piece) ++ come.past;
+        received = received limits old new later (so_far.came ++ piece) come;
         of_bytes = (
-          subst (λ (bs : List ℕ). HasWholeFrame role limits bs) (sym within_limit) (has_end role limits so_far.came so_far.heads so_far.read.taken),
-          got.unfailed ∙ so_far.read.unfailed,
+          subst (λ (bs : List ℕ). HasWholeFrame role limits bs) (sym (within_limit limits old new later (so_far.came ++ piece) come)) (has_end role limits so_far.came so_far.heads so_far.read.taken),
+          come.unfailed,
         );
       }
 

@@ -7,7 +7,7 @@ use crate::Plan;
 use std::alloc::{Allocator, Global};
 use std::io::Read;
 use wsn_rules::{HeadInfo, Refusal, Step};
-use wsn_scan::{CHUNK, Limits, Part, Scan, Stop, Taken, Verdict, read_chunk};
+use wsn_scan::{CHUNK, ChunkReader, Limits, Part, Scan, Stop, Taken, Verdict};
 use wsn_wire::{Input, Role};
 
 /// What [`plan_of`] returns.
@@ -41,19 +41,15 @@ pub fn plan_of<A: Allocator + Copy, R: Read>(
     ensures whole { (all : List ℕ) → input.old.remaining ≡ Some all → IsPlannedWhole role limits all result }
 {
     let mut scan = Scan::new(role, limits);
-    let mut buffer = [0; CHUNK];
     let mut plan = Plan::new(alloc);
-    loop {
-        let Some(chunk) = read_chunk(input, scan.room(), &mut buffer)? else {
-            return Ok(answer_of(scan.finish(), plan));
-        };
-        if let Some(refusal) = plan_chunk(&mut scan, &mut buffer[..chunk.len], &mut plan)? {
+    let mut chunks = ChunkReader::new(limits);
+    let mut buffer = [0; CHUNK];
+    while let Some(len) = chunks.next(input, &mut buffer)? {
+        if let Some(refusal) = plan_chunk(&mut scan, &mut buffer[..len], &mut plan)? {
             return Ok(PlanAnswer::NotAccepted(Verdict::Refused(refusal)));
         }
-        if chunk.past_limit {
-            return Err(Stop::InputLimit);
-        }
     }
+    Ok(answer_of(scan.finish(), plan))
 }
 
 /// Feeds the chunk to the scan, all of it or the bytes up to a refusal, and adds the step of each frame that ends to the

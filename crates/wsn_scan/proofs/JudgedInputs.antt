@@ -5,132 +5,107 @@ use Rattle.std.proofs.Math.Seq.{take-append-add}
 use Rattle.std.specs.Io.KnownBytes.{Consumes, IsAtEnd}
 use Rattle.wsn_wire.specs.declared.endpoint.Role.{Role}
 use Rattle.wsn_wire.specs.Frame.{Frame}
-use Rattle.wsn_io.specs.Transfer.{Incoming, IsConsumed, IsKept}
-use Rattle.wsn_io.proofs.Received.{consumed_none, consumed_on, consumed_end, consumed_kept, received_of}
+use Rattle.wsn_io.specs.Transfer.{Incoming}
 use Rattle.wsn_rules.specs.declared.head_info.HeadInfo.{HeadInfo}
 use Rattle.wsn_rules.specs.declared.verdict.Refusal.{Refusal}
 use Rattle.wsn_rules.specs.declared.verdict.Verdict.{Verdict}
 use Rattle.wsn_rules.specs.declared.verdict.Verdict.TheVariants.{Accepted, Cut, Refused}
 use Rattle.wsn_scan.specs.declared.scan.Scan.{Scan}
+use Rattle.wsn_io.specs.declared.stop.Stop.{Stop}
 use Rattle.wsn_io.specs.declared.stop.Stop.TheVariants as stop
 use Rattle.wsn_rules.specs.Limits.{Limits}
 use Rattle.wsn_rules.specs.Verdict.{IsRefused, IsVerdict}
 use Rattle.wsn_scan.specs.Scans.{HasScanned, room_of, refusal_in, refusal_judged}
 use Rattle.wsn_scan.specs.Positions.{BetweenFrames}
 use Rattle.wsn_scan.specs.Feeding.{HasScannedBytes, HasFed}
-use Rattle.wsn_scan.specs.declared.refill.ReadChunk.{ReadChunk}
-use Rattle.wsn_scan.specs.Refill.{IsChunk, chunk_size, count_of}
-use Rattle.wsn_scan.specs.Judging.{IsJudged, IsJudgedOf, IsReached, IsUnrefused}
+use Rattle.wsn_scan.specs.declared.chunk_reader.ChunkReader.{ChunkReader}
+use Rattle.wsn_scan.specs.ChunkReaders.{HasCome, IsEndOf, IsHaltOf, StopsAt}
+use Rattle.wsn_scan.specs.Refill.{chunk_size}
+use Rattle.wsn_scan.specs.Judging.{IsJudged, IsJudgedOf, IsReached, IsStopped, IsUnrefused}
 use Rattle.wsn_rules.proofs.StaysRefused.{place_within}
-use Rattle.wsn_scan.proofs.Chunks.{one_past, none_past, in_count, most_of}
+use Rattle.wsn_scan.proofs.ChunksSoFar.{received}
 use Rattle.wsn_scan.proofs.Unrefused.{unrefused, refused, unrefused_first, place_after}
 
 -- The scan has consumed all that came, taken the frames with these heads and not refused.
-pub record HasRead (role : Role) (limits : Limits) (old new : Incoming) (scan : Scan) (came : List ℕ) (heads : List HeadInfo) : Type 0 where
-  pub consumed : IsConsumed old new came
+pub record HasRead (role : Role) (limits : Limits) (old new : Incoming) (chunks : ChunkReader) (scan : Scan) (came : List ℕ) (heads : List HeadInfo) : Type 0 where
+  pub come : HasCome limits old new chunks came
   pub taken : HasScannedBytes role limits scan came heads
   pub none : refusal_in scan ≡ None
-  pub unfailed : new.failed ≡ false
 
 module _ (role : Role) (limits : Limits) where
   pub room_is : (scan : Scan) (bytes : List ℕ) (heads : List HeadInfo) → HasScannedBytes role limits scan bytes heads → room_of scan + length bytes ≡ limits.input
   room_is scan bytes heads taken = taken.has_scanned.has_consumed.room
 
   -- nothing has come yet
-  pub begins : (input : Incoming) (scan : Scan) → HasScanned role limits scan [] [] [] BetweenFrames → input.failed ≡ false → HasRead role limits input input scan [] []
-  begins input scan has_scanned unfailed =
+  pub begins : (input : Incoming) (chunks : ChunkReader) (scan : Scan) → HasCome limits input input chunks [] → HasScanned role limits scan [] [] [] BetweenFrames → HasRead role limits input input chunks scan [] []
+  begins input chunks scan come has_scanned =
       let taken : HasScannedBytes role limits scan [] [] = record { frames = []; since = []; position = BetweenFrames; has_scanned = has_scanned; heads_are = refl } in
-      record { consumed = consumed_none input; taken = taken; none = unrefused_first role limits scan [] taken; unfailed = unfailed }
+      record { come = come; taken = taken; none = unrefused_first role limits scan [] taken }
 
-  -- a read failed
-  pub stopped : (old mid new : Incoming) (scan : Scan) (came : List ℕ) (heads : List HeadInfo) → HasRead role limits old mid scan came heads → IsKept mid new → new.failed ≡ true
-      → IsJudgedOf role limits old new came (Err stop.Read)
-  stopped old mid new scan came heads read keeps failed =
-      let room = room_is scan came heads read.taken in
-      record {
-        received = received_of (limits.input + 1) old new came (consumed_kept old mid new came read.consumed keeps) (omega arith);
-        answer = (failed, omega arith, unrefused role limits scan came heads read.taken read.none);
-      }
+  -- no more is read
+  pub stopped_unrefused : (new : Incoming) (came all : List ℕ) (halted : Stop) → StopsAt limits new all halted → take limits.input all ≡ came → IsUnrefused role limits came → IsStopped role limits new all halted
+  stopped_unrefused new came all stop.InputLimit stops within none = (stops.0, subst (IsUnrefused role limits) (sym within) none, stops.1)
+  stopped_unrefused new came all stop.Read stops within none = (stops.1, stops.0, subst (IsUnrefused role limits) (sym within ∙ take_all limits.input all stops.0) none)
+  stopped_unrefused new came all stop.Memory stops within none = absurd stops
+  stopped_unrefused new came all stop.Write stops within none = absurd stops
 
-  -- the input ended
-  pub ended : (old mid new : Incoming) (scan : Scan) (came : List ℕ) (heads : List HeadInfo) (verdict : Verdict) (read : HasRead role limits old mid scan came heads) → IsConsumed mid new [] → IsAtEnd new.remaining → new.failed ≡ mid.failed
-      → IsVerdict role limits came read.taken.frames verdict → refusal_judged verdict ≡ refusal_in scan → IsJudgedOf role limits old new came (Ok verdict)
-  ended old mid new scan came heads verdict read nothing at_end failed is reported = record {
-    received = received_of (limits.input + 1) old new came (consumed_end old mid new came read.consumed nothing) (omega (arith, room_is scan came heads read.taken));
-    answer = by_verdict verdict is (reported ∙ read.none);
-  }
-    where
-      within : length came ≤ limits.input
-      within = omega (arith, room_is scan came heads read.taken)
+  module _ (old mid : Incoming) (chunks : ChunkReader) (scan : Scan) (came : List ℕ) (heads : List HeadInfo) (read : HasRead role limits old mid chunks scan came heads) where
+    pub none_refused : IsUnrefused role limits came
+    none_refused = unrefused role limits scan came heads read.taken read.none
 
-      by_verdict : (v : Verdict) → IsVerdict role limits came read.taken.frames v → refusal_judged v ≡ None → IsReached role limits new came v
-      by_verdict (Accepted s) is_v none = (read.taken.frames, is_v, at_end, within, failed ∙ read.unfailed)
-      by_verdict (Cut s) is_v none = (read.taken.frames, is_v, at_end, within, failed ∙ read.unfailed)
-      by_verdict (Refused r) is_v none = absurd cc
+    pub stopped : (new : Incoming) (halted : Stop) (halt : IsHaltOf limits old new came halted) → IsJudgedOf role limits old new halt.all (Err halted)
+    stopped new halted halt = record { received = halt.received; answer = stopped_unrefused new came halt.all halted halt.stops halt.within none_refused }
 
-  -- the scan has consumed all of a piece and not refused
-  taken_whole : (scan next : Scan) (came piece : List ℕ) (heads : List HeadInfo) (fed : HasFed scan next piece None) → HasScannedBytes role limits scan came heads
-      → HasScannedBytes role limits next (came ++ piece) (heads ++ fed.heads)
-  taken_whole scan next came piece heads fed taken =
-      subst (λ (bs : List ℕ). HasScannedBytes role limits next (came ++ bs) (heads ++ fed.heads)) (take_all fed.count piece (omega (arith, fed.all refl))) (fed.consumes role limits came heads taken)
+    -- the input ended
+    pub ended : (new : Incoming) (verdict : Verdict) → IsEndOf limits old new came → IsVerdict role limits came read.taken.frames verdict → refusal_judged verdict ≡ refusal_in scan → IsJudgedOf role limits old new came (Ok verdict)
+    ended new verdict end is reported = record { received = end.received; answer = by_verdict verdict is (reported ∙ read.none) }
+      where
+        by_verdict : (v : Verdict) → IsVerdict role limits came read.taken.frames v → refusal_judged v ≡ None → IsReached role limits new came v
+        by_verdict (Accepted s) is_v none = (read.taken.frames, is_v, end.at_end, end.within, end.unfailed)
+        by_verdict (Cut s) is_v none = (read.taken.frames, is_v, end.at_end, end.within, end.unfailed)
+        by_verdict (Refused r) is_v none = absurd cc
 
-  -- One read gave a chunk, and the scan got the bytes within the limit.
-  module _ (old mid new : Incoming) (scan next : Scan) (buffer : List ℕ) (chunk : ReadChunk) (came : List ℕ) (heads : List HeadInfo)
-      (read : HasRead role limits old mid scan came heads) (got : IsChunk mid new (room_of scan) buffer chunk) (size : length buffer ≡ chunk_size) where
-    pub all_consumed : IsConsumed old new (came ++ take (count_of chunk) buffer)
-    all_consumed = consumed_on old mid new came (take (count_of chunk) buffer) read.consumed got.consumed
+    -- The scan got the next chunk.
+    module _ (new : Incoming) (after : ChunkReader) (next : Scan) (piece : List ℕ) (come : HasCome limits old new after (came ++ piece)) where
+      pub fits : length piece ≤ room_of scan
+      fits = omega (arith, come.room, room_is scan came heads read.taken, length-append came piece)
 
-    length_came : length (came ++ take (count_of chunk) buffer) ≡ length came + count_of chunk
-    length_came = length-append came (take (count_of chunk) buffer) ∙ ap (λ (m : ℕ). length came + m) (length-take-le (count_of chunk) buffer got.in_buffer)
+      -- it has consumed all of it
+      pub taken_whole : (fed : HasFed scan next piece None) → HasScannedBytes role limits next (came ++ piece) (heads ++ fed.heads)
+      taken_whole fed =
+          subst (λ (bs : List ℕ). HasScannedBytes role limits next (came ++ bs) (heads ++ fed.heads)) (take_all fed.count piece (omega (arith, fed.all refl))) (fed.consumes role limits came heads read.taken)
 
-    pub goes_on : chunk.past_limit ≡ false → (fed : HasFed scan next (take chunk.len buffer) None) → HasRead role limits old new next (came ++ take (count_of chunk) buffer) (heads ++ fed.heads)
-    goes_on none fed = record {
-      consumed = all_consumed;
-      taken = subst (λ (m : ℕ). HasScannedBytes role limits next (came ++ take m buffer) (heads ++ fed.heads)) (sym (none_past chunk none)) (taken_whole scan next came (take chunk.len buffer) heads fed read.taken);
-      none = sym fed.answered;
-      unfailed = got.unfailed ∙ read.unfailed;
-    }
+      pub goes_on : (fed : HasFed scan next piece None) → HasRead role limits old new after next (came ++ piece) (heads ++ fed.heads)
+      goes_on fed = record { come = come; taken = taken_whole fed; none = sym fed.answered }
 
-    -- the bytes within the limit, if one more came
-    pub up_to_limit : chunk.past_limit ≡ true → take limits.input (came ++ take (count_of chunk) buffer) ≡ came ++ take chunk.len buffer
-    up_to_limit past =
-        let input : limits.input ≡ length came + chunk.len = omega (arith, room_is scan came heads read.taken, got.past past) in
-        ap (λ (m : ℕ). take m (came ++ take (count_of chunk) buffer)) input ∙ take-append-add came (take (count_of chunk) buffer) chunk.len ∙ ap (λ (bs : List ℕ). came ++ bs) (take-take chunk.len (count_of chunk) buffer (in_count chunk))
+      -- what the scan has consumed, and what came after it
+      pub parted : (count : ℕ) (later : List ℕ) → (came ++ take count piece) ++ ((drop count piece ++ come.past) ++ later) ≡ ((came ++ piece) ++ come.past) ++ later
+      parted count later =
+          sym (append_assoc (came ++ take count piece) (drop count piece ++ come.past) later)
+          ∙ ap (λ (bs : List ℕ). bs ++ later) (sym (append_assoc (came ++ take count piece) (drop count piece) come.past)
+          ∙ ap (λ (bs : List ℕ). bs ++ come.past) (append_assoc came (take count piece) (drop count piece) ∙ ap (λ (bs : List ℕ). came ++ bs) (take-append-drop count piece)))
 
-    pub passes_limit : chunk.past_limit ≡ true → HasFed scan next (take chunk.len buffer) None → IsJudgedOf role limits old new (came ++ take (count_of chunk) buffer) (Err stop.InputLimit)
-    passes_limit past fed =
-        let room = room_is scan came heads read.taken in
-        let none = unrefused role limits next (came ++ take chunk.len buffer) (heads ++ fed.heads) (taken_whole scan next came (take chunk.len buffer) heads fed read.taken) (sym fed.answered) in
-        record {
-          received = received_of (limits.input + 1) old new (came ++ take (count_of chunk) buffer) all_consumed (omega (arith, length_came, most_of mid new (room_of scan) buffer chunk got));
-          answer = (omega (arith, length_came, got.past past, one_past chunk past), subst (λ (bs : List ℕ). IsUnrefused role limits bs) (sym (up_to_limit past)) none, got.unfailed ∙ read.unfailed);
-        }
-
-    -- what the scan has consumed, and what came after it
-    pub parted : (count : ℕ) → count ≤ chunk.len → chunk.len ≤ count_of chunk → (later : List ℕ) → (came ++ take count (take chunk.len buffer)) ++ (drop count (take (count_of chunk) buffer) ++ later) ≡ (came ++ take (count_of chunk) buffer) ++ later
-    parted count some le later =
-        let front : take count (take chunk.len buffer) ≡ take count (take (count_of chunk) buffer) = take-take count chunk.len buffer some ∙ sym (take-take count (count_of chunk) buffer (omega arith)) in
-        let whole : take count (take chunk.len buffer) ++ drop count (take (count_of chunk) buffer) ≡ take (count_of chunk) buffer = ap (λ (bs : List ℕ). bs ++ drop count (take (count_of chunk) buffer)) front ∙ take-append-drop count (take (count_of chunk) buffer) in
-        sym (append_assoc (came ++ take count (take chunk.len buffer)) (drop count (take (count_of chunk) buffer)) later)
-        ∙ ap (λ (bs : List ℕ). bs ++ later) (append_assoc came (take count (take chunk.len buffer)) (drop count (take (count_of chunk) buffer)) ∙ ap (λ (bs : List ℕ). came ++ bs) whole)
-
-    pub refuses_input : (refusal : Refusal) → HasFed scan next (take chunk.len buffer) (Some refusal) → IsJudgedOf role limits old new (came ++ take (count_of chunk) buffer) (Ok (Refused refusal))
-    refuses_input refusal fed =
-        let piece = take chunk.len buffer in
-        let taken = fed.consumes role limits came heads read.taken in
-        let here = (refused role limits next (came ++ take fed.count piece) (heads ++ fed.heads) refusal taken (sym fed.answered)).refused in
-        let within : fed.count ≤ chunk.len = omega (arith, fed.within, length-take-le chunk.len buffer (omega (arith, got.in_buffer))) in
-        let refused_all : (later : List ℕ) → IsRefused role limits ((came ++ take (count_of chunk) buffer) ++ later) taken.frames refusal.place refusal.reason =
-        λ later. subst (λ (bs : List ℕ). IsRefused role limits bs taken.frames refusal.place refusal.reason) (parted fed.count within (in_count chunk) later) (here (drop fed.count (take (count_of chunk) buffer) ++ later)) in
-        let following : length came ≤ refusal.place =
-        place_after role limits came (take fed.count piece) taken.frames refusal.place refusal.reason (unrefused role limits scan came heads read.taken read.none)
-        (subst (λ (bs : List ℕ). IsRefused role limits bs taken.frames refusal.place refusal.reason) (append-nil (came ++ take fed.count piece)) (here [])) in
-        let before_end = place_within role limits taken.frames _ refusal.place refusal.reason (here []).is_evident in
-        let evident_whole : length ((came ++ take fed.count piece) ++ []) ≡ length (came ++ take fed.count piece) = ap (λ (bs : List ℕ). length bs) (append-nil (came ++ take fed.count piece)) in
-        record {
-          received = received_of (limits.input + 1) old new (came ++ take (count_of chunk) buffer) all_consumed (omega (arith, length_came, room_is scan came heads read.taken, most_of mid new (room_of scan) buffer chunk got));
-          answer = (taken.frames, refused_all, omega (arith, length_came, got.in_buffer), omega (arith, room_is next (came ++ take fed.count piece) (heads ++ fed.heads) taken), got.unfailed ∙ read.unfailed);
-        }
+      pub refuses_input : length piece + length come.past ≤ chunk_size → (refusal : Refusal) → HasFed scan next piece (Some refusal) → IsJudgedOf role limits old new ((came ++ piece) ++ come.past) (Ok (Refused refusal))
+      refuses_input short refusal fed =
+          let taken = fed.consumes role limits came heads read.taken in
+          let here = (refused role limits next (came ++ take fed.count piece) (heads ++ fed.heads) refusal taken (sym fed.answered)).refused in
+          let refused_all : (later : List ℕ) → IsRefused role limits (((came ++ piece) ++ come.past) ++ later) taken.frames refusal.place refusal.reason =
+          λ later. subst (λ (bs : List ℕ). IsRefused role limits bs taken.frames refusal.place refusal.reason) (parted fed.count later) (here ((drop fed.count piece ++ come.past) ++ later)) in
+          let following : length came ≤ refusal.place =
+          place_after role limits came (take fed.count piece) taken.frames refusal.place refusal.reason none_refused
+          (subst (λ (bs : List ℕ). IsRefused role limits bs taken.frames refusal.place refusal.reason) (append-nil (came ++ take fed.count piece)) (here [])) in
+          let before_end = place_within role limits taken.frames _ refusal.place refusal.reason (here []).is_evident in
+          let evident_whole : length ((came ++ take fed.count piece) ++ []) ≡ length (came ++ take fed.count piece) = ap (λ (bs : List ℕ). length bs) (append-nil (came ++ take fed.count piece)) in
+          record {
+            received = received limits old new after (came ++ piece) come;
+            answer = (
+              taken.frames,
+              refused_all,
+              omega (arith, following, short, length-append (came ++ piece) come.past, length-append came piece),
+              omega (arith, room_is next (came ++ take fed.count piece) (heads ++ fed.heads) taken, before_end, evident_whole),
+              come.unfailed,
+            );
+          }
 
   -- ---- an input whose bytes are known
 

@@ -2,6 +2,7 @@
 pub mod Positions
 pub mod Parts
 pub mod Feeding
+pub mod ChunkReaders
 pub mod Judging
 pub mod FrameReaders
 pub mod ReadParts

@@ -1,7 +1,8 @@
 ghost use Rattle.std.specs.Prelude.{◌≡◌, ℕ, ◌<◌, List, Some, length, take, IfOk, Err, ◌↔◌, false, true};
 ghost use Rattle.wsn_scan.specs.Words.{Frame, IsJudged, IsUnrefused, IsVerdict};
 
-use crate::refill::{CHUNK, refill};
+use crate::chunk_reader::ChunkReader;
+use crate::refill::CHUNK;
 use crate::scan::Scan;
 use std::io::Read;
 use wsn_io::Stop;
@@ -24,16 +25,12 @@ pub fn judge<R: Read>(input: &mut Input<R>, role: Role, limits: Limits) -> Resul
     ensures failed { (result ≡ Err Stop.Read) ↔ (input.new.failed ≡ true) }
 {
     let mut scan = Scan::new(role, limits);
+    let mut chunks = ChunkReader::new(limits);
     let mut buffer = [0; CHUNK];
-    loop {
-        let Some(chunk) = refill(input, scan.room(), &mut buffer)? else {
-            return Ok(scan.finish());
-        };
-        if let Some(refusal) = scan.feed(&mut buffer[..chunk.len]) {
+    while let Some(len) = chunks.next(input, &mut buffer)? {
+        if let Some(refusal) = scan.feed(&mut buffer[..len]) {
             return Ok(Verdict::Refused(refusal));
         }
-        if chunk.past_limit {
-            return Err(Stop::InputLimit);
-        }
     }
+    Ok(scan.finish())
 }

@@ -7,6 +7,7 @@
 //! bytes that it has consumed. One frame's head, key and payload check are in `wsn_frame`.
 #![tactic(auto)]
 
+mod chunk_reader;
 mod frame_reader;
 mod judging;
 pub mod laws;
@@ -15,6 +16,7 @@ mod refill;
 mod scan;
 mod stage;
 
+pub use chunk_reader::ChunkReader;
 pub use frame_reader::FrameReader;
 pub use judging::judge;
 pub use part::{Part, Taken};

@@ -1,132 +1,121 @@
-use Rattle.std.proofs.Common.{◌≡◌, ◌∙◌, Option, Result, Ok, Err, List, [], length, take, drop, refl, sym, ap, subst, arith, length-append, length-drop, length-take-le, rules}
+use Rattle.std.proofs.Common.{◌≡◌, ◌∙◌, Option, Result, Ok, Err, List, [], take, refl, sym, ap, subst, length-take-le, rules}
 use Rattle.std.proofs.KnownBytes.{Appends-nil}
 use Rattle.wsn_rules.specs.declared.verdict.Refusal.{Refusal}
 use Rattle.wsn_rules.specs.declared.verdict.Verdict.{Verdict}
 use Rattle.wsn_io.specs.declared.stop.Stop.{Stop}
-use Rattle.wsn_io.specs.declared.stop.Stop.TheVariants as stop
 use Rattle.wsn_rules.specs.declared.head_info.HeadInfo.{HeadInfo}
 use Rattle.wsn_rules.specs.Heads.{AreHeads}
-use Rattle.wsn_scan.specs.declared.refill.ReadChunk.{ReadChunk}
-use Rattle.wsn_scan.specs.Scans.{room_of}
-use Rattle.wsn_scan.specs.Refill.{IsRefilled}
 use Rattle.wsn_list.specs.Listing.{IsListedAs, IsListedChunk}
-use Rattle.wsn_scan.proofs.Chunks.{got_chunk}
-use Rattle.wsn_scan.proofs.JudgedInputs.{begins}
-use Rattle.wsn_list.proofs.ListedInputs.{list_stopped, list_ended, list_failed, list_refused, list_passes, list_goes_on}
+use Rattle.wsn_scan.proofs.ChunksSoFar.{next_chunk, next_end, same_size, short_chunk}
+use Rattle.wsn_scan.proofs.JudgedInputs.{begins, fits}
+use Rattle.wsn_list.proofs.ListedInputs.{list_stopped, list_ended, list_failed, list_refused, list_goes_on}
 use Rattle.wsn_list.proofs.OneListing.{whole_listing}
 use Rattle.wsn_list.proofs.listing.list_as.Goals as goal
 
-pub loop-chunk-init : goal.loop-chunk-init
-loop-chunk-init g c = record {
-  read = ([], [], begins c.args.role c.args.limits c.args.input.now c.new-scan.result c.new-scan.ensures c.requires.readable, Appends-nil c.args.output.now.written);
+pub loop-len-init : goal.loop-len-init
+loop-len-init g c = record {
+  read = ([], [], begins c.args.role c.args.limits c.args.input.now c.new-chunks.result c.new-scan.result (c.new-chunks.ensures c.args.input.now c.requires.readable) c.new-scan.ensures, Appends-nil c.args.output.now.written);
   unfailed = c.requires.writable;
   size = refl;
   none_held = c.new-lines.ensures;
 }
 
-pub returns-in_err-chunk-clause-listed : goal.returns-in_err-chunk-clause-listed
-returns-in_err-chunk-clause-listed g c =
-    let read = c.loop-chunk.invariant.read in
-    let out : c.from_residual.result ≡ Err c.in_err-chunk.field-0.0 = search rules in
-    let is : c.from_residual.result ≡ Err stop.Read = out ∙ ap Err c.in_err-chunk.ensures.0 in
-    subst (λ (r : Result Verdict Stop). IsListedAs c.args.format c.args.role c.args.limits c.args.input.now c.refill.new.input c.args.output.now c.loop-chunk.output r) (sym is)
-    (list_stopped c.args.format c.args.role c.args.limits c.args.input.now c.loop-chunk.input c.refill.new.input c.args.output.now c.loop-chunk.output c.loop-chunk.scan read.0 read.1 read.2 read.3
-    c.loop-chunk.invariant.unfailed c.in_err-chunk.ensures.2 c.in_err-chunk.ensures.1)
+pub returns-in_err-len-clause-listed : goal.returns-in_err-len-clause-listed
+returns-in_err-len-clause-listed g c =
+    let read = c.loop-len.invariant.read in
+    let is : c.from_residual.result ≡ Err c.in_err-len.field-0.0 = search rules in
+    subst (λ (r : Result Verdict Stop). IsListedAs c.args.format c.args.role c.args.limits c.args.input.now c.next.new.input c.args.output.now c.loop-len.output r) (sym is)
+    (list_stopped c.args.format c.args.role c.args.limits c.args.input.now c.loop-len.input c.next.new.input c.args.output.now c.loop-len.output c.loop-len.chunks c.loop-len.scan read.0 read.1 read.2 read.3
+    c.loop-len.invariant.unfailed c.in_err-len.field-0.0 (c.in_err-len.ensures.next c.args.limits c.args.input.now read.0 read.2.come))
 
-pub returns-in_err-chunk-clause-whole : goal.returns-in_err-chunk-clause-whole
-returns-in_err-chunk-clause-whole g c all known = whole_listing c.args.role c.args.limits c.args.format _ _ _ _ _ all (returns-in_err-chunk-clause-listed g c) known
-
-pub returns-in_default-clause-listed : goal.returns-in_default-clause-listed
-returns-in_default-clause-listed g c =
-    let read = c.loop-chunk.invariant.read in
-    let at_end = subst (λ (r : Option ReadChunk). IsRefilled c.loop-chunk.input c.refill.new.input c.room.result c.refill.new.buffer (Ok r)) c.in_default.is c.in_ok-chunk.ensures in
-    list_ended c.args.format c.args.role c.args.limits c.args.input.now c.loop-chunk.input c.refill.new.input c.args.output.now c.loop-chunk.output c.end.new.output c.loop-chunk.scan read.0 read.1 c.finish.result c.end.result
-    read.2 read.3 at_end.0 at_end.1 at_end.2
-    (c.finish.ensures.verdict c.args.role c.args.limits read.0 read.2.taken.since read.2.taken.frames _ read.2.taken.has_scanned)
-    (subst (λ (heads : List HeadInfo). AreHeads c.args.role c.args.limits read.0 read.2.taken.frames heads) (sym read.2.taken.heads_are)
-    (c.finish.ensures.heads c.args.role c.args.limits read.0 read.2.taken.since read.2.taken.frames _ read.2.taken.has_scanned)) c.finish.ensures.reported c.end.ensures
-
-pub returns-in_default-clause-whole : goal.returns-in_default-clause-whole
-returns-in_default-clause-whole g c all known = whole_listing c.args.role c.args.limits c.args.format _ _ _ _ _ all (returns-in_default-clause-listed g c) known
+pub returns-in_err-len-clause-whole : goal.returns-in_err-len-clause-whole
+returns-in_err-len-clause-whole g c all known = whole_listing c.args.role c.args.limits c.args.format _ _ _ _ _ all (returns-in_err-len-clause-listed g c) known
 
 pub returns-then-failed-clause-listed : goal.returns-then-failed-clause-listed
 returns-then-failed-clause-listed g c =
-    let read = c.loop-chunk.invariant.read in
-    let got = got_chunk c.loop-chunk.input c.refill.new.input c.room.result (room_of c.loop-chunk.scan) c.refill.new.buffer c.in_ok-chunk.field-0 c.in-Some.chunk c.room.ensures c.in-Some.is c.in_ok-chunk.ensures in
-    list_failed c.args.format c.args.role c.args.limits c.args.input.now c.loop-chunk.input c.refill.new.input c.args.output.now c.loop-chunk.output c.list_chunk-refusal.new.output
-    c.loop-chunk.scan c.list_chunk-refusal.new.scan c.refill.new.buffer c.in-Some.chunk read.0 read.1 read.2 read.3 c.loop-chunk.invariant.unfailed got (omega arith)
+    let read = c.loop-len.invariant.read in
+    let got = next_chunk c.in-Some.is (c.in_ok-len.ensures.next c.args.limits c.args.input.now read.0 read.2.come) in
+    list_failed c.args.format c.args.role c.args.limits c.args.input.now c.loop-len.input c.next.new.input c.args.output.now c.loop-len.output c.list_chunk-refusal.new.output c.loop-len.chunks c.next.new.self
+    c.loop-len.scan c.list_chunk-refusal.new.scan read.0 read.1 read.2 read.3 c.loop-len.invariant.unfailed (take c.in-Some.len c.next.new.buffer) got.come (short_chunk got (c.next.auto.buffer ∙ c.loop-len.invariant.size))
     c.list_chunk-refusal.result c.list_chunk-refusal.ensures.listed (sym c.failed.ensures ∙ c.if-failed.true)
-
-pub returns-then-failed-clause-whole : goal.returns-then-failed-clause-whole
-returns-then-failed-clause-whole g c all known = whole_listing c.args.role c.args.limits c.args.format _ _ _ _ _ all (returns-then-failed-clause-listed g c) known
 
 pub returns-in-Some-refusal-clause-listed : goal.returns-in-Some-refusal-clause-listed
 returns-in-Some-refusal-clause-listed g c =
-    let read = c.loop-chunk.invariant.read in
-    let got = got_chunk c.loop-chunk.input c.refill.new.input c.room.result (room_of c.loop-chunk.scan) c.refill.new.buffer c.in_ok-chunk.field-0 c.in-Some.chunk c.room.ensures c.in-Some.is c.in_ok-chunk.ensures in
-    let piece = subst (λ (r : Option Refusal). IsListedChunk c.args.format c.loop-chunk.scan c.list_chunk-refusal.new.scan c.loop-chunk.output c.list_chunk-refusal.new.output (take c.in-Some.chunk.len c.refill.new.buffer) r)
+    let read = c.loop-len.invariant.read in
+    let got = next_chunk c.in-Some.is (c.in_ok-len.ensures.next c.args.limits c.args.input.now read.0 read.2.come) in
+    let listed = subst (λ (r : Option Refusal). IsListedChunk c.args.format c.loop-len.scan c.list_chunk-refusal.new.scan c.loop-len.output c.list_chunk-refusal.new.output (take c.in-Some.len c.next.new.buffer) r)
     c.in-Some-refusal.is c.list_chunk-refusal.ensures.listed in
-    list_refused c.args.format c.args.role c.args.limits c.args.input.now c.loop-chunk.input c.refill.new.input c.args.output.now c.loop-chunk.output c.list_chunk-refusal.new.output
-    c.loop-chunk.scan c.list_chunk-refusal.new.scan c.refill.new.buffer c.in-Some.chunk read.0 read.1 read.2 read.3 c.loop-chunk.invariant.unfailed got (omega arith)
-    c.end-in-Some-refusal.new.output c.in-Some-refusal.refusal c.end-in-Some-refusal.result piece (sym c.failed.ensures ∙ c.if-failed.false) c.end-in-Some-refusal.ensures
+    list_refused c.args.format c.args.role c.args.limits c.args.input.now c.loop-len.input c.next.new.input c.args.output.now c.loop-len.output c.list_chunk-refusal.new.output c.loop-len.chunks c.next.new.self
+    c.loop-len.scan c.list_chunk-refusal.new.scan read.0 read.1 read.2 read.3 c.loop-len.invariant.unfailed (take c.in-Some.len c.next.new.buffer) got.come (short_chunk got (c.next.auto.buffer ∙ c.loop-len.invariant.size))
+    c.end.new.output c.in-Some-refusal.refusal c.end.result listed (sym c.failed.ensures ∙ c.if-failed.false) c.end.ensures
 
 pub returns-in-Some-refusal-clause-whole : goal.returns-in-Some-refusal-clause-whole
 returns-in-Some-refusal-clause-whole g c all known = whole_listing c.args.role c.args.limits c.args.format _ _ _ _ _ all (returns-in-Some-refusal-clause-listed g c) known
 
-pub returns-then-chunk-clause-listed : goal.returns-then-chunk-clause-listed
-returns-then-chunk-clause-listed g c =
-    let read = c.loop-chunk.invariant.read in
-    let got = got_chunk c.loop-chunk.input c.refill.new.input c.room.result (room_of c.loop-chunk.scan) c.refill.new.buffer c.in_ok-chunk.field-0 c.in-Some.chunk c.room.ensures c.in-Some.is c.in_ok-chunk.ensures in
-    list_passes c.args.format c.args.role c.args.limits c.args.input.now c.loop-chunk.input c.refill.new.input c.args.output.now c.loop-chunk.output c.list_chunk-refusal.new.output
-    c.loop-chunk.scan c.list_chunk-refusal.new.scan c.refill.new.buffer c.in-Some.chunk read.0 read.1 read.2 read.3 c.loop-chunk.invariant.unfailed got (omega arith)
-    c.if-chunk.true c.in_default-refusal.ensures.listed (sym c.failed.ensures ∙ c.if-failed.false)
+pub loop-len-smaller : goal.loop-len-smaller
+loop-len-smaller g c = c.in_ok-len.ensures.falls c.in-Some.len (ap Ok c.in-Some.is)
 
-pub returns-then-chunk-clause-whole : goal.returns-then-chunk-clause-whole
-returns-then-chunk-clause-whole g c all known = whole_listing c.args.role c.args.limits c.args.format _ _ _ _ _ all (returns-then-chunk-clause-listed g c) known
-
-pub loop-chunk-preserved : goal.loop-chunk-preserved
-loop-chunk-preserved g c =
-    let read = c.loop-chunk.invariant.read in
-    let got = got_chunk c.loop-chunk.input c.refill.new.input c.room.result (room_of c.loop-chunk.scan) c.refill.new.buffer c.in_ok-chunk.field-0 c.in-Some.chunk c.room.ensures c.in-Some.is c.in_ok-chunk.ensures in
-    let within : length (take c.in-Some.chunk.len c.refill.new.buffer) ≡ c.in-Some.chunk.len = length-take-le c.in-Some.chunk.len c.refill.new.buffer (omega (arith, got.in_buffer)) in
+pub loop-len-preserved : goal.loop-len-preserved
+loop-len-preserved g c =
+    let read = c.loop-len.invariant.read in
+    let got = next_chunk c.in-Some.is (c.in_ok-len.ensures.next c.args.limits c.args.input.now read.0 read.2.come) in
     record {
-      read = list_goes_on c.args.format c.args.role c.args.limits c.args.input.now c.loop-chunk.input c.refill.new.input c.args.output.now c.loop-chunk.output c.list_chunk-refusal.new.output
-          c.loop-chunk.scan c.list_chunk-refusal.new.scan c.refill.new.buffer c.in-Some.chunk read.0 read.1 read.2 read.3 c.loop-chunk.invariant.unfailed got (omega arith)
-          c.if-chunk.false c.in_default-refusal.ensures.listed (sym c.failed.ensures ∙ c.if-failed.false);
+      read = list_goes_on c.args.format c.args.role c.args.limits c.args.input.now c.loop-len.input c.next.new.input c.args.output.now c.loop-len.output c.list_chunk-refusal.new.output c.loop-len.chunks c.next.new.self
+          c.loop-len.scan c.list_chunk-refusal.new.scan read.0 read.1 read.2 read.3 c.loop-len.invariant.unfailed (take c.in-Some.len c.next.new.buffer) got.come (short_chunk got (c.next.auto.buffer ∙ c.loop-len.invariant.size))
+          c.in_default-refusal.ensures.listed (sym c.failed.ensures ∙ c.if-failed.false);
       unfailed = sym c.failed.ensures ∙ c.if-failed.false;
-      size = omega (arith, c.list_chunk-refusal.auto.piece, length-append c.list_chunk-refusal.new.piece (drop c.in-Some.chunk.len c.refill.new.buffer), length-drop c.in-Some.chunk.len c.refill.new.buffer, got.in_buffer, c.refill.auto.buffer);
+      size = same_size c.in-Some.len c.next.new.buffer c.list_chunk-refusal.new.piece got.in_buffer c.list_chunk-refusal.auto.piece ∙ c.next.auto.buffer ∙ c.loop-len.invariant.size;
       none_held = c.list_chunk-refusal.ensures.none_held;
     }
 
-pub slice_bounds-refill-end : goal.slice_bounds-refill-end
-slice_bounds-refill-end g c = search rules
+pub returns-clause-listed : goal.returns-clause-listed
+returns-clause-listed g c =
+    let read = c.loop-len.invariant.read in
+    let end = next_end c.next.new.self c.next.new.buffer c.in_default.is (c.in_ok-len.ensures.next c.args.limits c.args.input.now read.0 read.2.come) in
+    list_ended c.args.format c.args.role c.args.limits c.args.input.now c.loop-len.input c.next.new.input c.args.output.now c.loop-len.output c.end-2.new.output c.loop-len.chunks c.loop-len.scan read.0 read.1 c.finish.result c.end-2.result
+    read.2 read.3 end
+    (c.finish.ensures.verdict c.args.role c.args.limits read.0 read.2.taken.since read.2.taken.frames _ read.2.taken.has_scanned)
+    (subst (λ (heads : List HeadInfo). AreHeads c.args.role c.args.limits read.0 read.2.taken.frames heads) (sym read.2.taken.heads_are)
+    (c.finish.ensures.heads c.args.role c.args.limits read.0 read.2.taken.since read.2.taken.frames _ read.2.taken.has_scanned)) c.finish.ensures.reported c.end-2.ensures
 
-pub refill-requires : goal.refill-requires
-refill-requires g c = search rules
+pub returns-clause-whole : goal.returns-clause-whole
+returns-clause-whole g c all known = whole_listing c.args.role c.args.limits c.args.format _ _ _ _ _ all (returns-clause-listed g c) known
 
-pub end-requires : goal.end-requires
-end-requires g c = search rules
+pub slice_bounds-next-end : goal.slice_bounds-next-end
+slice_bounds-next-end g c = search rules
+
+pub next-requires : goal.next-requires
+next-requires g c = search rules
 
 pub slice_bounds-buffer-end : goal.slice_bounds-buffer-end
-slice_bounds-buffer-end g c = search rules
+slice_bounds-buffer-end g c =
+    let read = c.loop-len.invariant.read in
+    let got = next_chunk c.in-Some.is (c.in_ok-len.ensures.next c.args.limits c.args.input.now read.0 read.2.come) in
+    got.in_buffer
 
 pub slice_bounds-list_chunk-end : goal.slice_bounds-list_chunk-end
-slice_bounds-list_chunk-end g c = search rules
+slice_bounds-list_chunk-end g c =
+    let read = c.loop-len.invariant.read in
+    let got = next_chunk c.in-Some.is (c.in_ok-len.ensures.next c.args.limits c.args.input.now read.0 read.2.come) in
+    sym (length-take-le c.in-Some.len c.next.new.buffer got.in_buffer)
 
 pub list_chunk-refusal-requires-clause-begun : goal.list_chunk-refusal-requires-clause-begun
 list_chunk-refusal-requires-clause-begun g c = search rules
 
 pub list_chunk-refusal-requires-clause-fits : goal.list_chunk-refusal-requires-clause-fits
-list_chunk-refusal-requires-clause-fits g c = search rules
-
-pub list_chunk-refusal-requires-clause-none_held : goal.list_chunk-refusal-requires-clause-none_held
-list_chunk-refusal-requires-clause-none_held g c = search rules
+list_chunk-refusal-requires-clause-fits g c =
+    let read = c.loop-len.invariant.read in
+    let got = next_chunk c.in-Some.is (c.in_ok-len.ensures.next c.args.limits c.args.input.now read.0 read.2.come) in
+    fits c.args.role c.args.limits c.args.input.now c.loop-len.input c.loop-len.chunks c.loop-len.scan read.0 read.1 read.2 c.next.new.input c.next.new.self c.loop-len.scan (take c.in-Some.len c.next.new.buffer) got.come
 
 pub list_chunk-refusal-requires-clause-writable : goal.list_chunk-refusal-requires-clause-writable
 list_chunk-refusal-requires-clause-writable g c = search rules
 
-pub end-requires-in-Some-refusal : goal.end-requires-in-Some-refusal
-end-requires-in-Some-refusal g c = search rules
+pub list_chunk-refusal-requires-clause-none_held : goal.list_chunk-refusal-requires-clause-none_held
+list_chunk-refusal-requires-clause-none_held g c = search rules
 
-pub loop-chunk-smaller : goal.loop-chunk-smaller
-loop-chunk-smaller g c = search rules
+pub end-requires : goal.end-requires
+end-requires g c = search rules
+
+pub end-requires-2 : goal.end-requires-2
+end-requires-2 g c = search rules
