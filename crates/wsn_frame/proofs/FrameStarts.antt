@@ -7,7 +7,7 @@ use Rattle.wsn_wire.specs.declared.refusal.Reason.TheVariants.{NothingToContinue
 use Rattle.wsn_wire.specs.Frame.{Frame, opcode, first_byte, key_bytes}
 use Rattle.wsn_wire.specs.Layout.{opcode_field}
 use Rattle.wsn_wire.proofs.FrameLemmas.{first_byte_fields}
-use Rattle.wsn_frame.specs.declared.partial_head.Head.{Head}
+use Rattle.wsn_frame.specs.declared.heads.Head.{Head}
 use Rattle.wsn_rules.specs.Limits.{Limits}
 use Rattle.wsn_rules.specs.Evidence.{EvidentByFirst}
 use Rattle.wsn_rules.specs.Evidence.Evidence.{ByFirst}

@@ -1,5 +1,3 @@
-pub mod LastByte
-pub mod HeadSteps
 pub mod HeadsAtOnce
 pub mod PayloadRows
 pub mod FrameStarts

@@ -9,7 +9,7 @@ use Rattle.wsn_wire.specs.Frame.{Frame, first_byte, key_bytes, masked}
 use Rattle.wsn_wire.specs.Layout.{mask_bit, opcode_field, len_form_at, length_count, encoded_length, key_count}
 use Rattle.wsn_wire.specs.Refusal.{number_of}
 use Rattle.wsn_wire.proofs.FrameLemmas.{key_bytes_count}
-use Rattle.wsn_frame.specs.declared.partial_head.Head.{Head}
+use Rattle.wsn_frame.specs.declared.heads.Head.{Head}
 use Rattle.wsn_frame.specs.declared.payload_check.PayloadCheck.{PayloadCheck}
 use Rattle.wsn_frame.specs.declared.payload_check.PayloadCheck.TheVariants.{Free, Text, Close}
 use Rattle.wsn_rules.specs.Limits.{Limits}

@@ -7,11 +7,6 @@ use Rattle.wsn_wire.specs.Refusal.{number_of}
 use Rattle.wsn_rules.specs.Limits.{Limits}
 use Rattle.wsn_rules.specs.Evidence.{Evidence}
 
--- No proper prefix of these bytes is evidence for a refusal; only all of them may be.
-pub record HasNoEvidenceBefore (role : Role) (limits : Limits) (group : List Frame) (bytes : List ℕ) : Type 0 where
-  pub none : (seen later : List ℕ) (reason : Reason) → bytes ≡ seen ++ later → Evidence role limits group reason seen →
-      later ≡ []
-
 -- Only with the last of these bytes there is evidence for a refusal: for this reason, and for none with a lower number.
 pub record IsEvidentLast (role : Role) (limits : Limits) (group : List Frame) (reason : Reason) (bytes : List ℕ)
     : Type 0 where

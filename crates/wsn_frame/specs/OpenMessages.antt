@@ -7,7 +7,7 @@ use Rattle.wsn_text.specs.Validated.{HasValidated}
 use Rattle.wsn_frame.specs.declared.open_message.OpenMessage.{OpenMessage}
 use Rattle.wsn_rules.specs.Group.{first_op, payload_of, is_data}
 use Rattle.wsn_frame.specs.PayloadChecks.{HasChecked}
-use Rattle.wsn_frame.specs.declared.partial_head.Head.{Head}
+use Rattle.wsn_frame.specs.declared.heads.Head.{Head}
 use Rattle.wsn_frame.specs.declared.payload_check.PayloadCheck.{PayloadCheck}
 
 -- The frames of the message are the group, which is not empty: their number, the length of their payloads, and the

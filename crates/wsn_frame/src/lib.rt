@@ -1,25 +1,25 @@
 //! Reads one frame of a stream as its bytes arrive (RFC 6455 sections 5.2 to 5.6).
 //!
 //! [`FrameContext`] is the context of a frame: the endpoint that sent it, the limits, and the message that is open
-//! before it. The head is read byte by byte ([`PartialHead`]), or at once from a buffer ([`whole_head`]). The payload
-//! is unmasked in place ([`unmask`]) and checked piece by piece ([`PayloadCheck`]). [`message_after`] and [`Counts`]
-//! give the open message and the counts after the frame. Nothing here keeps a payload or allocates.
+//! before it. [`parse`] reads its head from the bytes that came. The payload is unmasked in place ([`unmask`]) and
+//! checked piece by piece ([`PayloadCheck`]). [`message_after`] and [`Counts`] give the open message and the counts
+//! after the frame. Nothing here keeps a payload or allocates.
 //!
 //! These types are plain data. The definitions in `specs/` relate their values to the bytes of a frame.
 #![tactic(auto)]
 
-mod buffered_head;
 mod counts;
 mod frame_context;
+mod heads;
 mod open_message;
-mod partial_head;
+mod parsing;
 mod payload_check;
 mod unmasking;
 
-pub use buffered_head::{HEAD_MAX, whole_head, whole_head_after};
 pub use counts::Counts;
 pub use frame_context::FrameContext;
+pub use heads::Head;
 pub use open_message::{OpenMessage, message_after};
-pub use partial_head::{Head, HeadStep, PartialHead};
+pub use parsing::{HEAD_MAX, Parsed, parse, whole_head, whole_head_after};
 pub use payload_check::{BadByte, CloseBody, PayloadCheck};
 pub use unmasking::unmask;

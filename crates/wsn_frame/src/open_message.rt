@@ -1,6 +1,6 @@
 ghost use Rattle.wsn_frame.specs.OpenMessages.{IsMessageAfter, IsOneFragmentMore};
 
-use crate::partial_head::Head;
+use crate::heads::Head;
 use crate::payload_check::PayloadCheck;
 use wsn_text::Utf8;
 use wsn_wire::Op;

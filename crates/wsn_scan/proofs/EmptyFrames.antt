@@ -19,7 +19,7 @@ use Rattle.wsn_rules.specs.Group.{unfinished}
 use Rattle.wsn_rules.specs.Evidence.{EvidentByPayload}
 use Rattle.wsn_rules.specs.Lawful.{IsLawful}
 use Rattle.wsn_rules.specs.Accepted.{HasNoClose}
-use Rattle.wsn_frame.specs.declared.partial_head.Head.{Head}
+use Rattle.wsn_frame.specs.declared.heads.Head.{Head}
 use Rattle.wsn_frame.specs.declared.payload_check.PayloadCheck.{PayloadCheck}
 use Rattle.wsn_frame.specs.declared.payload_check.PayloadCheck.TheVariants as check
 use Rattle.wsn_frame.specs.PartialHeads.{IsHead, encoded_form}

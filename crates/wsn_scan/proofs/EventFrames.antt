@@ -12,7 +12,7 @@ use Rattle.wsn_wire.specs.declared.length_forms.Form.{Form}
 use Rattle.wsn_wire.specs.declared.length_forms.Form.TheVariants.{Shortest}
 use Rattle.wsn_wire.specs.Frame.{Frame, IsBytes, IsKey, is_control, first_byte, second_byte, len_form_of, length_bytes, head_bytes, key_bytes, wire_payload, frame_bytes}
 use Rattle.wsn_wire.proofs.MaskLemmas.{masked-zero}
-use Rattle.wsn_frame.specs.declared.partial_head.Head.{Head}
+use Rattle.wsn_frame.specs.declared.heads.Head.{Head}
 use Rattle.wsn_frame.specs.declared.payload_check.PayloadCheck.{PayloadCheck}
 use Rattle.wsn_frame.specs.PartialHeads.{IsHead, encoded_form}
 use Rattle.wsn_frame.specs.Payloads.{unmasked_by, HoldsPayload}

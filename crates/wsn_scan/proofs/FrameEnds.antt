@@ -12,7 +12,7 @@ use Rattle.wsn_wire.specs.Frame.{Frame, IsBytes, is_control, first_byte, key_byt
 use Rattle.wsn_wire.specs.Layout.{HasLayout, mask_bit, opcode_field, length_count, encoded_length}
 use Rattle.wsn_wire.proofs.FrameLemmas.{first_byte_fields, op_at, op_at-opcode, key_at, key_at-key_bytes, form_at, key_bytes_count, IsBytes-right, frame_at, frame_bytes_determine}
 use Rattle.wsn_wire.proofs.HeadLemmas.{frame_of_layout, close_from_opcode}
-use Rattle.wsn_frame.specs.declared.partial_head.Head.{Head}
+use Rattle.wsn_frame.specs.declared.heads.Head.{Head}
 use Rattle.wsn_frame.specs.declared.payload_check.PayloadCheck.{PayloadCheck}
 use Rattle.wsn_scan.specs.declared.scan.Scan.{Scan}
 use Rattle.wsn_rules.specs.Limits.{Limits, InRange}

@@ -11,15 +11,13 @@ use Rattle.wsn_wire.specs.HeadLaw.{HeadHasNoEvidence}
 use Rattle.wsn_wire.proofs.FrameLemmas.{IsBytes-append, first_byte_fields, second_byte_fields, length_bytes_fields, spells-len_form_of, key_bytes_count, op_at, op_at-opcode, key_at, key_at-key_bytes, form_at, frame_at, fronts_agree, length-wire_payload}
 use Rattle.wsn_wire.proofs.HeadLemmas.{frame_of_layout}
 use Rattle.wsn_rules.specs.declared.head_info.HeadInfo.{HeadInfo}
-use Rattle.wsn_frame.specs.declared.partial_head.Head.{Head}
-use Rattle.wsn_frame.specs.declared.partial_head.PartialHead.{PartialHead}
-use Rattle.wsn_frame.specs.declared.partial_head.PartialHead.TheVariants.{Empty, First, Two, Eight, Key}
+use Rattle.wsn_frame.specs.declared.heads.Head.{Head}
 use Rattle.wsn_rules.specs.Limits.{Limits}
 use Rattle.wsn_rules.specs.Group.{unfinished}
 use Rattle.wsn_rules.specs.Evidence.{Evidence}
 use Rattle.wsn_rules.specs.Evidence.Evidence.{ByFirst, BySecond, ByLength}
 use Rattle.wsn_rules.specs.NoEvidence.{HasNoEvidence}
-use Rattle.wsn_frame.specs.PartialHeads.{HasHeadBytes, IsHead, encoded_form, info_at}
+use Rattle.wsn_frame.specs.PartialHeads.{IsShort, IsHead, encoded_form, info_at}
 use Rattle.wsn_rules.specs.Heads.{info_of, heads_from, heads_of, BeginsWithHead, IsBegun}
 use Rattle.wsn_rules.proofs.Prefixes.{two_fronts}
 use Rattle.wsn_rules.proofs.HeadEvidence.{first_row, encoding_row}
@@ -193,29 +191,14 @@ short_of_head role limits fs rest first second more is short info b =
     let all : length rest ≡ length b.head + length b.following = ap (λ (bs : List ℕ). length bs) b.whole ∙ length-append b.head b.following in
     omega (arith, all, begins_size role limits fs rest info b first second more is, short)
 
-length_begun : (role : Role) (limits : Limits) (fs : List Frame) (rest came : List ℕ) (first second : ℕ) (f : LenForm) → rest ≡ first ∷ second ∷ came → f ≡ len_form_at second → length came < length_count f
-    → (info : HeadInfo) → BeginsWithHead role limits fs rest info → ⊥
-length_begun role limits fs rest came first second f is encoded short =
-    let size : length rest ≡ 2 + length came = ap (λ (bs : List ℕ). length bs) is ∙ two_more first second came in
-    let count : length_count f ≡ length_count (len_form_at second) = ap length_count encoded in
-    short_of_head role limits fs rest first second came is (omega (arith, size, count, short))
-
 pub nothing_begun : (role : Role) (limits : Limits) (fs : List Frame) (rest : List ℕ) → length rest < 2 → (info : HeadInfo) → BeginsWithHead role limits fs rest info → ⊥
 nothing_begun role limits fs rest few info b = omega (arith, few, begins_two role limits fs rest info b)
 
--- a part of a head is no whole one
-pub part_begins_none : (role : Role) (limits : Limits) (fs : List Frame) (part : PartialHead) (rest : List ℕ) → HasHeadBytes role part rest → (info : HeadInfo) → BeginsWithHead role limits fs rest info → ⊥
-part_begins_none role limits fs Empty rest is info b = let size : length rest ≡ 0 = ap length is in nothing_begun role limits fs rest (omega (arith, size)) info b
-part_begins_none role limits fs (First f) rest is info b = let size : length rest ≡ 1 = ap length is in nothing_begun role limits fs rest (omega (arith, size)) info b
-part_begins_none role limits fs (Two f came) rest is info b = length_begun role limits fs rest came.items (first_byte f.fin f.op) is.second len_form.Two is.whole is.encoded_is is.short info b
-part_begins_none role limits fs (Eight f came) rest is info b = length_begun role limits fs rest came.items (first_byte f.fin f.op) is.second len_form.Eight is.whole is.encoded_is is.short info b
-part_begins_none role limits fs (Key f encoded len came) rest is info b =
-    let second = is.0 in
-    let lengths = is.1 in
-    let size : length rest ≡ 2 + length (lengths ++ came.items) = ap (λ (bs : List ℕ). length bs) is.2 ∙ two_more (first_byte f.fin f.op) second (lengths ++ came.items) in
-    let count : length lengths ≡ length_count (len_form_at second) = is.6 ∙ ap length_count is.3 in
-    let keys : key_count second ≡ 4 = ap (λ (mask : Bool). cond mask 4 0) is.4 in
-    short_of_head role limits fs rest (first_byte f.fin f.op) second (lengths ++ came.items) is.2 (omega (arith, size, length-append lengths came.items, count, keys, is.8)) info b
+-- fewer bytes than a head are no whole one
+pub short_begins_none : (role : Role) (limits : Limits) (fs : List Frame) (rest : List ℕ) → IsShort rest → (info : HeadInfo) → BeginsWithHead role limits fs rest info → ⊥
+short_begins_none role limits fs [] short info b = nothing_begun role limits fs [] (omega arith) info b
+short_begins_none role limits fs (first ∷ []) short info b = nothing_begun role limits fs (first ∷ []) (omega arith) info b
+short_begins_none role limits fs (first ∷ second ∷ more) short info b = short_of_head role limits fs (first ∷ second ∷ more) first second more refl (omega (arith, two_more first second more, short)) info b
 
 -- a whole head that is all of the bytes isn't refused
 all_of_head : (role : Role) (limits : Limits) (fs : List Frame) (rest : List ℕ) (reason : Reason) (info : HeadInfo) (b : BeginsWithHead role limits fs rest info) → b.following ≡ []

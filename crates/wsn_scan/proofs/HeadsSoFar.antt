@@ -15,7 +15,7 @@ use Rattle.wsn_rules.specs.Accepted.{HasNoClose}
 use Rattle.wsn_rules.specs.Heads.{heads_of, BeginsWithHead, AreHeads}
 use Rattle.wsn_scan.specs.Scans.{IsAt, HasScanned}
 use Rattle.wsn_scan.specs.Positions.{Position, BetweenFrames, begun_at}
-use Rattle.wsn_scan.proofs.HeadsReported.{head_begins, front_without_evidence, nothing_begun, part_begins_none}
+use Rattle.wsn_scan.proofs.HeadsReported.{head_begins, front_without_evidence, nothing_begun, short_begins_none}
 
 nothing_since : (role : Role) (limits : Limits) (fs : List Frame) (rest : List ℕ) → rest ≡ [] → (info : HeadInfo) → BeginsWithHead role limits fs rest info → ⊥
 nothing_since role limits fs rest is = let size : length rest ≡ 0 = ap length is in nothing_begun role limits fs rest (omega (arith, size))
@@ -29,7 +29,7 @@ module _ (role : Role) (limits : Limits) (bytes : List ℕ) (fs : List Frame) (r
   -- the heads at each stage
   heads_at : (stage : Stage) (at : Position) → IsAt role limits stage bytes fs rest at → AreHeads role limits bytes fs (heads_of fs ++ begun_at at)
   heads_at stages.Between at is = none_begun at is.0 (nothing_since role limits fs rest is.1) is.2
-  heads_at (stages.Head part) at is = none_begun at is.0 (part_begins_none role limits fs part rest is.1.has_bytes) is.2
+  heads_at (stages.Head begun) at is = none_begun at is.0 (short_begins_none role limits fs rest is.1.2.short) is.2
   heads_at (stages.Payload inside) at is =
       let came = is.1.1 in
       let h = came.holds in

@@ -9,11 +9,8 @@ use Rattle.wsn_wire.proofs.FrameLemmas.{fronts_agree}
 use Rattle.wsn_frame.specs.declared.open_message.OpenMessage.{OpenMessage}
 use Rattle.wsn_rules.specs.declared.verdict.Verdict.TheVariants.{Accepted, Cut}
 use Rattle.wsn_scan.specs.declared.scan.Scan.{Scan}
-use Rattle.wsn_frame.specs.declared.partial_head.PartialHead.{PartialHead}
-use Rattle.wsn_frame.specs.declared.partial_head.PartialHead.TheVariants.{Empty, First, Two, Eight, Key}
 use Rattle.wsn_scan.specs.declared.stage.Inside.{Inside}
 use Rattle.wsn_scan.specs.declared.stage.Stage.{Stage}
-use Rattle.wsn_frame.specs.PartialHeads.{HasHeadBytes}
 use Rattle.wsn_rules.specs.Limits.{Limits}
 use Rattle.wsn_rules.specs.Group.{unfinished}
 use Rattle.wsn_rules.specs.Accepted.{HasNoClose, EndsWithClose}
@@ -113,14 +110,6 @@ module _ (role : Role) (limits : Limits) (scan : Scan) (bytes rest : List ℕ) (
       by_message (Some m) keeps =
           cut_verdict none (subst (HasNoEvidence role limits (unfinished fs)) (sym is) (nothing_without_evidence role limits (unfinished fs)))
           (subst EndsWithinFrame (sym is) nothing_within) (inr keeps.some)
-
--- a part of a head that isn't empty is some bytes
-pub some_head : (role : Role) (part : PartialHead) (bytes : List ℕ) → HasHeadBytes role part bytes → (part ≡ Empty → ⊥) → bytes ≢ []
-some_head role Empty bytes is other none = other refl
-some_head role (First f) bytes is other none = let both : first_byte f.fin f.op ∷ [] ≡ [] = sym is ∙ none in cc
-some_head role (Two f came) bytes is other none = let both : first_byte f.fin f.op ∷ is.second ∷ came.items ≡ [] = sym is.whole ∙ none in cc
-some_head role (Eight f came) bytes is other none = let both : first_byte f.fin f.op ∷ is.second ∷ came.items ≡ [] = sym is.whole ∙ none in cc
-some_head role (Key f encoded len came) bytes is other none = let both : first_byte f.fin f.op ∷ is.0 ∷ (is.1 ++ came.items) ≡ [] = sym is.2 ∙ none in cc
 
 -- a whole head is some bytes
 pub some_payload : (role : Role) (limits : Limits) (group : List Frame) (inside : Inside) (rest payload : List ℕ) → IsInPayload role limits group inside rest payload → rest ≢ []

@@ -1,5 +1,5 @@
 -- The bytes that a scan has consumed are refused exactly as the scan reports it.
-use Rattle.std.proofs.Common.{◌≡◌, ℕ, ◌+◌, ◌-◌, ◌≤◌, ◌⊎◌, Option, None, Some, List, [], ◌++◌, length, inl, inr, refl, sym, ap, ◌∙◌, subst, arith}
+use Rattle.std.proofs.Common.{◌≡◌, ℕ, ◌+◌, ◌-◌, ◌≤◌, Option, None, Some, List, [], ◌++◌, length, inl, inr, refl, sym, ap, ◌∙◌, subst, arith}
 use Rattle.std.proofs.lemmas.Bool.{cases_lt}
 use Rattle.std.proofs.lemmas.List.{take-append-le}
 use Rattle.wsn_wire.specs.declared.endpoint.Role.{Role}
@@ -10,14 +10,11 @@ use Rattle.wsn_frame.specs.declared.open_message.OpenMessage.{OpenMessage}
 use Rattle.wsn_rules.specs.declared.verdict.Refusal.{Refusal}
 use Rattle.wsn_rules.specs.declared.verdict.Verdict.{Verdict}
 use Rattle.wsn_rules.specs.declared.verdict.Verdict.TheVariants.{Accepted, Cut, Refused}
-use Rattle.wsn_frame.specs.declared.partial_head.PartialHead.{PartialHead}
-use Rattle.wsn_frame.specs.declared.partial_head.PartialHead.TheVariants.{Empty, First, Two, Eight, Key}
 use Rattle.wsn_scan.specs.declared.stage.Stage.{Stage}
 use Rattle.wsn_scan.specs.declared.stage.Stage.TheVariants as stages
 use Rattle.wsn_scan.specs.declared.scan.Scan.{Scan}
 use Rattle.wsn_rules.specs.Limits.{Limits}
 use Rattle.wsn_rules.specs.Group.{unfinished}
-use Rattle.wsn_frame.specs.PartialHeads.{HasHeadBytes}
 use Rattle.wsn_rules.specs.Verdict.{IsRefused, IsVerdict}
 use Rattle.wsn_scan.specs.Scans.{HasScannedAt, summary_of, taken_of, verdict_between, refusal_at, refusal_in, refusal_judged, IsRefusedThere}
 use Rattle.wsn_scan.specs.Positions.{Position}
@@ -28,7 +25,7 @@ use Rattle.wsn_scan.specs.Feeding.{HasScannedBytes}
 use Rattle.wsn_scan.proofs.HeadsSoFar.{heads_reported}
 use Rattle.wsn_rules.proofs.OneVerdict.{one_verdict}
 use Rattle.wsn_rules.proofs.StaysRefused.{place_within, refused_alike}
-use Rattle.wsn_scan.proofs.ScanVerdicts.{closed_verdict, cut_verdict, between_verdict, some_head, some_payload}
+use Rattle.wsn_scan.proofs.ScanVerdicts.{closed_verdict, cut_verdict, between_verdict, some_payload}
 use Rattle.wsn_scan.proofs.WithinFrames.{head_within, payload_within}
 
 -- The bytes have a verdict other than a refusal.
@@ -41,28 +38,17 @@ between_other : (scan : Scan) (m : Option OpenMessage) → refusal_judged (verdi
 between_other scan None = refl
 between_other scan (Some m) = refl
 
-empty_or_some : (part : PartialHead) → (part ≡ Empty) ⊎ (part ≡ Empty → ⊥)
-empty_or_some Empty = inl refl
-empty_or_some (First f) = inr (λ is. cc)
-empty_or_some (Two f came) = inr (λ is. cc)
-empty_or_some (Eight f came) = inr (λ is. cc)
-empty_or_some (Key f encoded len came) = inr (λ is. cc)
-
 module _ (role : Role) (limits : Limits) where
   -- at each stage but a refusal
   not_refused_at : (scan : Scan) (bytes rest : List ℕ) (fs : List Frame) (at : Position) (stage : Stage) → HasScannedAt role limits scan stage bytes fs rest at → refusal_at stage ≡ None → NotRefused role limits bytes fs
-  not_refused_at scan bytes rest fs at (stages.Head part) has_scanned none =
-      elim (empty_or_some part) [
-        | inl empty ↦
-            let nothing : rest ≡ [] = subst (λ (p : PartialHead). HasHeadBytes role p rest) empty has_scanned.is_at.1.has_bytes in
-            record { verdict = verdict_between scan scan.context.message; is = between_verdict role limits scan bytes rest fs at (stages.Head part) has_scanned has_scanned.is_at.0 nothing; other = between_other scan scan.context.message }
-        | inr other ↦ record {
-          verdict = Cut (summary_of scan (taken_of scan) 0 None);
-          is = cut_verdict role limits scan bytes rest fs at (stages.Head part) has_scanned has_scanned.is_at.0 has_scanned.is_at.1.has_no_evidence (head_within role limits (unfinished fs) part rest has_scanned.is_at.1)
-              (inl (some_head role part rest has_scanned.is_at.1.has_bytes other));
-          other = refl;
-        }
-      ]
+  not_refused_at scan bytes rest fs at (stages.Head begun) has_scanned none =
+      let in_bytes = IsBytes-right (stream fs) rest (subst IsBytes has_scanned.has_consumed.whole has_scanned.has_consumed.in_bytes) in
+      let so_far = has_scanned.is_at.1 in
+      record {
+        verdict = Cut (summary_of scan (taken_of scan) 0 None);
+        is = cut_verdict role limits scan bytes rest fs at (stages.Head begun) has_scanned has_scanned.is_at.0 so_far.2.has_no_evidence (head_within rest in_bytes so_far.2.short) (inl so_far.1);
+        other = refl;
+      }
   not_refused_at scan bytes rest fs at (stages.Payload inside) has_scanned none =
       let in_bytes = IsBytes-right (stream fs) rest (subst IsBytes has_scanned.has_consumed.whole has_scanned.has_consumed.in_bytes) in
       record {

@@ -1,17 +1,12 @@
 -- Bytes that are part of a head, or a head and part of its payload, end within a frame.
-use Rattle.std.proofs.Common.{◌≡◌, ℕ, suc, ◌+◌, ◌≤◌, Bool, cond, List, ◌∷◌, ◌++◌, length, inl, inr, refl, sym, ap, ◌∙◌, subst, arith, append_assoc, length-append}
+use Rattle.std.proofs.Common.{◌≡◌, ℕ, suc, ◌+◌, ◌≤◌, Bool, cond, List, [], ◌∷◌, ◌++◌, length, inl, inr, sym, ap, ◌∙◌, subst, arith, append_assoc, length-append}
 use Rattle.wsn_wire.specs.declared.endpoint.Role.{Role}
 use Rattle.wsn_wire.specs.Frame.{Frame, IsBytes, first_byte, key_bytes}
 use Rattle.wsn_wire.specs.Layout.{HasLayout, len_form_at, length_count, encoded_length, key_count}
 use Rattle.wsn_wire.proofs.FrameLemmas.{key_bytes_count, fronts_agree}
-use Rattle.wsn_wire.specs.declared.heads.FirstByte.{FirstByte}
-use Rattle.wsn_wire.specs.declared.length_forms.LenForm.{LenForm}
-use Rattle.wsn_wire.specs.declared.length_forms.LenForm.TheVariants as len_form
-use Rattle.wsn_frame.specs.declared.partial_head.PartialHead.{PartialHead}
-use Rattle.wsn_frame.specs.declared.partial_head.PartialHead.TheVariants.{Empty, First, Two, Eight, Key}
 use Rattle.wsn_rules.specs.Limits.{Limits}
 use Rattle.wsn_rules.specs.Verdict.{EndsWithinFrame}
-use Rattle.wsn_frame.specs.PartialHeads.{IsInLength, HasHeadBytes, IsInHead}
+use Rattle.wsn_frame.specs.PartialHeads.{IsShort}
 use Rattle.wsn_scan.specs.declared.stage.Inside.{Inside}
 use Rattle.wsn_scan.specs.Scans.{IsInPayload}
 use Rattle.wsn_rules.proofs.LayoutPrefixes.{BeginsWithLayout, layout_or_within}
@@ -42,34 +37,17 @@ same_second first second tail b =
     let tail_is : tail ≡ (l.len ++ (l.key ++ l.payload)) ++ b.following = cc in
     (second_is, tail_is ∙ append_assoc l.len (l.key ++ l.payload) b.following)
 
-pub head_within : (role : Role) (limits : Limits) (group : List Frame) (part : PartialHead) (rest : List ℕ) → IsInHead role limits group part rest → EndsWithinFrame rest
-head_within role limits group part rest h = within_unless rest h.in_bytes (too_few part h.has_bytes)
+pub head_within : (rest : List ℕ) → IsBytes rest → IsShort rest → EndsWithinFrame rest
+head_within rest in_bytes short = within_unless rest in_bytes (too_few rest short)
   where
-    in_length : (f : FirstByte) (encoded : LenForm) (came : List ℕ) → IsInLength role f encoded came rest → BeginsWithLayout rest → ⊥
-    in_length f encoded came is b =
-        let whole = subst BeginsWithLayout is.whole b in
-        let size : length rest ≡ suc (suc (length came)) = ap length is.whole in
-        let same = (same_second (first_byte f.fin f.op) is.second came whole).0 in
-        let count : length_count (len_form_at whole.layout.second) ≡ length_count encoded = ap (λ (n : ℕ). length_count (len_form_at n)) same ∙ ap length_count (sym is.encoded_is) in
-        let fewer = is.short in
-        let whole_size : length (first_byte f.fin f.op ∷ is.second ∷ came) ≡ suc (suc (length came)) = refl in
-        absurd (omega (arith, at_least _ whole, length-layout whole.bytes whole.layout))
-
-    too_few : (p : PartialHead) → HasHeadBytes role p rest → BeginsWithLayout rest → ⊥
-    too_few Empty is b = let size : length rest ≡ 0 = ap length is in absurd (omega (arith, at_least rest b, b.some))
-    too_few (First f) is b = let size : length rest ≡ 1 = ap length is in absurd (omega (arith, at_least rest b, length-layout b.bytes b.layout))
-    too_few (Two f came) is b = in_length f len_form.Two came.items is b
-    too_few (Eight f came) is b = in_length f len_form.Eight came.items is b
-    too_few (Key f encoded len came) is b =
-        let second = is.0 in
-        let lengths = is.1 in
-        let whole = subst BeginsWithLayout is.2 b in
-        let same = (same_second (first_byte f.fin f.op) second (lengths ++ came.items) whole).0 in
-        let count : length_count (len_form_at whole.layout.second) ≡ length lengths = ap (λ (n : ℕ). length_count (len_form_at n)) same ∙ ap length_count (sym is.3) ∙ sym is.6 in
-        let key : key_count whole.layout.second ≡ 4 = ap key_count same ∙ ap (λ (b : Bool). cond b 4 0) is.4 in
-        let fewer = is.8 in
-        let size : length (first_byte f.fin f.op ∷ second ∷ (lengths ++ came.items)) ≡ suc (suc (length lengths + length came.items)) = ap (λ (n : ℕ). suc (suc n)) (length-append lengths came.items) in
-        absurd (omega (arith, at_least _ whole, length-layout whole.bytes whole.layout))
+    too_few : (bs : List ℕ) → IsShort bs → BeginsWithLayout bs → ⊥
+    too_few [] few b = absurd (omega (arith, at_least [] b, b.some))
+    too_few (first ∷ []) few b = absurd (omega (arith, at_least (first ∷ []) b, length-layout b.bytes b.layout))
+    too_few (first ∷ second ∷ tail) few b =
+        let same = (same_second first second tail b).0 in
+        let count : length_count (len_form_at b.layout.second) ≡ length_count (len_form_at second) = ap (λ (n : ℕ). length_count (len_form_at n)) same in
+        let key : key_count b.layout.second ≡ key_count second = ap key_count same in
+        absurd (omega (arith, few, at_least (first ∷ second ∷ tail) b, length-layout b.bytes b.layout, count, key))
 
 pub payload_within : (role : Role) (limits : Limits) (group : List Frame) (inside : Inside) (rest payload : List ℕ) → IsBytes rest → IsInPayload role limits group inside rest payload → EndsWithinFrame rest
 payload_within role limits group inside rest payload in_bytes p = within_unless rest in_bytes short

@@ -1,12 +1,12 @@
 -- A scan's state, and how it relates to the bytes that the scan has consumed and doesn't keep.
-use Rattle.std.specs.Prelude.{◌≡◌, ℕ, ◌+◌, ◌-◌, ◌<◌, ◌≤◌, ◌↔◌, IfSome, IsSome, Option, None, Some, List, [], ◌∷◌, ◌++◌, length, take, drop}
+use Rattle.std.specs.Prelude.{◌≡◌, ◌≢◌, ℕ, ◌+◌, ◌-◌, ◌<◌, ◌≤◌, ◌↔◌, IfSome, IsSome, Option, None, Some, List, [], ◌∷◌, ◌++◌, length, take, drop}
 use Rattle.wsn_wire.specs.declared.endpoint.Role.{Role}
 use Rattle.wsn_wire.specs.Frame.{Frame, IsBytes, first_byte, stream}
 use Rattle.wsn_frame.specs.declared.open_message.OpenMessage.{OpenMessage}
 use Rattle.wsn_wire.specs.declared.refusal.Reason.{Reason}
 use Rattle.wsn_wire.specs.declared.refusal.Reason.TheVariants.{TextCut}
 use Rattle.wsn_rules.specs.declared.verdict.Refusal.{Refusal}
-use Rattle.wsn_frame.specs.declared.partial_head.Head.{Head}
+use Rattle.wsn_frame.specs.declared.heads.Head.{Head}
 use Rattle.wsn_frame.specs.declared.payload_check.PayloadCheck.{PayloadCheck}
 use Rattle.wsn_frame.specs.Payloads.{unmasked_by, HoldsPayload}
 use Rattle.wsn_scan.specs.declared.part.Part.{Part}
@@ -26,7 +26,7 @@ use Rattle.wsn_rules.specs.Accepted.{HasNoClose, EndsWithClose}
 use Rattle.wsn_rules.specs.Summary.{close_of}
 use Rattle.wsn_rules.specs.Verdict.{IsRefused}
 use Rattle.wsn_frame.specs.OpenMessages.{IsOpenMessage}
-use Rattle.wsn_frame.specs.PartialHeads.{IsInHead, IsHead, info_at}
+use Rattle.wsn_frame.specs.PartialHeads.{IsHeadSoFar, IsHead, info_at}
 use Rattle.wsn_frame.specs.EvidentLast.{IsEvidentLast}
 use Rattle.wsn_rules.specs.Heads.{heads_of, info_of, AreHeads}
 use Rattle.wsn_frame.specs.PayloadChecks.{HasChecked}
@@ -56,8 +56,8 @@ pub record IsRefusedThere (role : Role) (limits : Limits) (refusal : Refusal) (b
 -- The stage and the position after the whole frames fs and the bytes that came since.
 abbrev pub IsAt : Role → Limits → Stage → List ℕ → List Frame → List ℕ → Position → Type 0
 IsAt role limits stages.Between bytes fs rest at = HasNoClose fs × (rest ≡ []) × (at ≡ BetweenFrames)
-IsAt role limits (stages.Head part) bytes fs rest at =
-    HasNoClose fs × IsInHead role limits (unfinished fs) part rest × (at ≡ BetweenFrames)
+IsAt role limits (stages.Head begun) bytes fs rest at =
+    HasNoClose fs × ((rest ≡ begun.items) × (rest ≢ []) × IsHeadSoFar role limits (unfinished fs) rest) × (at ≡ BetweenFrames)
 IsAt role limits (stages.Payload inside) bytes fs rest at =
     HasNoClose fs × ((payload : List ℕ) × IsInPayload role limits (unfinished fs) inside rest payload
     × (at ≡ InFrame (info_at (length (stream fs)) inside.head) payload))
@@ -193,6 +193,15 @@ Unmasks stage old piece after n =
     HasScannedAt role limits old stage bytes fs rest at → take n after ≡ unmasked_at at (take n piece)
 
 -- ---- the parts of a call
+
+-- Since the last whole frame these first bytes of a head came, or none. The scan goes on with the piece: it takes a part
+-- of the frame, or refuses, or keeps more of the head.
+abbrev pub ContinuesHead : Scan → Scan → List ℕ → List ℕ → List ℕ → ℕ → Taken → Part → Type 0
+ContinuesHead old new begun piece after n taken part =
+    (role : Role) (limits : Limits) (bytes : List ℕ) (fs : List Frame) → IsBytes piece →
+    HasConsumed role limits old bytes fs begun → HasNoClose fs → IsHeadSoFar role limits (unfinished fs) begun →
+    0 < length begun + length piece → IsReachedBy role limits new (bytes ++ take n piece)
+    (Finds taken part (drop part.start (take n after)) fs BetweenFrames) × Consumes taken part (length piece) n
 
 -- The first `start` bytes of the piece end this head, and the scan takes a part of its frame, or refuses.
 abbrev pub BeginsFrame : Scan → Scan → ℕ → Head → List ℕ → List ℕ → ℕ → Taken → Part → Type 0

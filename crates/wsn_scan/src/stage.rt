@@ -1,7 +1,8 @@
 ghost use Rattle.std.specs.Prelude.{◌≡◌, None};
 ghost use Rattle.wsn_scan.specs.Words.{IsStageAfter, refusal_at};
 
-use wsn_frame::{Head, PartialHead, PayloadCheck};
+use arrayvec::ArrayVec;
+use wsn_frame::{HEAD_MAX, Head, PayloadCheck};
 use wsn_rules::Refusal;
 
 /// A frame whose payload is coming.
@@ -18,8 +19,8 @@ pub struct Inside {
 pub enum Stage {
     /// Between frames.
     Between,
-    /// In a head, or before its first byte.
-    Head(PartialHead),
+    /// In a head: its first bytes, one at least.
+    Head(ArrayVec<u8, HEAD_MAX>),
     /// In a payload.
     Payload(Inside),
     /// After a Close: its code, if it has one.

@@ -13,9 +13,10 @@ ghost use Rattle.wsn_frame.specs.Counts.{AreCounts};
 use super::Scan;
 use crate::part::{Part, Taken};
 use crate::stage::{Inside, Stage};
+use arrayvec::ArrayVec;
 use std::mem;
 use wsn_frame::{
-    Counts, FrameContext, Head, HeadStep, OpenMessage, PartialHead, PayloadCheck, message_after,
+    Counts, FrameContext, HEAD_MAX, Head, OpenMessage, Parsed, PayloadCheck, message_after, parse,
     unmask, whole_head,
 };
 use wsn_rules::Refusal;
@@ -23,7 +24,7 @@ use wsn_wire::{Op, Reason};
 
 impl Scan {
     ghost use Rattle.std.specs.Prelude.{◌≡◌, ◌≢◌, ◌+◌, ◌-◌, ◌<◌, ◌≤◌, ◌↔◌, true, None, length, take, drop, IfSome, IfNone, IsSome, IsTrue};
-    ghost use Rattle.wsn_scan.specs.Words.{AdvancesFrom, Unmasks, HasNoRest, BeginsAt, BeginsFrame, AddsPart, EndsFrame, IsCutAt, room_of, refusal_in, refusal_of, info_at};
+    ghost use Rattle.wsn_scan.specs.Words.{AdvancesFrom, Unmasks, HasNoRest, ContinuesHead, BeginsAt, BeginsFrame, AddsPart, EndsFrame, IsCutAt, room_of, refusal_in, refusal_of, info_at};
 
     /// Takes what the piece has of the frame at its start, if the scan is between frames, the frame's head is whole there,
     /// it is no Close, and no byte is evidence for a refusal. Otherwise nothing changes.
@@ -136,9 +137,10 @@ impl Scan {
             × (result.0 ≡ 0) × (result.1 ≡ Taken.Refused)) }
     {
         match &mut self.stage {
-            Stage::Between => self.next_head(PartialHead::Empty, piece, part),
+            Stage::Between if piece.is_empty() => (0, Taken::More),
+            Stage::Between => self.next_head(ArrayVec::new(), piece, part),
             Stage::Head(begun) => {
-                let begun = mem::replace(begun, PartialHead::Empty);
+                let begun = mem::replace(begun, ArrayVec::new());
                 self.next_head(begun, piece, part)
             }
             Stage::Payload(inside) => {
@@ -153,16 +155,16 @@ impl Scan {
         }
     }
 
-    /// Reads a head byte by byte up to its end, and takes what the piece has of its frame.
+    /// Reads a head, of which `begun` came before, and takes what the piece has of its frame.
     #[tactic(none)]
     fn next_head(
         &mut self,
-        mut begun: PartialHead,
+        mut begun: ArrayVec<u8, HEAD_MAX>,
         piece: &mut [u8],
         part: &mut Part,
     ) -> (usize, Taken)
         requires { length piece.old ≤ room_of self.old }
-        ensures taken { AdvancesFrom (Stage.Head begun) self.old self.new piece.old piece.new result.0 result.1 part.new }
+        ensures taken { ContinuesHead self.old self.new begun.items piece.old piece.new result.0 result.1 part.new }
         ensures within { result.0 ≤ length piece.old }
         ensures kept { drop result.0 piece.new ≡ drop result.0 piece.old }
         ensures head { result.1 ≡ Taken.Part → (part.new.start ≤ result.0)
@@ -172,16 +174,20 @@ impl Scan {
         ensures room { room_of self.new + result.0 ≡ room_of self.old }
         ensures reported { IsSome (refusal_in self.new) ↔ (result.1 ≡ Taken.Refused) }
     {
-        for i in 0..piece.len() {
-            match begun.with(piece[i], &self.context) {
-                HeadStep::More(more) => begun = more,
-                HeadStep::Refused(reason) => return self.refuse(i + 1, reason),
-                HeadStep::Whole(head) => return self.begin_slow(i + 1, &head, piece, part),
+        let before = begun.len();
+        let came = piece.len().min(begun.remaining_capacity());
+        let _fits = begun.try_extend_from_slice(&piece[..came]);
+        match parse(&begun, &self.context) {
+            Parsed::Incomplete => {
+                self.room -= piece.len() as u64;
+                self.stage = Stage::Head(begun);
+                (piece.len(), Taken::More)
             }
+            Parsed::Whole(size, head) => {
+                self.begin_slow(size.saturating_sub(before), &head, piece, part)
+            }
+            Parsed::Refused(size, reason) => self.refuse(size.saturating_sub(before), reason),
         }
-        self.room -= piece.len() as u64;
-        self.stage = Stage::Head(begun);
-        (piece.len(), Taken::More)
     }
 
     /// Takes what the piece has of a frame whose head ends at `start`. If a byte of its payload is evidence for a refusal,

@@ -22,13 +22,7 @@ impl Scan {
             Stage::Refused(refusal) => Verdict::Refused(*refusal),
             Stage::Closed(code) => self.closed(*code),
             Stage::Between => self.between(),
-            Stage::Head(part) => {
-                if part.is_empty() {
-                    self.between()
-                } else {
-                    self.cut()
-                }
-            }
+            Stage::Head(_) => self.cut(),
             Stage::Payload(_) => self.cut(),
         }
     }
