@@ -3,6 +3,7 @@ pub mod Positions
 pub mod Parts
 pub mod Feeding
 pub mod Judging
+pub mod ReportedHeads
 pub mod FrameReaders
 pub mod ReadParts
 pub mod FollowedScans
