@@ -11,7 +11,7 @@ use wsn_capture::SideReader;
 use wsn_io::{BlockReader, BlockWriter, Input, Output, TiedReader, TiedWriter};
 use wsn_job::{Comparison, Job, run, run_on_side, run_same};
 use wsn_print::ViewLimit;
-use wsn_rules::{INPUT_MAX, Limits, MESSAGE_MAX};
+use wsn_rules::Limits;
 use wsn_wire::{Lengths, Role};
 
 /// A line on standard error.
@@ -19,7 +19,7 @@ type OneLine = ArrayVec<u8, 128>;
 
 /// The limits that the program has without options.
 pub fn usual_limits() -> Limits {
-    Limits::new(MESSAGE_MAX, INPUT_MAX).unwrap()
+    Limits::greatest()
 }
 
 /// The same limits, where longer encodings of a length are accepted.

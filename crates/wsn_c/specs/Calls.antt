@@ -5,7 +5,8 @@ use Rattle.wsn_io.specs.Transfer.{Incoming, Outgoing}
 use Rattle.wsn_command.specs.declared.answered.Ran.{Ran}
 use Rattle.wsn_command.specs.declared.job.Job.{Job}
 use Rattle.wsn_job.specs.Jobs.{IsRun}
-use Rattle.wsn_job.specs.Channels.{channels, compared_channels}
+use Rattle.wsn_job.specs.Channels.{channels}
+use Rattle.wsn_job.specs.ComparedChannels.{compared_channels}
 use Rattle.wsn_job.specs.Comparisons.{IsComparisonPrinted}
 use Rattle.wsn_job.specs.Diagnostics.{IsStopDiagnosed}
 use Rattle.wsn_command.specs.declared.comparison.Comparison.{Comparison}

@@ -97,7 +97,7 @@ left_all came all (Some rest) is = (rest, refl, is)
 
 pub whole_answer : (limits : Limits) (old new : Incoming) (result : Result CaptureReport CaptureStop) (all : List ℕ) → old.remaining ≡ Some all → new.failed ≡ false → IsCaptureJudged limits old new result → IsCaptureAnswerOf limits all result
 whole_answer limits old new result all known unfailed judged =
-    let left = left_all judged.came all new.remaining (subst (λ (o : Option (List ℕ)). Consumes o new.remaining judged.came) known judged.received.consumed) in
+    let left = left_all judged.came all new.remaining (subst (λ (o : Option (List ℕ)). Consumes o new.remaining judged.came) known judged.received.consumed.consumed) in
     by_answer result left.0 left.1 left.2 judged.answer
   where
     ended_there : (rest : List ℕ) → new.remaining ≡ Some rest → all ≡ judged.came ++ rest → IsAtEnd new.remaining → judged.came ≡ all

@@ -101,7 +101,7 @@ pub fn limits_from(settings: &Settings) -> Option<Limits> {
 
 /// The greatest limits.
 pub fn greatest() -> Limits {
-    Limits::new(MESSAGE_MAX, INPUT_MAX).unwrap()
+    Limits::greatest()
 }
 
 /// A vector, with its bytes in memory.

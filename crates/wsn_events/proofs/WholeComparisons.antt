@@ -43,12 +43,12 @@ module _ (role : Role) (limits : Limits) where
   pub whole_comparison : (part : List MeantEvent → List MeantEvent) (old new other_old other_new : Incoming) (compared : Compared) → IsComparedBy part role limits old new other_old other_new (Ok compared)
       → (all others : List ℕ) → old.remaining ≡ Some all → other_old.remaining ≡ Some others → IsComparisonOfBy part role limits all others compared
   whole_comparison part old new other_old other_new Equal is all others known other_known =
-      let one = whole_accepted old new is.came all is.answer.0 is.received.consumed known is.answer.2 in
-      let two = whole_accepted other_old other_new is.other_came others is.answer.1 is.other_received.consumed other_known is.answer.3 in
+      let one = whole_accepted old new is.came all is.answer.0 is.received.consumed.consumed known is.answer.2 in
+      let two = whole_accepted other_old other_new is.other_came others is.answer.1 is.other_received.consumed.consumed other_known is.answer.3 in
       (one.0, two.0, one.1, two.1, sym (ap part one.2) ∙ is.answer.4 ∙ ap part two.2)
   whole_comparison part old new other_old other_new (Different k) is all others known other_known =
-      let one = whole_accepted old new is.came all is.answer.0 is.received.consumed known is.answer.2 in
-      let two = whole_accepted other_old other_new is.other_came others is.answer.1 is.other_received.consumed other_known is.answer.3 in
+      let one = whole_accepted old new is.came all is.answer.0 is.received.consumed.consumed known is.answer.2 in
+      let two = whole_accepted other_old other_new is.other_came others is.answer.1 is.other_received.consumed.consumed other_known is.answer.3 in
       let differ : DifferAt k (part (meaning one.0)) (part is.answer.1) = subst (λ (es : List MeantEvent). DifferAt k (part es) (part is.answer.1)) one.2 is.answer.4 in
       (one.0, two.0, one.1, two.1, subst (λ (es : List MeantEvent). DifferAt k (part (meaning one.0)) (part es)) two.2 differ)
   whole_comparison part old new other_old other_new (NotAccepted false verdict) is all others known other_known =

@@ -28,7 +28,7 @@ module _ (role : Role) (limits : Limits) where
   pub whole_normal_form : (old new : Incoming) (before after : Outgoing) (result : Result Verdict Stop) (all : List ℕ) → IsNormalised role limits old new before after result → old.remaining ≡ Some all
       → IsNormalisedWhole role limits all before after result
   whole_normal_form old new before after result all normalised known =
-      by_rest new.remaining refl (subst (λ (a : Option (List ℕ)). Consumes a new.remaining normalised.came) known normalised.received.consumed)
+      by_rest new.remaining refl (subst (λ (a : Option (List ℕ)). Consumes a new.remaining normalised.came) known normalised.received.consumed.consumed)
     where
       came : List ℕ
       came = normalised.came

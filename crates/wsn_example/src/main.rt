@@ -8,12 +8,10 @@
 
 use std::io::{self, Read};
 use std::process::ExitCode;
-use wsn_canon::{INPUT_MAX, Input, Limits, MESSAGE_MAX, Refusal, Role, SideReader, Verdict, judge};
+use wsn_canon::{Input, Limits, Refusal, Role, SideReader, Verdict, judge};
 
 fn main(rt: HostRuntime) -> io::Result<ExitCode> {
-    let Some(limits) = Limits::new(MESSAGE_MAX, INPUT_MAX) else {
-        unreachable!();
-    };
+    let limits = Limits::greatest();
     let mut capture = Vec::new(rt.alloc());
     rt.reader().read_to_end(&mut capture)?;
     let mut status = 0;

@@ -40,10 +40,10 @@ consumed_kept a b c bs first kept = record {
 -- ---- not too many of them
 
 pub received_of : (most : ℕ) (a b : Incoming) (bs : List ℕ) → IsConsumed a b bs → length bs ≤ most → IsReceived most a b bs
-received_of most a b bs is few = record { consumed = is.consumed; counted = is.counted; few = few; readable = is.readable }
+received_of most a b bs is few = record { consumed = is; few = few }
 
 pub received_none : (most : ℕ) (a : Incoming) → IsReceived most a a []
 received_none most a = received_of most a a [] (consumed_none a) (omega arith)
 
 pub received_on : (most : ℕ) (a b c : Incoming) (bs cs : List ℕ) → IsReceived most a b bs → IsConsumed b c cs → length (bs ++ cs) ≤ most → IsReceived most a c (bs ++ cs)
-received_on most a b c bs cs first second few = received_of most a c (bs ++ cs) (consumed_on a b c bs cs (record { consumed = first.consumed; counted = first.counted; readable = first.readable }) second) few
+received_on most a b c bs cs first second few = received_of most a c (bs ++ cs) (consumed_on a b c bs cs first.consumed second) few

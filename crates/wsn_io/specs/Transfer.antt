@@ -35,10 +35,8 @@ pub record IsKept (old new : Incoming) : Type 0 where
 
 -- These bytes came from the input, at most `most` of them.
 pub record IsReceived (most : ℕ) (old new : Incoming) (came : List ℕ) : Type 0 where
-  pub consumed : Consumes old.remaining new.remaining came
-  pub counted : new.count ≡ old.count + length came
+  pub consumed : IsConsumed old new came
   pub few : length came ≤ most
-  pub readable : StaysReadable old new
 
 -- ---- written bytes
 

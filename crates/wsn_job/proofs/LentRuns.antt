@@ -17,7 +17,8 @@ use Rattle.wsn_command.specs.declared.comparison.Comparison.{Comparison}
 use Rattle.wsn_command.specs.declared.answered.Ran.{Ran}
 use Rattle.wsn_command.specs.declared.job.Job.{Job}
 use Rattle.wsn_command.specs.declared.job.Job.TheVariants.{Judge, Frames, Normal, Redact, Plan, Recut, Payload, ShowStream, Closing, Show, RedactCapture}
-use Rattle.wsn_job.specs.Channels.{Channels, ComparedChannels}
+use Rattle.wsn_job.specs.Channels.{Channels}
+use Rattle.wsn_job.specs.ComparedChannels.{ComparedChannels}
 use Rattle.wsn_job.specs.Closings.{IsReportPrinted}
 use Rattle.wsn_job.specs.Comparisons.{IsComparisonPrinted}
 use Rattle.wsn_job.specs.Jobs.{IsRun}
@@ -29,7 +30,7 @@ abbrev IsRead : Incoming → Incoming → Type 0
 IsRead old new = old.lent ≡ true → old.failed ≡ false → new.failed ≡ false
 
 received_is_read : (most : ℕ) (old new : Incoming) (came : List ℕ) → IsReceived most old new came → IsRead old new
-received_is_read most old new came received lent unfailed = (received.readable lent).1 ∙ unfailed
+received_is_read most old new came received lent unfailed = (received.consumed.readable lent).1 ∙ unfailed
 
 verdict_is_read : (format : Format) (role : Role) (limits : Limits) (old new : Incoming) (before after : Outgoing) (done : Result Verdict Stop)
     → IsVerdictPrinted format role limits old new before after done → IsRead old new

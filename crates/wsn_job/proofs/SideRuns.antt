@@ -32,7 +32,8 @@ use Rattle.wsn_job.specs.declared.done.Done.{Done}
 use Rattle.wsn_job.specs.declared.done.Done.TheVariants as done
 use Rattle.wsn_job.specs.Channels.{Channels, channels}
 use Rattle.wsn_print.specs.Statuses.{verdict_status}
-use Rattle.wsn_job.specs.Answers.{ran_with, verdict_answer, plan_answer, recut_answer, payload_answer}
+use Rattle.wsn_job.specs.Answers.{ran_with, verdict_answer}
+use Rattle.wsn_job.specs.OtherAnswers.{plan_answer, recut_answer, payload_answer}
 use Rattle.wsn_job.specs.Diagnostics.{IsDiagnosed, IsStopDiagnosed}
 use Rattle.wsn_job.specs.Jobs.{IsRun}
 use Rattle.wsn_job.specs.Redactions.{redact_status}
@@ -43,7 +44,8 @@ use Rattle.wsn_payload.specs.Payloads.{IsPayloadTaken}
 use Rattle.wsn_job.specs.Payloads.{IsPayloadDiagnosed, payload_status}
 use Rattle.wsn_job.specs.Recuts.{IsRecutDiagnosed, planned_by, recut_status}
 use Rattle.wsn_job.specs.Sides.{MayRunOnSide, IsFaultySide, IsRunOnSide}
-use Rattle.wsn_job.specs.Verdicts.{IsVerdictPrinted, IsVerdictDiagnosed}
+use Rattle.wsn_job.specs.Verdicts.{IsVerdictPrinted}
+use Rattle.wsn_job.specs.NormalForms.{IsVerdictDiagnosed}
 use Rattle.wsn_job.specs.Work.{IsDone, IsDoneDiagnosed, done_ran, done_status}
 use Rattle.wsn_job.proofs.Runs.{run_of_done}
 

@@ -18,7 +18,8 @@ use Rattle.wsn_show.specs.declared.showing.ShowStop.{ShowStop}
 use Rattle.wsn_show.specs.declared.showing.ShowStop.TheVariants.{Capture, Write}
 use Rattle.wsn_command.specs.declared.answered.Ran.{Ran}
 use Rattle.wsn_job.specs.Channels.{Channels}
-use Rattle.wsn_job.specs.Answers.{ran_with, report_answer}
+use Rattle.wsn_job.specs.Answers.{ran_with}
+use Rattle.wsn_job.specs.OtherAnswers.{report_answer}
 use Rattle.wsn_job.specs.Diagnostics.{IsDiagnosed}
 
 -- The text of the report was printed; before a stop, nothing was. If a write failed, there is a report, and a prefix of

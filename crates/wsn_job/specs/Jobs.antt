@@ -3,7 +3,9 @@ use Rattle.wsn_command.specs.declared.job.Job.{Job}
 use Rattle.wsn_command.specs.declared.job.Job.TheVariants.{Judge, Frames, Normal, Redact, Plan, Recut, Payload, ShowStream, Closing, Show, RedactCapture}
 use Rattle.wsn_command.specs.declared.answered.Ran.{Ran}
 use Rattle.wsn_job.specs.Channels.{Channels}
-use Rattle.wsn_job.specs.Verdicts.{IsJudgeRun, IsFramesRun, IsNormalRun}
+use Rattle.wsn_job.specs.Verdicts.{IsJudgeRun}
+use Rattle.wsn_job.specs.Listings.{IsFramesRun}
+use Rattle.wsn_job.specs.NormalForms.{IsNormalRun}
 use Rattle.wsn_job.specs.Redactions.{IsRedactRun, IsRedactCaptureRun}
 use Rattle.wsn_job.specs.Plans.{IsPlanRun}
 use Rattle.wsn_job.specs.Recuts.{IsRecutRun}

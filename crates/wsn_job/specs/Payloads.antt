@@ -12,7 +12,8 @@ use Rattle.wsn_payload.specs.declared.answer.Payload.TheVariants.{Whole, Unfinis
 use Rattle.wsn_payload.specs.Payloads.{IsPayloadTaken}
 use Rattle.wsn_command.specs.declared.answered.Ran.{Ran}
 use Rattle.wsn_job.specs.Channels.{Channels}
-use Rattle.wsn_job.specs.Answers.{ran_with, payload_answer}
+use Rattle.wsn_job.specs.Answers.{ran_with}
+use Rattle.wsn_job.specs.OtherAnswers.{payload_answer}
 use Rattle.wsn_job.specs.Diagnostics.{IsDiagnosed}
 
 -- the exit status: 0 if the event is complete, 1 if it isn't, 2 if none begins at the offset, and for a stop

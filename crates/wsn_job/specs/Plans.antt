@@ -14,7 +14,8 @@ use Rattle.wsn_plan.specs.Planning.{IsPlanned}
 use Rattle.wsn_plan_text.specs.PlanText.{plan_text}
 use Rattle.wsn_command.specs.declared.answered.Ran.{Ran}
 use Rattle.wsn_job.specs.Channels.{Channels}
-use Rattle.wsn_job.specs.Answers.{ran_with, plan_answer}
+use Rattle.wsn_job.specs.Answers.{ran_with}
+use Rattle.wsn_job.specs.OtherAnswers.{plan_answer}
 use Rattle.wsn_job.specs.Diagnostics.{IsDiagnosed}
 use Rattle.wsn_print.specs.StopText.{stop_line}
 

@@ -14,7 +14,8 @@ use Rattle.wsn_command.specs.declared.job.How.{How}
 use Rattle.wsn_command.specs.declared.job.How.TheVariants.{ByPlan, BySize}
 use Rattle.wsn_command.specs.declared.answered.Ran.{Ran}
 use Rattle.wsn_job.specs.Channels.{Channels}
-use Rattle.wsn_job.specs.Answers.{ran_with, recut_answer}
+use Rattle.wsn_job.specs.Answers.{ran_with}
+use Rattle.wsn_job.specs.OtherAnswers.{recut_answer}
 use Rattle.wsn_job.specs.Diagnostics.{IsDiagnosed}
 use Rattle.wsn_print.specs.StopText.{stop_line}
 

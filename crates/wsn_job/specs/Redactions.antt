@@ -16,7 +16,8 @@ use Rattle.wsn_redact.specs.declared.capture_redacting.RedactStop.{RedactStop}
 use Rattle.wsn_redact.specs.declared.capture_redacting.RedactStop.TheVariants.{Capture, Write}
 use Rattle.wsn_command.specs.declared.answered.Ran.{Ran}
 use Rattle.wsn_job.specs.Channels.{Channels}
-use Rattle.wsn_job.specs.Answers.{ran_with, redacted_answer, verdict_answer}
+use Rattle.wsn_job.specs.Answers.{ran_with, verdict_answer}
+use Rattle.wsn_job.specs.OtherAnswers.{redacted_answer}
 use Rattle.wsn_job.specs.Diagnostics.{IsDiagnosed, IsStopDiagnosed}
 
 -- the exit status: 0 once all is written, of a refused stream too, 2 for a stop

@@ -12,7 +12,8 @@ use Rattle.wsn_show.specs.Showing.{IsShown}
 use Rattle.wsn_show.specs.StreamShows.{IsStreamShown}
 use Rattle.wsn_command.specs.declared.answered.Ran.{Ran}
 use Rattle.wsn_job.specs.Channels.{Channels}
-use Rattle.wsn_job.specs.Answers.{ran_with, report_answer, verdict_answer}
+use Rattle.wsn_job.specs.Answers.{ran_with, verdict_answer}
+use Rattle.wsn_job.specs.OtherAnswers.{report_answer}
 use Rattle.wsn_job.specs.Closings.{closing_status, IsClosingDiagnosed}
 use Rattle.wsn_job.specs.Diagnostics.{IsStopDiagnosed}
 

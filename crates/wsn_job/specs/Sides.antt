@@ -14,7 +14,8 @@ use Rattle.wsn_command.specs.declared.answered.Answer.{Answer}
 use Rattle.wsn_command.specs.declared.answered.Answer.TheVariants.{FaultyLine, Stopped}
 use Rattle.wsn_command.specs.declared.answered.Ran.{Ran}
 use Rattle.wsn_job.specs.Channels.{Channels}
-use Rattle.wsn_job.specs.Answers.{compared_answer, ran_with}
+use Rattle.wsn_job.specs.OtherAnswers.{compared_answer}
+use Rattle.wsn_job.specs.Answers.{ran_with}
 use Rattle.wsn_job.specs.Diagnostics.{IsDiagnosed, IsStopDiagnosed}
 use Rattle.wsn_command.specs.Jobs.{MayRun, job_role}
 use Rattle.wsn_job.specs.Jobs.{IsRun}

@@ -49,7 +49,7 @@ module _ (role : Role) (limits : Limits) where
   pub whole_listing : (format : Format) (old new : Incoming) (before after : Outgoing) (result : Result Verdict Stop) (all : List ℕ) → IsListedAs format role limits old new before after result → old.remaining ≡ Some all
       → IsListedWholeAs format role limits all before after result
   whole_listing format old new before after result all listed known =
-      by_rest new.remaining refl (subst (λ (a : Option (List ℕ)). Consumes a new.remaining listed.came) known listed.received.consumed)
+      by_rest new.remaining refl (subst (λ (a : Option (List ℕ)). Consumes a new.remaining listed.came) known listed.received.consumed.consumed)
     where
       came : List ℕ
       came = listed.came

@@ -238,7 +238,7 @@ module _ (role : Role) (limits : Limits) (at : ℕ) where
 module _ (role : Role) (limits : Limits) (at : ℕ) (old new : Incoming) (before after : Outgoing) (all : List ℕ) where
   -- the answer for what came is that for all
   pub of_all : (result : Result Payload Stop) → IsPayloadTaken role limits at old new before after result → old.remaining ≡ Some all → IsPayloadOfAll role limits at all before after result
-  of_all result taken known = by_rest new.remaining refl (subst (λ (a : Option (List ℕ)). Consumes a new.remaining taken.came) known taken.received.consumed)
+  of_all result taken known = by_rest new.remaining refl (subst (λ (a : Option (List ℕ)). Consumes a new.remaining taken.came) known taken.received.consumed.consumed)
     where
       came : List ℕ
       came = taken.came

@@ -140,7 +140,7 @@ module _ (role : Role) (limits : Limits) (old : Incoming) where
 module _ {A : Type 0} (role : Role) (limits : Limits) where
   pub whole_plan : (old new : Incoming) (result : Result (PlanAnswer A) Stop) (all : List ℕ) → IsPlanned role limits old new result → old.remaining ≡ Some all → IsPlannedWhole role limits all result
   whole_plan old new result all did known =
-      by_rest new.remaining refl (subst (λ (a : Option (List ℕ)). Consumes a new.remaining did.came) known did.received.consumed)
+      by_rest new.remaining refl (subst (λ (a : Option (List ℕ)). Consumes a new.remaining did.came) known did.received.consumed.consumed)
     where
       came : List ℕ
       came = did.came

@@ -121,7 +121,7 @@ module _ (role : Role) (limits : Limits) (planned : Planner) where
   pub whole_recut : (old new : Incoming) (before after : Outgoing) (result : Result RecutAnswer Stop) (all : List ℕ) → IsRecut role limits planned old new before after result → old.remaining ≡ Some all
       → IsRecutWhole role limits planned all before after result
   whole_recut old new before after result all did known =
-      by_rest new.remaining refl (subst (λ (a : Option (List ℕ)). Consumes a new.remaining did.came) known did.received.consumed)
+      by_rest new.remaining refl (subst (λ (a : Option (List ℕ)). Consumes a new.remaining did.came) known did.received.consumed.consumed)
     where
       came : List ℕ
       came = did.came

@@ -1,5 +1,6 @@
 -- Definitions of printed answers and of exit statuses, and of what is shown of a payload, in reading order.
 pub mod Fields
+pub mod HeadFields
 pub mod VerdictText
 pub mod HeadText
 pub mod ReportText

@@ -31,10 +31,7 @@ text_before [] redacted op same may is = by redacted same.count
     by (y ∷ ys) count = absurd (omega (arith, count))
 text_before (x ∷ xs) redacted Continue same may is = same.text is
 text_before (x ∷ xs) redacted Text same may is = let none : x ∷ xs ≡ [] = may.begins (inl refl) in absurd cc
-text_before (x ∷ xs) redacted Binary same may is = absurd cc
-text_before (x ∷ xs) redacted Close same may is = absurd cc
-text_before (x ∷ xs) redacted Ping same may is = absurd cc
-text_before (x ∷ xs) redacted Pong same may is = absurd cc
+text_before (x ∷ xs) redacted _ same may is = absurd cc
 
 module _ (role : Role) (limits : Limits) where
   pub frames_twice : (before after fs : List Frame) → IsLawful role limits (before ++ fs) → SameGroup (unfinished before) (unfinished after) → redacted_frames after (redacted_frames before fs) ≡ redacted_frames before fs

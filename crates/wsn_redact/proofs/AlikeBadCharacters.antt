@@ -74,28 +74,24 @@ HaveSamePlaces bytes others = ⊥
 
 places_append : (xs ys more rest : List PlacedByte) → HaveSamePlaces xs ys → HaveSamePlaces more rest → HaveSamePlaces (xs ++ more) (ys ++ rest)
 places_append [] [] more rest are also = also
-places_append [] (y ∷ ys) more rest are also = absurd are
-places_append (x ∷ xs) [] more rest are also = absurd are
 places_append (x ∷ xs) (y ∷ ys) more rest are also = (are.0, places_append xs ys more rest are.1 also)
+places_append _ _ more rest are also = absurd are
 
 places_size : (xs ys : List PlacedByte) → HaveSamePlaces xs ys → length xs ≡ length ys
 places_size [] [] are = refl
-places_size [] (y ∷ ys) are = absurd are
-places_size (x ∷ xs) [] are = absurd are
 places_size (x ∷ xs) (y ∷ ys) are = let rest = places_size xs ys are.1 in omega (arith, rest)
+places_size _ _ are = absurd are
 
 places_drop : (n : ℕ) (xs ys : List PlacedByte) → HaveSamePlaces xs ys → HaveSamePlaces (drop n xs) (drop n ys)
 places_drop zero xs ys are = are
 places_drop (suc n) [] [] are = tt
-places_drop (suc n) [] (y ∷ ys) are = absurd are
-places_drop (suc n) (x ∷ xs) [] are = absurd are
 places_drop (suc n) (x ∷ xs) (y ∷ ys) are = places_drop n xs ys are.1
+places_drop (suc n) _ _ are = absurd are
 
 places_first : (xs ys : List PlacedByte) → HaveSamePlaces xs ys → first_offset xs ≡ first_offset ys
 places_first [] [] are = refl
-places_first [] (y ∷ ys) are = absurd are
-places_first (x ∷ xs) [] are = absurd are
 places_first (x ∷ xs) (y ∷ ys) are = are.0
+places_first _ _ are = absurd are
 
 placed_alike : (place other_place : ℕ) (xs ys : List ℕ) → place ≡ other_place → length xs ≡ length ys → HaveSamePlaces (placed place xs) (placed other_place ys)
 placed_alike place other_place [] [] same size = tt
@@ -105,9 +101,8 @@ placed_alike place other_place (x ∷ xs) (y ∷ ys) same size = (same, placed_a
 
 bytes_size : (xs ys : List PlacedByte) → HaveSamePlaces xs ys → length (bytes_of xs) ≡ length (bytes_of ys)
 bytes_size [] [] are = refl
-bytes_size [] (y ∷ ys) are = absurd are
-bytes_size (x ∷ xs) [] are = absurd are
 bytes_size (x ∷ xs) (y ∷ ys) are = let rest = bytes_size xs ys are.1 in omega (arith, rest)
+bytes_size _ _ are = absurd are
 
 -- One frame's payload, if it is a data frame.
 frame_places : (place other_place : ℕ) (f : Frame) (payload : List ℕ) → place ≡ other_place → length f.payload ≡ length payload
@@ -123,14 +118,13 @@ frame_places place other_place f payload same size = by (is_data f)
 
 payload_places : (place other_place : ℕ) (fs gs : List Frame) → place ≡ other_place → AreLikewise fs gs → HaveSamePlaces (placed_payloads place fs) (placed_payloads other_place gs)
 payload_places place other_place [] [] same are = tt
-payload_places place other_place [] (g ∷ gs) same are = absurd are
-payload_places place other_place (f ∷ fs) [] same are = absurd are
 payload_places place other_place (f ∷ fs) (g ∷ gs) same are =
     let sizes = frame_size f g are.0 are.1 in
     let rest = payload_places (place + length (frame_bytes f)) (other_place + length (frame_bytes g)) fs gs (λ i. same i + sizes i) are.2 in
     let own : HaveSamePlaces (if is_data f then placed (payload_offset (info_of place f)) f.payload else []) (if is_data g then placed (payload_offset (info_of other_place g)) g.payload else []) =
     subst (λ (h : Frame). HaveSamePlaces (if is_data f then placed (payload_offset (info_of place f)) f.payload else []) (if is_data h then placed (payload_offset (info_of other_place h)) h.payload else [])) (sym are.0) (frame_places place other_place f g.payload same are.1) in
     places_append (if is_data f then placed (payload_offset (info_of place f)) f.payload else []) (if is_data g then placed (payload_offset (info_of other_place g)) g.payload else []) _ _ own rest
+payload_places place other_place _ _ same are = absurd are
 
 open_places : (fs gs : List Frame) → AreLikewise fs gs → HaveSamePlaces (open_payload fs) (open_payload gs)
 open_places fs gs are =
@@ -173,27 +167,9 @@ data_texts false earlier other_earlier payload other is a = absurd cc
 pub texts_of : (group others : List Frame) (op : Op) (payload other : List ℕ) → is_of_text group op ≡ true → AreAlikePayloads group others op payload other → AreAlikeTexts (payload_of group ++ payload) (payload_of others ++ other)
 texts_of group others Continue payload other is a = data_texts (is_of_text group Continue) (payload_of group) (payload_of others) payload other is a
 texts_of group others Text payload other is a = a.1
-texts_of group others Binary payload other is a = absurd cc
-texts_of group others Close payload other is a = absurd cc
-texts_of group others Ping payload other is a = absurd cc
-texts_of group others Pong payload other is a = absurd cc
+texts_of group others _ payload other is a = absurd cc
 
 pub characters_alike : (reason : Reason) (fs gs : List Frame) (info : HeadInfo) (part other : List ℕ) → AreLikewise fs gs → length part ≡ length other → (reason ≡ TextBad → AreAlikeTexts (payload_of (unfinished fs) ++ part) (payload_of (unfinished gs) ++ other))
     → AreAlikeBadCharacters (character_of reason fs info part) (character_of reason gs info other)
 characters_alike TextBad fs gs info part other are size texts = bad_alike fs gs info part other are size (texts refl)
-characters_alike ReservedBits fs gs info part other are size texts = tt
-characters_alike ReservedOpcode fs gs info part other are size texts = tt
-characters_alike ControlNotFinal fs gs info part other are size texts = tt
-characters_alike NothingToContinue fs gs info part other are size texts = tt
-characters_alike MessageOpen fs gs info part other are size texts = tt
-characters_alike MaskMissing fs gs info part other are size texts = tt
-characters_alike MaskPresent fs gs info part other are size texts = tt
-characters_alike ControlTooLong fs gs info part other are size texts = tt
-characters_alike CloseOneByte fs gs info part other are size texts = tt
-characters_alike LengthTopBit fs gs info part other are size texts = tt
-characters_alike LengthNotMinimal fs gs info part other are size texts = tt
-characters_alike MessageTooBig fs gs info part other are size texts = tt
-characters_alike CloseCode fs gs info part other are size texts = tt
-characters_alike CloseReason fs gs info part other are size texts = tt
-characters_alike TextCut fs gs info part other are size texts = tt
-characters_alike TooManyFrames fs gs info part other are size texts = tt
+characters_alike _ fs gs info part other are size texts = tt

@@ -73,12 +73,11 @@ same_first (Mark role) (Bytes r more) entries others is same = absurd is
 
 same_entries_of : (entries others : List Entry) → AreAlike entries others → ((r : Role) → sent r entries ≡ sent r others) → entries ≡ others
 same_entries_of [] [] are same = refl
-same_entries_of [] (o ∷ others) are same = absurd are
-same_entries_of (e ∷ entries) [] are same = absurd are
 same_entries_of (e ∷ entries) (o ∷ others) are same =
     let first = same_first e o entries others are.0 same in
     let rest = same_entries_of entries others are.1 first.rest in
     λ i. first.first i ∷ rest i
+same_entries_of _ _ are same = absurd are
 
 -- ---- comments
 
@@ -135,8 +134,6 @@ others_are_alike [] [] [] [] [] (p ∷ ps) a r s = absurd s
 others_are_alike [] [] [] [] (o ∷ os) ps a r s = absurd r
 others_are_alike [] [] [] (e ∷ es) os ps a r s = absurd a
 others_are_alike [] [] (e ∷ entries) es os ps a r s = absurd a
-others_are_alike [] (l ∷ others) entries es os ps a r s = absurd a
-others_are_alike (l ∷ lines) [] entries es os ps a r s = absurd a
 others_are_alike (l ∷ lines) (m ∷ others) [] es os ps a r s = absurd a
 others_are_alike (l ∷ lines) (m ∷ others) (e ∷ entries) [] os ps a r s = absurd a
 others_are_alike (l ∷ lines) (m ∷ others) (e ∷ entries) (f ∷ es) [] ps a r s = absurd r
@@ -144,6 +141,7 @@ others_are_alike (l ∷ lines) (m ∷ others) (e ∷ entries) (f ∷ es) (o ∷ 
 others_are_alike (l ∷ lines) (m ∷ others) (e ∷ entries) (f ∷ es) (o ∷ os) (p ∷ ps) a r s =
     let first = entries_alike e f (without_cr l) (without_cr m) a.0 in
     (alike_on o f p (alike_on o e f (alike_back e o r.0) first) s.0, others_are_alike lines others entries es os ps a.2 r.1 s.1)
+others_are_alike _ _ entries es os ps a r s = absurd a
 
 lines_are_one : (lines others : List (List ℕ)) (entries other_entries os : List Entry) (redacted also : List (List ℕ)) → AreEntries lines entries → AreEntries others other_entries → AreAlikeInLines lines others entries other_entries → AreRedactedLines lines entries os redacted → AreRedactedLines others other_entries os also → redacted ≡ also
 lines_are_one [] [] [] [] [] [] [] given other_given a r s = refl
@@ -152,8 +150,6 @@ lines_are_one [] [] [] [] [] (x ∷ redacted) also given other_given a r s = abs
 lines_are_one [] [] [] [] (o ∷ os) redacted also given other_given a r s = absurd r
 lines_are_one [] [] [] (f ∷ es) os redacted also given other_given a r s = absurd a
 lines_are_one [] [] (e ∷ entries) es os redacted also given other_given a r s = absurd a
-lines_are_one [] (m ∷ others) entries es os redacted also given other_given a r s = absurd a
-lines_are_one (l ∷ lines) [] entries es os redacted also given other_given a r s = absurd a
 lines_are_one (l ∷ lines) (m ∷ others) [] es os redacted also given other_given a r s = absurd a
 lines_are_one (l ∷ lines) (m ∷ others) (e ∷ entries) [] os redacted also given other_given a r s = absurd a
 lines_are_one (l ∷ lines) (m ∷ others) (e ∷ entries) (f ∷ es) [] redacted also given other_given a r s = absurd r
@@ -164,6 +160,7 @@ lines_are_one (l ∷ lines) (m ∷ others) (e ∷ entries) (f ∷ es) (o ∷ os)
     let first : x ≡ y = r.0.2 ∙ (λ i. text i ++ a.1 i) ∙ sym s.0.2 in
     let rest = lines_are_one lines others entries es os redacted also given.1 other_given.1 a.2 r.1 s.1 in
     λ i. first i ∷ rest i
+lines_are_one _ _ entries es os redacted also given other_given a r s = absurd a
 
 -- The other way round.
 texts_back : (text other_text redacted : List ℕ) (entry other o : Entry) → IsRedactedText text entry o redacted → IsRedactedText other_text other o redacted → AreAlikeIn entry other text other_text
@@ -190,8 +187,6 @@ lines_back (l ∷ lines) others [] es os redacted given other_given all r s = ab
 lines_back (l ∷ lines) others (e ∷ entries) es [] redacted given other_given all r s = absurd r
 lines_back (l ∷ lines) others (e ∷ entries) es (o ∷ os) [] given other_given all r s = absurd r
 lines_back (l ∷ lines) [] (e ∷ entries) [] (o ∷ os) (x ∷ redacted) given other_given all r s = absurd s
-lines_back (l ∷ lines) [] (e ∷ entries) (f ∷ es) (o ∷ os) (x ∷ redacted) given other_given all r s = absurd other_given
-lines_back (l ∷ lines) (m ∷ others) (e ∷ entries) [] (o ∷ os) (x ∷ redacted) given other_given all r s = absurd other_given
 lines_back (l ∷ lines) (m ∷ others) (e ∷ entries) (f ∷ es) (o ∷ os) (x ∷ redacted) given other_given all r s =
     let bytes = first_bytes o os all in
     let mine = line_text l x e o given.0 bytes r.0 in
@@ -200,6 +195,7 @@ lines_back (l ∷ lines) (m ∷ others) (e ∷ entries) (f ∷ es) (o ∷ os) (x
     let cr : cr_of l ≡ cr_of m = append_cancel_left s.0.0 (cr_of l) (cr_of m) (ap (λ (t : List ℕ). t ++ cr_of l) (sym same) ∙ sym r.0.2 ∙ s.0.2) in
     let other : IsRedactedText (without_cr m) f o r.0.0 = subst (λ (t : List ℕ). IsRedactedText (without_cr m) f o t) (sym same) s.0.1 in
     (texts_back (without_cr l) (without_cr m) r.0.0 e f o r.0.1 other, cr, lines_back lines others entries es os redacted given.1 other_given.1 (other_bytes o os all) r.1 s.1)
+lines_back (l ∷ lines) _ (e ∷ entries) _ (o ∷ os) (x ∷ redacted) given other_given all r s = absurd other_given
 
 -- ---- captures
 

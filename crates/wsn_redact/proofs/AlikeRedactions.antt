@@ -1,7 +1,6 @@
 -- Streams that are alike have one redaction.
 use Rattle.std.proofs.Common.{◌≡◌, ℕ, suc, ◌+◌, ◌≤◌, Bool, true, false, List, [], ◌∷◌, ◌++◌, length, take, drop, if◌then◌else◌, inl, inr, refl, sym, ap, ◌∙◌, subst, append_assoc, length-append, length-drop, append-nil, arith}
-use Rattle.std.specs.List.{AllByRecursion, flat_map, list_any}
-use Rattle.std.specs.Prelude.{filter, ◌||◌}
+use Rattle.std.specs.List.{AllByRecursion, flat_map, fold}
 use Rattle.std.proofs.lemmas.Grind.{common_steps}
 use Rattle.wsn_wire.specs.declared.endpoint.Role.{Role}
 use Rattle.wsn_wire.specs.declared.opcode.Op.{Op}
@@ -14,7 +13,7 @@ use Rattle.wsn_rules.specs.declared.verdict.Verdict.{Verdict}
 use Rattle.wsn_rules.specs.declared.verdict.Verdict.TheVariants.{Accepted, Cut, Refused}
 use Rattle.wsn_rules.specs.Limits.{Limits}
 use Rattle.wsn_rules.specs.Accepted.{HasNoClose, EndsWithClose}
-use Rattle.wsn_rules.specs.Group.{after_last, is_data, is_final, unfinished, first_op, payload_of}
+use Rattle.wsn_rules.specs.Group.{is_data, with_frame, unfinished, first_op, payload_of}
 use Rattle.wsn_rules.specs.Heads.{BeginsWithHead}
 use Rattle.wsn_rules.specs.Verdict.{IsVerdict}
 use Rattle.wsn_rules.proofs.OneHead.{one_begun}
@@ -32,13 +31,13 @@ in_one : (r : Range) (b : ℕ) → IsIn (r ∷ []) b → (r.low ≤ b) × (b ≤
 in_one r b (inl is) = is
 in_one r b (inr none) = absurd none
 
-single_small : (b : ℕ) → 0x61 ≤ b → b ≤ 0x7A → single_stand_in b ≡ 0x78
+pub single_small : (b : ℕ) → 0x61 ≤ b → b ≤ 0x7A → single_stand_in b ≡ 0x78
 single_small b from to = grind (arith, common_steps)
 
-single_capital : (b : ℕ) → 0x41 ≤ b → b ≤ 0x5A → single_stand_in b ≡ 0x58
+pub single_capital : (b : ℕ) → 0x41 ≤ b → b ≤ 0x5A → single_stand_in b ≡ 0x58
 single_capital b from to = grind (arith, common_steps)
 
-single_digit : (b : ℕ) → 0x30 ≤ b → b ≤ 0x39 → single_stand_in b ≡ 0x30
+pub single_digit : (b : ℕ) → 0x30 ≤ b → b ≤ 0x39 → single_stand_in b ≡ 0x30
 single_digit b from to = grind (arith, common_steps)
 
 pub single_alike : (b c : ℕ) → AreOfOneKind single_kinds b c → single_stand_in b ≡ single_stand_in c
@@ -50,7 +49,7 @@ single_alike b c (inr (inr (inl (is, also)))) =
     let x = in_one (0x30 – 0x39) b is in let y = in_one (0x30 – 0x39) c also in single_digit b x.0 x.1 ∙ sym (single_digit c y.0 y.1)
 single_alike b c (inr (inr (inr same))) = ap single_stand_in same
 
-first_low : (b : ℕ) → b ≤ 0x7F → stand_in b ≡ single_stand_in b ∷ []
+pub first_low : (b : ℕ) → b ≤ 0x7F → stand_in b ≡ single_stand_in b ∷ []
 first_low b to = grind (arith, common_steps)
 
 -- The kinds of letters and digits, by their last value.
@@ -95,9 +94,8 @@ record HaveOneStandIn (c d : List ℕ) : Type 0 where
 
 one_stand_in : (c d : List ℕ) → AreAlikeCharacters c d → HaveOneStandIn c d
 one_stand_in [] [] alike = record { same = refl; size = refl }
-one_stand_in [] (d ∷ others) alike = absurd alike
-one_stand_in (c ∷ bytes) [] alike = absurd alike
 one_stand_in (c ∷ bytes) (d ∷ others) alike = record { same = first_alike c d alike.0; size = ap suc alike.1 }
+one_stand_in _ _ alike = absurd alike
 
 record HaveOneForm (cs ds : List (List ℕ)) : Type 0 where
   each : AllByRecursion IsCharacter cs
@@ -106,12 +104,11 @@ record HaveOneForm (cs ds : List (List ℕ)) : Type 0 where
 
 one_form : (cs ds : List (List ℕ)) → AreAlikeInPairs cs ds → HaveOneForm cs ds
 one_form [] [] pairs = record { each = tt; other_each = tt; same = refl }
-one_form [] (d ∷ ds) pairs = absurd pairs
-one_form (c ∷ cs) [] pairs = absurd pairs
 one_form (c ∷ cs) (d ∷ ds) pairs =
     let first = one_stand_in c d pairs.2 in
     let rest = one_form cs ds pairs.3 in
     record { each = (pairs.0, rest.each); other_each = (pairs.1, rest.other_each); same = λ i. first.same i ++ rest.same i }
+one_form _ _ pairs = absurd pairs
 
 -- ---- texts
 
@@ -165,55 +162,38 @@ AreLikewise fs gs = ⊥
 
 pub likewise_push : (fs gs : List Frame) (f g : Frame) → AreLikewise fs gs → g ≡ with_payload f g.payload → length f.payload ≡ length g.payload → AreLikewise (fs ++ f ∷ []) (gs ++ g ∷ [])
 likewise_push [] [] f g are is size = (is, size, tt)
-likewise_push [] (y ∷ gs) f g are is size = absurd are
-likewise_push (x ∷ fs) [] f g are is size = absurd are
 likewise_push (x ∷ fs) (y ∷ gs) f g are is size = (are.0, are.1, likewise_push fs gs f g are.2 is size)
+likewise_push _ _ f g are is size = absurd are
 
-data_likewise : (fs gs : List Frame) → AreLikewise fs gs → AreLikewise (filter is_data fs) (filter is_data gs)
-data_likewise [] [] are = tt
-data_likewise [] (g ∷ gs) are = absurd are
-data_likewise (f ∷ fs) [] are = absurd are
-data_likewise (f ∷ fs) (g ∷ gs) are =
-    subst (λ (c : Bool). AreLikewise (filter is_data (f ∷ fs)) (if c then g ∷ filter is_data gs else filter is_data gs)) (sym (ap (λ (h : Frame). is_data h) are.0)) (by (is_data f) (data_likewise fs gs are.2))
+with_likewise : (group others : List Frame) (f g : Frame) → AreLikewise group others → g ≡ with_payload f g.payload → length f.payload ≡ length g.payload → AreLikewise (with_frame group f) (with_frame others g)
+with_likewise group others f g are is size =
+    subst (λ (h : Frame). AreLikewise (with_frame group f) (if is_data h then (if h.fin then [] else others ++ g ∷ []) else others)) (sym is) (by (is_data f) f.fin)
   where
-    by : (c : Bool) → AreLikewise (filter is_data fs) (filter is_data gs) → AreLikewise (if c then f ∷ filter is_data fs else filter is_data fs) (if c then g ∷ filter is_data gs else filter is_data gs)
-    by true rest = (are.0, are.1, rest)
-    by false rest = rest
+    by : (data_frame final : Bool) → AreLikewise (if data_frame then (if final then [] else group ++ f ∷ []) else group) (if data_frame then (if final then [] else others ++ g ∷ []) else others)
+    by true true = tt
+    by true false = likewise_push group others f g are is size
+    by false final = are
 
-final_likewise : (fs gs : List Frame) → AreLikewise fs gs → list_any is_final gs ≡ list_any is_final fs
-final_likewise [] [] are = refl
-final_likewise [] (g ∷ gs) are = absurd are
-final_likewise (f ∷ fs) [] are = absurd are
-final_likewise (f ∷ fs) (g ∷ gs) are = λ i. is_final (are.0 i) || final_likewise fs gs are.2 i
-
-last_likewise : (fs gs : List Frame) → AreLikewise fs gs → AreLikewise (after_last is_final fs) (after_last is_final gs)
-last_likewise [] [] are = tt
-last_likewise [] (g ∷ gs) are = absurd are
-last_likewise (f ∷ fs) [] are = absurd are
-last_likewise (f ∷ fs) (g ∷ gs) are =
-    subst (λ (c : Bool). AreLikewise (after_last is_final (f ∷ fs)) (if c then after_last is_final gs else g ∷ gs)) (sym (final_likewise (f ∷ fs) (g ∷ gs) are)) (by (list_any is_final (f ∷ fs)) (last_likewise fs gs are.2))
-  where
-    by : (c : Bool) → AreLikewise (after_last is_final fs) (after_last is_final gs) → AreLikewise (if c then after_last is_final fs else f ∷ fs) (if c then after_last is_final gs else g ∷ gs)
-    by true rest = rest
-    by false rest = are
+open_from : (fs gs group others : List Frame) → AreLikewise fs gs → AreLikewise group others → AreLikewise (fold with_frame group fs) (fold with_frame others gs)
+open_from [] [] group others are so_far = so_far
+open_from (f ∷ fs) (g ∷ gs) group others are so_far = open_from fs gs (with_frame group f) (with_frame others g) are.2 (with_likewise group others f g so_far are.0 are.1)
+open_from _ _ group others are so_far = absurd are
 
 pub open_likewise : (fs gs : List Frame) → AreLikewise fs gs → AreLikewise (unfinished fs) (unfinished gs)
-open_likewise fs gs are = last_likewise (filter is_data fs) (filter is_data gs) (data_likewise fs gs are)
+open_likewise fs gs are = open_from fs gs [] [] are tt
 
 pub same_first : (group others : List Frame) → AreLikewise group others → first_op others ≡ first_op group
 same_first [] [] are = refl
-same_first [] (g ∷ gs) are = absurd are
-same_first (f ∷ fs) [] are = absurd are
 same_first (f ∷ fs) (g ∷ gs) are = ap (λ (h : Frame). h.op) are.0
+same_first _ _ are = absurd are
 
 pub same_earlier : (group others : List Frame) → AreLikewise group others → length (payload_of group) ≡ length (payload_of others)
 same_earlier [] [] are = refl
-same_earlier [] (g ∷ gs) are = absurd are
-same_earlier (f ∷ fs) [] are = absurd are
 same_earlier (f ∷ fs) (g ∷ gs) are =
     let first = are.1 in
     let rest = same_earlier fs gs are.2 in
     omega (arith, first, rest, length-append f.payload (payload_of fs), length-append g.payload (payload_of gs))
+same_earlier _ _ are = absurd are
 
 -- ---- payloads
 
@@ -225,9 +205,7 @@ pub payload_size : (group others : List Frame) (op : Op) (payload other : List �
 payload_size group others Close payload other alike = alike.0
 payload_size group others Continue payload other alike = data_size (is_of_text group Continue) (payload_of group) (payload_of others) payload other alike
 payload_size group others Text payload other alike = alike.0
-payload_size group others Binary payload other alike = alike
-payload_size group others Ping payload other alike = alike
-payload_size group others Pong payload other alike = alike
+payload_size group others _ payload other alike = alike
 
 data_alike : (c : Bool) (earlier other_earlier payload other part other_part : List ℕ) → length earlier ≡ length other_earlier → AreAlikeData c earlier other_earlier payload other → IsRedactedData c earlier payload part → IsRedactedData c other_earlier other other_part → part ≡ other_part
 data_alike true earlier other_earlier payload other part other_part same alike r s =
@@ -242,27 +220,22 @@ payloads_alike group others Continue payload other part other_part are alike r s
     data_alike (is_of_text group Continue) (payload_of group) (payload_of others) payload other part other_part (same_earlier group others are) alike r
     (subst (λ (c : Bool). IsRedactedData c (payload_of others) other other_part) (ap is_text (same_first group others are)) s)
 payloads_alike group others Text payload other part other_part are alike r s = data_alike true (payload_of group) (payload_of others) payload other part other_part (same_earlier group others are) alike r s
-payloads_alike group others Binary payload other part other_part are alike r s = r ∙ zeros_alike payload other alike ∙ sym s
-payloads_alike group others Ping payload other part other_part are alike r s = r ∙ zeros_alike payload other alike ∙ sym s
-payloads_alike group others Pong payload other part other_part are alike r s = r ∙ zeros_alike payload other alike ∙ sym s
+payloads_alike group others _ payload other part other_part are alike r s = r ∙ zeros_alike payload other alike ∙ sym s
 
 -- ---- frames
 
 pub frames_likewise : (before others fs gs : List Frame) → AreLikewise before others → AreAlikeFrames before others fs gs → AreLikewise (before ++ fs) (others ++ gs)
 frames_likewise before others [] [] are alike = subst (λ (xs : List Frame). AreLikewise xs (others ++ [])) (sym (append-nil before)) (subst (AreLikewise before) (sym (append-nil others)) are)
-frames_likewise before others [] (g ∷ gs) are alike = absurd alike
-frames_likewise before others (f ∷ fs) [] are alike = absurd alike
 frames_likewise before others (f ∷ fs) (g ∷ gs) are alike =
     let pushed = likewise_push before others f g are alike.0 (payload_size (unfinished before) (unfinished others) f.op f.payload g.payload alike.1) in
     let rest = frames_likewise (before ++ f ∷ []) (others ++ g ∷ []) fs gs pushed alike.2 in
     subst (λ (xs : List Frame). AreLikewise xs (others ++ g ∷ gs)) (append_assoc before (f ∷ []) fs) (subst (AreLikewise ((before ++ f ∷ []) ++ fs)) (append_assoc others (g ∷ []) gs) rest)
+frames_likewise before others _ _ are alike = absurd alike
 
 pub frames_alike : (before others fs gs hs ks : List Frame) → AreLikewise before others → AreAlikeFrames before others fs gs → AreRedacted before fs hs → AreRedacted others gs ks → hs ≡ ks
 frames_alike before others [] [] [] [] are alike r s = refl
 frames_alike before others [] [] [] (k ∷ ks) are alike r s = absurd s
 frames_alike before others [] [] (h ∷ hs) ks are alike r s = absurd r
-frames_alike before others [] (g ∷ gs) hs ks are alike r s = absurd alike
-frames_alike before others (f ∷ fs) [] hs ks are alike r s = absurd alike
 frames_alike before others (f ∷ fs) (g ∷ gs) [] ks are alike r s = absurd r
 frames_alike before others (f ∷ fs) (g ∷ gs) (h ∷ hs) [] are alike r s = absurd s
 frames_alike before others (f ∷ fs) (g ∷ gs) (h ∷ hs) (k ∷ ks) are alike r s =
@@ -272,6 +245,7 @@ frames_alike before others (f ∷ fs) (g ∷ gs) (h ∷ hs) (k ∷ ks) are alike
     let pushed = likewise_push before others f g are alike.0 (payload_size (unfinished before) (unfinished others) f.op f.payload g.payload alike.1) in
     let rest = frames_alike (before ++ f ∷ []) (others ++ g ∷ []) fs gs hs ks pushed alike.2 r.2 s.2 in
     λ i. first i ∷ rest i
+frames_alike before others _ _ hs ks are alike r s = absurd alike
 
 -- ---- what follows them
 

@@ -1,7 +1,7 @@
 -- What is shown of streams that are alike is alike.
 use Rattle.std.proofs.Common.{◌≡◌, ℕ, suc, ◌+◌, ◌-◌, ◌<◌, Bool, true, false, Option, None, Some, List, [], ◌∷◌, ◌++◌, length, take, drop, if◌then◌else◌, inl, inr, refl, sym, ap, ◌∙◌, subst, append_assoc, take-append-drop, length-append, length-drop, arith}
-use Rattle.std.specs.Prelude.{map, nat_lt, ◌||◌}
-use Rattle.std.specs.List.{list_any}
+use Rattle.std.specs.Prelude.{map, nat_lt, not, ◌&&◌}
+use Rattle.std.specs.List.{fold}
 use Rattle.wsn_wire.specs.declared.endpoint.Role.{Role}
 use Rattle.wsn_wire.specs.Frame.{Frame, is_control, frame_bytes, stream, wire_payload}
 use Rattle.wsn_wire.proofs.FrameLemmas.{length-wire_payload}
@@ -12,7 +12,7 @@ use Rattle.wsn_rules.specs.declared.verdict.Verdict.{Verdict}
 use Rattle.wsn_rules.specs.declared.verdict.Verdict.TheVariants.{Accepted, Cut, Refused}
 use Rattle.wsn_rules.specs.Limits.{Limits}
 use Rattle.wsn_rules.specs.Accepted.{HasNoClose, EndsWithClose}
-use Rattle.wsn_rules.specs.Group.{after_last, is_data, unfinished, kind_at, kind_of, payload_of}
+use Rattle.wsn_rules.specs.Group.{is_data, unfinished, kind_at, kind_of, payload_of}
 use Rattle.wsn_rules.specs.Heads.{info_of, heads_from, heads_of, BeginsWithHead, IsBegun, AreHeads}
 use Rattle.wsn_rules.specs.Meaning.{event_at}
 use Rattle.wsn_rules.specs.Meaning.MeantEvent.{Message, Control}
@@ -21,7 +21,7 @@ use Rattle.wsn_rules.specs.Summary.{ends_message, is_close}
 use Rattle.wsn_rules.specs.declared.step.Step.TheVariants as Step
 use Rattle.wsn_rules.specs.BadCharacter.{BadCharacter, character_of}
 use Rattle.wsn_rules.specs.Evidence.{Evidence, EvidentByPayload, IsOfText}
-use Rattle.wsn_rules.specs.ShownStream.{Item, Shown, items_of_bytes, frame_so_far, items_of_part, items_of_head, IsLeftOfRest, IsLeftOf, IsLeftOver, shown_after, from_first, since_open, open_offset, open_item, open_items, event_offset, event_frames, items_of_final, shown_at, shown_of, shown_head, AreShownFrames, interrupted, IsShownEvidence, IsShownVerdict, IsShownStream}
+use Rattle.wsn_rules.specs.ShownStream.{Item, Shown, items_of_bytes, frame_so_far, items_of_part, items_of_head, IsLeftOfRest, IsLeftOf, IsLeftOver, shown_after, since_with, since_open, open_offset, open_item, open_items, event_offset, event_frames, items_of_final, shown_at, shown_of, shown_head, AreShownFrames, interrupted, IsShownEvidence, IsShownVerdict, IsShownStream}
 use Rattle.wsn_rules.specs.ShownStream.Item.{Event, Unfinished, UnfinishedHead, RefusedFrame, Unread, Tail}
 use Rattle.wsn_rules.specs.Verdict.{IsVerdict, IsRefused}
 use Rattle.wsn_rules.proofs.HeadsGoOn.{begins_longer}
@@ -49,56 +49,41 @@ use Rattle.wsn_redact.proofs.AlikeRedactions.{AreLikewise, likewise_push, open_l
 
 pub stream_size : (fs gs : List Frame) → AreLikewise fs gs → length (stream fs) ≡ length (stream gs)
 stream_size [] [] are = refl
-stream_size [] (g ∷ gs) are = absurd are
-stream_size (f ∷ fs) [] are = absurd are
 stream_size (f ∷ fs) (g ∷ gs) are =
     let first = frame_size f g are.0 are.1 in
     let rest = stream_size fs gs are.2 in
     omega (arith, first, rest, length-append (frame_bytes f) (stream fs), length-append (frame_bytes g) (stream gs))
+stream_size _ _ are = absurd are
 
 pub count_size : (fs gs : List Frame) → AreLikewise fs gs → length fs ≡ length gs
 count_size [] [] are = refl
-count_size [] (g ∷ gs) are = absurd are
-count_size (f ∷ fs) [] are = absurd are
 count_size (f ∷ fs) (g ∷ gs) are = ap suc (count_size fs gs are.2)
+count_size _ _ are = absurd are
 
--- A test that goes by anything but the payload.
-module _ (passes : Frame → Bool) (blind : (f : Frame) (payload : List ℕ) → passes (with_payload f payload) ≡ passes f) where
-  same_test : (f g : Frame) → g ≡ with_payload f g.payload → passes g ≡ passes f
-  same_test f g is = ap passes is ∙ blind f g.payload
+since_with_likewise : (since others : List Frame) (f g : Frame) → AreLikewise since others → g ≡ with_payload f g.payload → length f.payload ≡ length g.payload → AreLikewise (since_with since f) (since_with others g)
+since_with_likewise [] [] f g are is size =
+    subst (λ (h : Frame). AreLikewise (since_with [] f) (if is_data h && not h.fin then g ∷ [] else [])) (sym is) (by (is_data f) f.fin)
+  where
+    by : (data_frame final : Bool) → AreLikewise (if data_frame && not final then f ∷ [] else []) (if data_frame && not final then g ∷ [] else [])
+    by true true = tt
+    by true false = (is, size, tt)
+    by false final = tt
+since_with_likewise (x ∷ since) (y ∷ others) f g are is size =
+    subst (λ (h : Frame). AreLikewise (since_with (x ∷ since) f) (if is_data h && h.fin then [] else y ∷ (others ++ g ∷ []))) (sym is) (by (is_data f && f.fin))
+  where
+    by : (ends : Bool) → AreLikewise (if ends then [] else x ∷ (since ++ f ∷ [])) (if ends then [] else y ∷ (others ++ g ∷ []))
+    by true = tt
+    by false = likewise_push (x ∷ since) (y ∷ others) f g are is size
+since_with_likewise _ _ f g are is size = absurd are
 
-  any_likewise : (fs gs : List Frame) → AreLikewise fs gs → list_any passes gs ≡ list_any passes fs
-  any_likewise [] [] are = refl
-  any_likewise [] (g ∷ gs) are = absurd are
-  any_likewise (f ∷ fs) [] are = absurd are
-  any_likewise (f ∷ fs) (g ∷ gs) are = λ i. same_test f g are.0 i || any_likewise fs gs are.2 i
-
-  after_likewise : (fs gs : List Frame) → AreLikewise fs gs → AreLikewise (after_last passes fs) (after_last passes gs)
-  after_likewise [] [] are = tt
-  after_likewise [] (g ∷ gs) are = absurd are
-  after_likewise (f ∷ fs) [] are = absurd are
-  after_likewise (f ∷ fs) (g ∷ gs) are =
-      subst (λ (c : Bool). AreLikewise (after_last passes (f ∷ fs)) (if c then after_last passes gs else g ∷ gs)) (sym (any_likewise (f ∷ fs) (g ∷ gs) are)) (by (list_any passes (f ∷ fs)) (after_likewise fs gs are.2))
-    where
-      by : (c : Bool) → AreLikewise (after_last passes fs) (after_last passes gs) → AreLikewise (if c then after_last passes fs else f ∷ fs) (if c then after_last passes gs else g ∷ gs)
-      by true rest = rest
-      by false rest = are
-
-  from_likewise : (fs gs : List Frame) → AreLikewise fs gs → AreLikewise (from_first passes fs) (from_first passes gs)
-  from_likewise [] [] are = tt
-  from_likewise [] (g ∷ gs) are = absurd are
-  from_likewise (f ∷ fs) [] are = absurd are
-  from_likewise (f ∷ fs) (g ∷ gs) are =
-      subst (λ (c : Bool). AreLikewise (from_first passes (f ∷ fs)) (if c then g ∷ gs else from_first passes gs)) (sym (same_test f g are.0)) (by (passes f) (from_likewise fs gs are.2))
-    where
-      by : (c : Bool) → AreLikewise (from_first passes fs) (from_first passes gs) → AreLikewise (if c then f ∷ fs else from_first passes fs) (if c then g ∷ gs else from_first passes gs)
-      by true rest = are
-      by false rest = rest
+since_likewise : (fs gs since others : List Frame) → AreLikewise fs gs → AreLikewise since others → AreLikewise (fold since_with since fs) (fold since_with others gs)
+since_likewise [] [] since others are so_far = so_far
+since_likewise (f ∷ fs) (g ∷ gs) since others are so_far =
+    since_likewise fs gs (since_with since f) (since_with others g) are.2 (since_with_likewise since others f g so_far are.0 are.1)
+since_likewise _ _ since others are so_far = absurd are
 
 pub same_open_offset : (fs gs : List Frame) → AreLikewise fs gs → open_offset fs ≡ open_offset gs
-same_open_offset fs gs are =
-    let since = from_likewise is_data (λ f payload. refl) (after_last ends_message fs) (after_last ends_message gs) (after_likewise ends_message (λ f payload. refl) fs gs are) in
-    λ i. stream_size fs gs are i - stream_size (since_open fs) (since_open gs) since i
+same_open_offset fs gs are = λ i. stream_size fs gs are i - stream_size (since_open fs) (since_open gs) (since_likewise fs gs [] [] are tt) i
 
 same_kind : (group others : List Frame) → AreLikewise group others → kind_of group ≡ kind_of others
 same_kind group others are = ap kind_at (sym (same_first group others are))
@@ -118,21 +103,18 @@ open_in_turn fs gs lacks are =
 
 pub turn_append : (items others more rest : List Item) → AreAlikeInTurn items others → AreAlikeInTurn more rest → AreAlikeInTurn (items ++ more) (others ++ rest)
 turn_append [] [] more rest are also = also
-turn_append [] (o ∷ others) more rest are also = absurd are
-turn_append (i ∷ items) [] more rest are also = absurd are
 turn_append (i ∷ items) (o ∷ others) more rest are also = (are.0, turn_append items others more rest are.1 also)
+turn_append _ _ more rest are also = absurd are
 
 pub shown_append : (shown others more rest : List Shown) → AreShownAlike shown others → AreShownAlike more rest → AreShownAlike (shown ++ more) (others ++ rest)
 shown_append [] [] more rest are also = also
-shown_append [] (o ∷ others) more rest are also = absurd are
-shown_append (s ∷ shown) [] more rest are also = absurd are
 shown_append (s ∷ shown) (o ∷ others) more rest are also = (are.0, are.1, shown_append shown others more rest are.2 also)
+shown_append _ _ more rest are also = absurd are
 
 shown_with : (n m : ℕ) (items others : List Item) → n ≡ m → AreAlikeInTurn items others → AreShownAlike (shown_after n items) (shown_after m others)
 shown_with n m [] [] same are = tt
-shown_with n m [] (o ∷ others) same are = absurd are
-shown_with n m (i ∷ items) [] same are = absurd are
 shown_with n m (i ∷ items) (o ∷ others) same are = (same, are.0, shown_with n m items others same are.1)
+shown_with n m _ _ same are = absurd are
 
 module _ (before others : List Frame) (are : AreLikewise before others) (f : Frame) (payload : List ℕ) (size : length f.payload ≡ length payload) where
   abbrev g : Frame
@@ -166,25 +148,23 @@ module _ (before others : List Frame) (are : AreLikewise before others) (f : Fra
 
 pub events_alike : (before others fs gs : List Frame) → AreLikewise before others → AreLikewise fs gs → AreShownAlike (shown_of before fs) (shown_of others gs)
 events_alike before others [] [] are fits = tt
-events_alike before others [] (g ∷ gs) are fits = absurd fits
-events_alike before others (f ∷ fs) [] are fits = absurd fits
 events_alike before others (f ∷ fs) (g ∷ gs) are fits =
     shown_append (shown_at before f) (shown_at others g) (shown_of (before ++ f ∷ []) fs) (shown_of (others ++ g ∷ []) gs)
     (subst (λ (h : Frame). AreShownAlike (shown_at before f) (shown_at others h)) (sym fits.0) (frame_alike before others are f g.payload fits.1))
     (events_alike (before ++ f ∷ []) (others ++ g ∷ []) fs gs (likewise_push before others f g are fits.0 fits.1) fits.2)
+events_alike before others _ _ are fits = absurd fits
 
 -- ---- heads and plans
 
 heads_alike : (place other_place : ℕ) (fs gs : List Frame) → place ≡ other_place → AreLikewise fs gs → heads_from place fs ≡ heads_from other_place gs
 heads_alike place other_place [] [] same are = refl
-heads_alike place other_place [] (g ∷ gs) same are = absurd are
-heads_alike place other_place (f ∷ fs) [] same are = absurd are
 heads_alike place other_place (f ∷ fs) (g ∷ gs) same are =
     let size = are.1 in
     let sizes = frame_size f g are.0 are.1 in
     let head : info_of place f ≡ info_of other_place g = (λ i. record { place = same i; fin = f.fin; op = f.op; key = f.key; form = f.form; len = size i }) ∙ ap (λ (h : Frame). record { place = other_place; fin = h.fin; op = h.op; key = h.key; form = h.form; len = length g.payload }) (sym are.0) in
     let rest = heads_alike (place + length (frame_bytes f)) (other_place + length (frame_bytes g)) fs gs (λ i. same i + sizes i) are.2 in
     λ i. head i ∷ rest i
+heads_alike place other_place _ _ same are = absurd are
 
 pub same_heads : (fs gs : List Frame) → AreLikewise fs gs → heads_of fs ≡ heads_of gs
 same_heads fs gs are = heads_alike 0 0 fs gs refl are
@@ -194,12 +174,11 @@ step_alike f g is size = ap (λ (n : ℕ). if is_control f.op then Step.Control 
 
 pub same_plan : (fs gs : List Frame) → AreLikewise fs gs → plan_of fs ≡ plan_of gs
 same_plan [] [] are = refl
-same_plan [] (g ∷ gs) are = absurd are
-same_plan (f ∷ fs) [] are = absurd are
 same_plan (f ∷ fs) (g ∷ gs) are =
     let first = step_alike f g are.0 are.1 in
     let rest = same_plan fs gs are.2 in
     λ i. first i ∷ rest i
+same_plan _ _ are = absurd are
 
 heads_shown_alike : (heads : List HeadInfo) → AreShownAlike (map shown_head heads) (map shown_head heads)
 heads_shown_alike [] = tt

@@ -164,12 +164,11 @@ lines_twice : (lines : List (List ℕ)) (entries others : List Entry) (redacted 
 lines_twice [] [] [] [] given all are = tt
 lines_twice [] [] [] (r ∷ redacted) given all are = absurd are
 lines_twice [] [] (other ∷ others) redacted given all are = absurd are
-lines_twice [] (entry ∷ entries) others redacted given all are = absurd are
-lines_twice (line ∷ lines) [] others redacted given all are = absurd are
 lines_twice (line ∷ lines) (entry ∷ entries) [] redacted given all are = absurd are
 lines_twice (line ∷ lines) (entry ∷ entries) (other ∷ others) [] given all are = absurd are
 lines_twice (line ∷ lines) (entry ∷ entries) (other ∷ others) (r ∷ redacted) given all are =
     (line_twice line r entry other given.0 (first_bytes other others all) are.0, lines_twice lines entries others redacted given.1 (other_bytes other others all) are.1)
+lines_twice _ _ others redacted given all are = absurd are
 
 -- ---- redacted lines are accepted
 
@@ -218,24 +217,21 @@ not_true false never = refl
 
 sizes_of : (role : Role) (given also : List Entry) → AreAlike given also → length (sent role also) ≡ length (sent role given)
 sizes_of role [] [] are = refl
-sizes_of role [] (other ∷ also) are = absurd are
-sizes_of role (entry ∷ given) [] are = absurd are
 sizes_of role (entry ∷ given) (other ∷ also) are =
     let first = sizes_alike role entry other are.0 in
     let rest = sizes_of role given also are.1 in
     omega (arith, first, rest, length-append (bytes_in role other) (sent role also), length-append (bytes_in role entry) (sent role given))
+sizes_of role _ _ are = absurd are
 
 counts_of : (given also : List Entry) → AreAlike given also → length also ≡ length given
 counts_of [] [] are = refl
-counts_of [] (other ∷ also) are = absurd are
-counts_of (entry ∷ given) [] are = absurd are
 counts_of (entry ∷ given) (other ∷ also) are = ap suc (counts_of given also are.1)
+counts_of _ _ are = absurd are
 
 alike_push : (given also : List Entry) (entry other : Entry) → AreAlike given also → IsAlike entry other → AreAlike (given ++ entry ∷ []) (also ++ other ∷ [])
 alike_push [] [] entry other are is = (is, tt)
-alike_push [] (o ∷ also) entry other are is = absurd are
-alike_push (e ∷ given) [] entry other are is = absurd are
 alike_push (e ∷ given) (o ∷ also) entry other are is = (are.0, alike_push given also entry other are.1 is)
+alike_push _ _ entry other are is = absurd are
 
 module _ (limits : Limits) where
   line_accepted : (given also : List Entry) (line redacted : List ℕ) (entry other : Entry) → AreAlike given also → HasBytes other → IsAcceptedLine limits given line entry → IsRedactedLine line entry other redacted → IsAcceptedLine limits also redacted other
@@ -286,8 +282,6 @@ module _ (limits : Limits) where
   lines_accepted given also [] [] [] [] alike all accepted are = tt
   lines_accepted given also [] [] [] (r ∷ redacted) alike all accepted are = absurd are
   lines_accepted given also [] [] (other ∷ others) redacted alike all accepted are = absurd are
-  lines_accepted given also [] (entry ∷ entries) others redacted alike all accepted are = absurd are
-  lines_accepted given also (line ∷ lines) [] others redacted alike all accepted are = absurd are
   lines_accepted given also (line ∷ lines) (entry ∷ entries) [] redacted alike all accepted are = absurd are
   lines_accepted given also (line ∷ lines) (entry ∷ entries) (other ∷ others) [] alike all accepted are = absurd are
   lines_accepted given also (line ∷ lines) (entry ∷ entries) (other ∷ others) (r ∷ redacted) alike all accepted are =
@@ -295,6 +289,7 @@ module _ (limits : Limits) where
         line_accepted given also line r entry other alike (first_bytes other others all) accepted.0 are.0,
         lines_accepted (given ++ entry ∷ []) (also ++ other ∷ []) lines entries others redacted (alike_push given also entry other alike one) (other_bytes other others all) accepted.1 are.1,
       )
+  lines_accepted given also _ _ others redacted alike all accepted are = absurd are
 
   pub redacted_accepted : (lines redacted : List (List ℕ)) (c : IsRedactedCapture limits lines redacted) → AreAcceptedLines limits redacted c.others
   redacted_accepted lines redacted c = lines_accepted [] [] lines c.entries c.others redacted tt (others_bytes limits lines redacted c) c.taken c.each

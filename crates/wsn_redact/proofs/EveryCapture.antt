@@ -121,8 +121,6 @@ one_more line lines entry other entries others text is rest = ((text ++ cr_of li
 some_lines : (lines : List (List ℕ)) (entries : List Entry) (client server : List ℕ) → AreEntries lines entries → length client ≡ length (sent Client entries) → length server ≡ length (sent Server entries)
     → SomeLines lines entries (others_of entries client server)
 some_lines [] [] client server given of_client of_server = ([], tt)
-some_lines [] (entry ∷ entries) client server given of_client of_server = absurd given
-some_lines (line ∷ lines) [] client server given of_client of_server = absurd given
 some_lines (line ∷ lines) (Nothing ∷ entries) client server given of_client of_server =
     let text = some_nothing (without_cr line) in
     one_more line lines Nothing Nothing entries (others_of entries client server) text.0 text.1 (some_lines lines entries client server given.1 of_client of_server)
@@ -138,6 +136,7 @@ some_lines (line ∷ lines) (Mark Client ∷ entries) client server given of_cli
     one_more line lines (Mark Client) (Mark Client) entries (others_of entries client server) (without_cr line) (refl, refl) (some_lines lines entries client server given.1 of_client of_server)
 some_lines (line ∷ lines) (Mark Server ∷ entries) client server given of_client of_server =
     one_more line lines (Mark Server) (Mark Server) entries (others_of entries client server) (without_cr line) (refl, refl) (some_lines lines entries client server given.1 of_client of_server)
+some_lines _ _ client server given of_client of_server = absurd given
 
 -- ---- a capture
 

@@ -21,7 +21,7 @@ use Rattle.wsn_rules.specs.Group.{unfinished, payload_of}
 use Rattle.wsn_rules.specs.Heads.{BeginsWithHead, IsBegun, AreHeads}
 use Rattle.wsn_rules.specs.Verdict.{EndsWithinFrame, IsEvidentAt, IsRefused, IsCut, IsVerdict}
 use Rattle.wsn_rules.proofs.EveryInput.{has_verdict}
-use Rattle.wsn_rules.proofs.EveryShown.{IsBytes-take, some_shown}
+use Rattle.wsn_rules.proofs.EveryShown.{some_shown}
 use Rattle.wsn_rules.proofs.HeadsGoOn.{begins_two}
 use Rattle.wsn_rules.proofs.LeastEvident.{evidence_is_some}
 use Rattle.wsn_rules.proofs.OneVerdict.{one_verdict, all_of_verdict}
@@ -35,6 +35,7 @@ use Rattle.wsn_redact.proofs.RedactedPayloads.{HasText, payload_is, are_redacted
 use Rattle.wsn_redact.proofs.RefusedEvidence.{within_payload}
 use Rattle.wsn_redact.proofs.RedactedEnds.{last_of}
 use Rattle.wsn_redact.proofs.QuietPayloads.{take_wire, within_frame, quiet_text}
+use Rattle.wsn_rules.proofs.PlanTheory.MessageFrames.{bytes_take}
 
 -- ---- a payload with one byte more
 
@@ -205,7 +206,7 @@ module _ (role : Role) (limits : Limits) (range : InRange limits) where
       all_bytes : (w : Verdict) → IsBytes (judged w bytes)
       all_bytes (Accepted s) = in_bytes
       all_bytes (Cut s) = in_bytes
-      all_bytes (Refused r) = IsBytes-take (r.place + 1) bytes in_bytes
+      all_bytes (Refused r) = bytes_take (r.place + 1) bytes in_bytes
 
       by : (seen rest : List ℕ) → seen ≡ stream fs ++ rest → (begun : List HeadInfo) → IsBegun role limits fs rest begun → IsVerdict role limits seen fs v → ((place : ℕ) (reason : Reason) → IsRefused role limits seen fs place reason → place + 1 ≡ length seen) → (redacted : List ℕ) × IsRedactedRest role limits fs rest redacted
       by seen rest whole begun (inl closed) is_seen last = (zeros_for rest, inl (closed.1, refl))

@@ -1,5 +1,5 @@
 -- A head is evidence for the same refusals after the redacted frames of a message, and prefixes of redacted payloads.
-use Rattle.std.proofs.Common.{◌≡◌, ℕ, zero, suc, ◌+◌, ◌-◌, ◌<◌, ◌≤◌, Bool, true, false, Some, List, [], ◌∷◌, ◌++◌, length, take, drop, inl, inr, refl, sym, ap, ◌∙◌, subst, append-nil, length-append, length-drop, take-append-drop, if◌then◌else◌, arith}
+use Rattle.std.proofs.Common.{◌≡◌, ℕ, zero, suc, ◌+◌, ◌-◌, ◌<◌, ◌≤◌, Bool, true, false, Some, List, [], ◌∷◌, ◌++◌, length, take, drop, inl, inr, refl, sym, ap, ◌∙◌, subst, append-nil, length-append, length-drop, take-append-drop, arith}
 use Rattle.std.proofs.lemmas.Bool.{cases_lt}
 use Rattle.std.proofs.lemmas.List.{take_all, drop_all, take_at, take-append-le, take-take, drop-take, length-take-le}
 use Rattle.std.proofs.Math.Seq.{take-append-add, take-add}
@@ -9,10 +9,10 @@ use Rattle.wsn_wire.specs.declared.opcode.Op.TheVariants.{Continue, Text, Binary
 use Rattle.wsn_wire.specs.declared.refusal.Reason.{Reason}
 use Rattle.wsn_wire.specs.declared.refusal.Reason.TheVariants.{ReservedBits, ReservedOpcode, ControlNotFinal, NothingToContinue, MessageOpen, MaskMissing, MaskPresent, ControlTooLong, CloseOneByte, LengthTopBit, LengthNotMinimal, MessageTooBig, CloseCode, CloseReason, TextBad, TextCut, TooManyFrames}
 use Rattle.wsn_wire.specs.Frame.{Frame}
-use Rattle.wsn_wire.specs.Layout.{mask_bit, opcode_field, encoded_length, len_form_at}
+use Rattle.wsn_wire.specs.Layout.{opcode_field, encoded_length, len_form_at}
 use Rattle.wsn_text.specs.Utf8.{BeginsText}
 use Rattle.wsn_text.proofs.Prefixes.{begins-nil, begins_take, bad_ends}
-use Rattle.wsn_rules.specs.Evidence.{Evidence, IntoPayload, EvidentByFirst, EvidentByLength, EvidentByPayload, IsOfText, unmasked}
+use Rattle.wsn_rules.specs.Evidence.{Evidence, IntoPayload, EvidentByFirst, EvidentByLength, EvidentByPayload, IsOfText}
 use Rattle.wsn_rules.specs.Evidence.Evidence.{ByFirst, BySecond, ByLength, ByPayload}
 use Rattle.wsn_rules.specs.Group.{payload_of}
 use Rattle.wsn_rules.specs.Limits.{Limits}
@@ -22,6 +22,7 @@ use Rattle.wsn_redact.proofs.StoodTexts.{stood-append, length-stood, is_stood, s
 use Rattle.wsn_redact.proofs.RedactedLawful.{beginning_stays}
 use Rattle.wsn_redact.proofs.RedactedVerdicts.{SameGroup}
 use Rattle.wsn_redact.proofs.PayloadsAlike.{inside_alike, of_text_forth, of_text_back, text_of_text, body_of}
+use Rattle.wsn_rules.proofs.HeadEvidence.{unmasked-nil}
 
 -- ---- a head
 
@@ -33,46 +34,11 @@ by_first_too : (limits : Limits) (xs ys : List Frame) → length ys ≡ length x
 by_first_too limits xs ys count NothingToContinue first e = (e.0, none_too xs ys count e.1)
 by_first_too limits xs ys count MessageOpen first e = (e.0, λ none. e.1 (none_too ys xs (sym count) none))
 by_first_too limits xs ys count TooManyFrames first e = (e.0, e.1 ∙ ap Some (sym count))
-by_first_too limits xs ys count ReservedBits first e = e
-by_first_too limits xs ys count ReservedOpcode first e = e
-by_first_too limits xs ys count ControlNotFinal first e = e
-by_first_too limits xs ys count MaskMissing first e = e
-by_first_too limits xs ys count MaskPresent first e = e
-by_first_too limits xs ys count ControlTooLong first e = e
-by_first_too limits xs ys count CloseOneByte first e = e
-by_first_too limits xs ys count LengthTopBit first e = e
-by_first_too limits xs ys count LengthNotMinimal first e = e
-by_first_too limits xs ys count MessageTooBig first e = e
-by_first_too limits xs ys count CloseCode first e = e
-by_first_too limits xs ys count CloseReason first e = e
-by_first_too limits xs ys count TextBad first e = e
-by_first_too limits xs ys count TextCut first e = e
+by_first_too limits xs ys count _ first e = e
 
 by_length_too : (limits : Limits) (xs ys : List Frame) → length (payload_of ys) ≡ length (payload_of xs) → (reason : Reason) (first second : ℕ) (len : List ℕ) → EvidentByLength limits xs reason first second len → EvidentByLength limits ys reason first second len
 by_length_too limits xs ys size MessageTooBig first second len e = (e.0, subst (λ (n : ℕ). limits.message < n + encoded_length (len_form_at second) len) (sym size) e.1)
-by_length_too limits xs ys size NothingToContinue first second len e = e
-by_length_too limits xs ys size MessageOpen first second len e = e
-by_length_too limits xs ys size TooManyFrames first second len e = e
-by_length_too limits xs ys size ReservedBits first second len e = e
-by_length_too limits xs ys size ReservedOpcode first second len e = e
-by_length_too limits xs ys size ControlNotFinal first second len e = e
-by_length_too limits xs ys size MaskMissing first second len e = e
-by_length_too limits xs ys size MaskPresent first second len e = e
-by_length_too limits xs ys size ControlTooLong first second len e = e
-by_length_too limits xs ys size CloseOneByte first second len e = e
-by_length_too limits xs ys size LengthTopBit first second len e = e
-by_length_too limits xs ys size LengthNotMinimal first second len e = e
-by_length_too limits xs ys size CloseCode first second len e = e
-by_length_too limits xs ys size CloseReason first second len e = e
-by_length_too limits xs ys size TextBad first second len e = e
-by_length_too limits xs ys size TextCut first second len e = e
-
-nothing_unmasked : (second : ℕ) (key wire : List ℕ) → wire ≡ [] → unmasked second key wire ≡ []
-nothing_unmasked second key wire none = ap (λ (bs : List ℕ). unmasked second key bs) none ∙ by (mask_bit second)
-  where
-    by : (c : Bool) → ◌≡◌ {A = List ℕ} (if c then [] else []) []
-    by true = refl
-    by false = refl
+by_length_too limits xs ys size _ first second len e = e
 
 module _ (role : Role) (limits : Limits) (group redacted : List Frame) (same : SameGroup group redacted) (begins : (n : ℕ) → IsOfText group n → BeginsText (payload_of group)) where
   -- An empty payload.
@@ -90,38 +56,14 @@ module _ (role : Role) (limits : Limits) (group redacted : List Frame) (same : S
   empty_forth CloseReason first total e = (e.0, e.1)
   empty_forth TextBad first total e = absurd (bad_ends (payload_of group ++ []) e.1.0 e.1.2 (subst BeginsText (sym (append-nil (payload_of group))) (begins (opcode_field first) e.0)))
   empty_forth TextCut first total e = (of_text_forth group redacted (opcode_field first) same e.0, e.1, e.2, (inside_alike (payload_of group ++ []) (payload_of redacted ++ []) (whole_of (opcode_field first) e.0)).0 e.3)
-  empty_forth ReservedBits first total e = absurd e
-  empty_forth ReservedOpcode first total e = absurd e
-  empty_forth ControlNotFinal first total e = absurd e
-  empty_forth NothingToContinue first total e = absurd e
-  empty_forth MessageOpen first total e = absurd e
-  empty_forth MaskMissing first total e = absurd e
-  empty_forth MaskPresent first total e = absurd e
-  empty_forth ControlTooLong first total e = absurd e
-  empty_forth CloseOneByte first total e = absurd e
-  empty_forth LengthTopBit first total e = absurd e
-  empty_forth LengthNotMinimal first total e = absurd e
-  empty_forth MessageTooBig first total e = absurd e
-  empty_forth TooManyFrames first total e = absurd e
+  empty_forth _ first total e = absurd e
 
   empty_back : (reason : Reason) (first total : ℕ) → EvidentByPayload redacted reason first total [] → EvidentByPayload group reason first total []
   empty_back CloseCode first total e = absurd (omega (arith, e.1))
   empty_back CloseReason first total e = (e.0, e.1)
   empty_back TextBad first total e = absurd (bad_ends (payload_of redacted ++ []) e.1.0 e.1.2 (payload_begins (opcode_field first) (of_text_back group redacted (opcode_field first) same e.0)))
   empty_back TextCut first total e = let own = of_text_back group redacted (opcode_field first) same e.0 in (own, e.1, e.2, (inside_alike (payload_of group ++ []) (payload_of redacted ++ []) (whole_of (opcode_field first) own)).1 e.3)
-  empty_back ReservedBits first total e = absurd e
-  empty_back ReservedOpcode first total e = absurd e
-  empty_back ControlNotFinal first total e = absurd e
-  empty_back NothingToContinue first total e = absurd e
-  empty_back MessageOpen first total e = absurd e
-  empty_back MaskMissing first total e = absurd e
-  empty_back MaskPresent first total e = absurd e
-  empty_back ControlTooLong first total e = absurd e
-  empty_back CloseOneByte first total e = absurd e
-  empty_back LengthTopBit first total e = absurd e
-  empty_back LengthNotMinimal first total e = absurd e
-  empty_back MessageTooBig first total e = absurd e
-  empty_back TooManyFrames first total e = absurd e
+  empty_back _ first total e = absurd e
 
   -- Bytes without a payload.
   pub head_forth : (reason : Reason) (seen : List ℕ) → ((p : IntoPayload seen) → p.wire ≡ []) → Evidence role limits group reason seen → Evidence role limits redacted reason seen
@@ -129,7 +71,7 @@ module _ (role : Role) (limits : Limits) (group redacted : List Frame) (same : S
   head_forth reason seen none (BySecond first second is row) = BySecond first second is row
   head_forth reason seen none (ByLength first second len is count row) = ByLength first second len is count (by_length_too limits group redacted same.size reason first second len row)
   head_forth reason seen none (ByPayload p row) =
-      let empty = nothing_unmasked p.second p.key p.wire (none p) in
+      let empty = unmasked-nil p.second p.key p.wire (none p) in
       let total = encoded_length (len_form_at p.second) p.len in
       ByPayload p (subst (λ (bs : List ℕ). EvidentByPayload redacted reason p.first total bs) (sym empty) (empty_forth reason p.first total (subst (λ (bs : List ℕ). EvidentByPayload group reason p.first total bs) empty row)))
 
@@ -138,7 +80,7 @@ module _ (role : Role) (limits : Limits) (group redacted : List Frame) (same : S
   head_back reason seen none (BySecond first second is row) = BySecond first second is row
   head_back reason seen none (ByLength first second len is count row) = ByLength first second len is count (by_length_too limits redacted group (sym same.size) reason first second len row)
   head_back reason seen none (ByPayload p row) =
-      let empty = nothing_unmasked p.second p.key p.wire (none p) in
+      let empty = unmasked-nil p.second p.key p.wire (none p) in
       let total = encoded_length (len_form_at p.second) p.len in
       ByPayload p (subst (λ (bs : List ℕ). EvidentByPayload group reason p.first total bs) (sym empty) (empty_back reason p.first total (subst (λ (bs : List ℕ). EvidentByPayload redacted reason p.first total bs) empty row)))
 

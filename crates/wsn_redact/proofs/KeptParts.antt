@@ -149,12 +149,8 @@ either false = refl
 
 -- Nothing is written for an empty payload.
 pub payload_none : (group : List Frame) (op : Op) → redacted_payload group op [] ≡ []
-payload_none group Close = refl
 payload_none group Continue = either (is_of_text group Continue)
-payload_none group Text = refl
-payload_none group Binary = refl
-payload_none group Ping = refl
-payload_none group Pong = refl
+payload_none group _ = refl
 
 -- ---- a frame ends
 
@@ -163,11 +159,7 @@ text_of_group [] f may other = by f.op refl
   where
     by : (op : Op) → f.op ≡ op → is_text op ≡ is_of_text [] op
     by Continue is = refl
-    by Text is = refl
-    by Binary is = refl
-    by Close is = refl
-    by Ping is = refl
-    by Pong is = refl
+    by _ is = refl
 text_of_group (g ∷ group) f may other = by f.op refl other
   where
     by : (op : Op) → f.op ≡ op → is_control op ≡ false → is_text g.op ≡ is_of_text (g ∷ group) op

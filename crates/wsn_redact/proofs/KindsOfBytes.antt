@@ -8,6 +8,7 @@ use Rattle.wsn_text.specs.Utf8.{◌–◌, IsCharacter}
 use Rattle.wsn_redact.specs.StandIns.{single_stand_in, stand_in}
 use Rattle.wsn_redact.specs.AlikeStreams.{IsIn, AreOfOneKind, single_kinds, first_kinds}
 use Rattle.wsn_redact.proofs.RedactedLawful.{two_low, row_e0, row_ed, row_e1, row_ee, row_f0, row_f1, row_f4}
+use Rattle.wsn_redact.proofs.AlikeRedactions.{single_small, single_capital, single_digit, first_low}
 
 -- ---- a byte that isn't part of a longer character
 
@@ -17,15 +18,6 @@ record IsOther (b : ℕ) : Type 0 where
   no_small : (b == 0x78) ≡ true → ⊥
   no_capital : (b == 0x58) ≡ true → ⊥
   no_digit : (b == 0x30) ≡ true → ⊥
-
-small_is : (b : ℕ) → 0x61 ≤ b → b ≤ 0x7A → single_stand_in b ≡ 0x78
-small_is b from to = grind (arith, common_steps)
-
-capital_is : (b : ℕ) → 0x41 ≤ b → b ≤ 0x5A → single_stand_in b ≡ 0x58
-capital_is b from to = grind (arith, common_steps)
-
-digit_is : (b : ℕ) → 0x30 ≤ b → b ≤ 0x39 → single_stand_in b ≡ 0x30
-digit_is b from to = grind (arith, common_steps)
 
 below_is : (b : ℕ) → b < 0x30 → single_stand_in b ≡ b
 below_is b to = grind (arith, common_steps)
@@ -85,9 +77,9 @@ itself false false false b one two three = refl
 
 has_single : (b : ℕ) → HasSingle (single_stand_in b) b
 has_single b = elim (kind_of b) [
-  | inl small ↦ subst (λ (x : ℕ). HasSingle x b) (sym (small_is b small.0 small.1)) (inl small)
-  | inr (inl capital) ↦ subst (λ (x : ℕ). HasSingle x b) (sym (capital_is b capital.0 capital.1)) (inl capital)
-  | inr (inr (inl digit)) ↦ subst (λ (x : ℕ). HasSingle x b) (sym (digit_is b digit.0 digit.1)) (inl digit)
+  | inl small ↦ subst (λ (x : ℕ). HasSingle x b) (sym (single_small b small.0 small.1)) (inl small)
+  | inr (inl capital) ↦ subst (λ (x : ℕ). HasSingle x b) (sym (single_capital b capital.0 capital.1)) (inl capital)
+  | inr (inr (inl digit)) ↦ subst (λ (x : ℕ). HasSingle x b) (sym (single_digit b digit.0 digit.1)) (inl digit)
   | inr (inr (inr other)) ↦ subst (λ (x : ℕ). HasSingle x b) (sym other.same) (itself (b == 0x78) (b == 0x58) (b == 0x30) b other.no_small other.no_capital other.no_digit)
 ]
 
@@ -126,14 +118,11 @@ itself_first false false false false true four b n1 n2 n3 n4 n5 n6 = absurd (n5 
 itself_first false false false false false true b n1 n2 n3 n4 n5 n6 = absurd (n6 refl)
 itself_first false false false false false false b n1 n2 n3 n4 n5 n6 = refl
 
-low_first : (b : ℕ) → b ≤ 0x7F → stand_in b ≡ single_stand_in b ∷ []
-low_first b to = grind (arith, common_steps)
-
 has_low : (b : ℕ) → b ≤ 0x7F → HasFirst (single_stand_in b) b
 has_low b to = elim (kind_of b) [
-  | inl small ↦ subst (λ (x : ℕ). HasFirst x b) (sym (small_is b small.0 small.1)) (inl small)
-  | inr (inl capital) ↦ subst (λ (x : ℕ). HasFirst x b) (sym (capital_is b capital.0 capital.1)) (inl capital)
-  | inr (inr (inl digit)) ↦ subst (λ (x : ℕ). HasFirst x b) (sym (digit_is b digit.0 digit.1)) (inl digit)
+  | inl small ↦ subst (λ (x : ℕ). HasFirst x b) (sym (single_small b small.0 small.1)) (inl small)
+  | inr (inl capital) ↦ subst (λ (x : ℕ). HasFirst x b) (sym (single_capital b capital.0 capital.1)) (inl capital)
+  | inr (inr (inl digit)) ↦ subst (λ (x : ℕ). HasFirst x b) (sym (single_digit b digit.0 digit.1)) (inl digit)
   | inr (inr (inr other)) ↦
       subst (λ (x : ℕ). HasFirst x b) (sym other.same)
       (itself_first (b == 0x78) (b == 0x58) (b == 0x30) (b == 0xC3) (b == 0xE2) (b == 0xF1) b other.no_small other.no_capital other.no_digit
@@ -141,7 +130,7 @@ has_low b to = elim (kind_of b) [
 ]
 
 has_first : (b : ℕ) (rest : List ℕ) → IsCharacter (b ∷ rest) → HasFirst (slice_index (stand_in b) 0) b
-has_first b rest (inl fits) = subst (λ (bs : List ℕ). HasFirst (slice_index bs 0) b) (sym (low_first b fits.1)) (has_low b fits.1)
+has_first b rest (inl fits) = subst (λ (bs : List ℕ). HasFirst (slice_index bs 0) b) (sym (first_low b fits.1)) (has_low b fits.1)
 has_first b rest (inr (inl fits)) = subst (λ (bs : List ℕ). HasFirst (slice_index bs 0) b) (sym (two_low b fits.0 fits.1)) (inl (fits.0, fits.1))
 has_first b rest (inr (inr (inl fits))) =
     let from = fits.0 in let to = fits.1 in let is : b ≡ 0xE0 = omega (arith, from, to) in

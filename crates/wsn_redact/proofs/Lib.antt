@@ -26,6 +26,7 @@ pub mod AcceptedTwice
 pub mod TextsStay
 pub mod PayloadsAlike
 pub mod HeadsAlike
+pub mod PayloadsStay
 pub mod RefusedStays
 pub mod CutStays
 pub mod SameVerdicts

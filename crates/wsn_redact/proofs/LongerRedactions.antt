@@ -4,7 +4,7 @@ use Rattle.std.proofs.lemmas.Bool.{cases_lt}
 use Rattle.std.proofs.lemmas.List.{take_all, take_at, drop_at, take-append-le, drop-append-le}
 use Rattle.wsn_wire.specs.declared.endpoint.Role.{Role}
 use Rattle.wsn_wire.specs.Frame.{Frame, head_bytes, frame_bytes, stream, wire_payload}
-use Rattle.wsn_wire.proofs.FrameLemmas.{length-wire_payload}
+use Rattle.wsn_wire.proofs.FrameLemmas.{length-wire_payload, wire_payload_twice}
 use Rattle.wsn_rules.specs.declared.head_info.HeadInfo.{HeadInfo}
 use Rattle.wsn_rules.specs.declared.verdict.Verdict.{Verdict}
 use Rattle.wsn_rules.specs.declared.verdict.Verdict.TheVariants.{Accepted, Cut, Refused}
@@ -25,7 +25,6 @@ use Rattle.wsn_rules.specs.declared.verdict.Refusal.{Refusal}
 use Rattle.wsn_redact.specs.Redaction.{zeros_for, IsRedactedPayload, with_payload, IsRedactedBegun, IsRedactedRest, redacted_payload, redacted_frames, judged, unjudged, IsRedaction}
 use Rattle.wsn_redact.proofs.RedactedPayloads.{zeros-append, payload_length, length-redacted_payload, payload_is, one_payload, lawful_text, are_redacted, one_frames}
 use Rattle.wsn_redact.proofs.OneRedaction.{rest_is_one}
-use Rattle.wsn_redact.proofs.RefusedStays.{wire_twice}
 use Rattle.std.proofs.Math.Seq.{take-append-add}
 use Rattle.wsn_redact.proofs.HeadsAlike.{payload_prefix}
 use Rattle.wsn_redact.proofs.QuietPayloads.{take_wire}
@@ -159,7 +158,7 @@ module _ (role : Role) (limits : Limits) where
       let c = front_continues mine.following wire more following short parts in
       let r : IsRedactedPayload (unfinished fs) f.op (wire_payload f.key mine.following) a.part = subst (λ (i : HeadInfo). IsRedactedPayload (unfinished fs) i.op (wire_payload i.key mine.following) a.part) same a.is_part in
       let own = payload_is (unfinished fs) f.op f.payload (lawful_text role limits fs f (lawful.each fs gs f refl)) in
-      let s : IsRedactedPayload (unfinished fs) f.op (wire_payload f.key wire) payload = subst (λ (bs : List ℕ). IsRedactedPayload (unfinished fs) f.op bs payload) (sym (wire_twice f.key f.payload)) own in
+      let s : IsRedactedPayload (unfinished fs) f.op (wire_payload f.key wire) payload = subst (λ (bs : List ℕ). IsRedactedPayload (unfinished fs) f.op bs payload) (sym (wire_payload_twice f.key f.payload)) own in
       let stays = part_stays (unfinished fs) (info_of (length (stream fs)) f) mine.following wire a.part payload c r s in
       let written : frame_bytes (with_payload f payload) ++ tail ≡ head ++ (wire_payload f.key payload ++ tail) =
       ap (λ (n : ℕ). (head_bytes f.fin f.op f.key f.form n ++ wire_payload f.key payload) ++ tail) (length-redacted_payload (unfinished fs) f.op f.payload) ∙ append_assoc head (wire_payload f.key payload) tail in

@@ -1,6 +1,6 @@
 -- A capture has one redaction at most, with as many lines.
 use Rattle.std.proofs.Common.{◌≡◌, ℕ, suc, ◌≤◌, ◌⊎◌, List, [], ◌∷◌, ◌++◌, length, inl, inr, refl, sym, ap, ◌∙◌, subst, arith}
-use Rattle.std.specs.Prelude.{codes, drop, slice_index}
+use Rattle.std.specs.Prelude.{codes, slice_index}
 use Rattle.std.proofs.lemmas.List.{append_cancel_left}
 use Rattle.std.specs.List.{AllByRecursion}
 use Rattle.wsn_wire.specs.declared.endpoint.Role.{Role}
@@ -18,6 +18,7 @@ use Rattle.wsn_redact.specs.declared.extension_names.Within.TheVariants.{Name}
 use Rattle.wsn_redact.specs.ExtensionNames.{names_in}
 use Rattle.wsn_redact.specs.RedactedCaptures.{extensions_prefix, Stays, HasExtensions, SaysElse, IsRedactedNothing, IsRedactedText, cr_of, IsRedactedLine, AreRedactedLines, IsRedactedCapture}
 use Rattle.wsn_redact.proofs.OneRedaction.{one_redaction}
+use Rattle.wsn_wire.proofs.FrameLemmas.{fronts_agree}
 
 -- ---- comments
 
@@ -84,8 +85,6 @@ one_lines [] [] [] [] [] are same = refl
 one_lines [] [] [] [] (s ∷ also) are same = absurd same
 one_lines [] [] [] (r ∷ redacted) also are same = absurd are
 one_lines [] [] (other ∷ others) redacted also are same = absurd are
-one_lines [] (entry ∷ entries) others redacted also are same = absurd are
-one_lines (line ∷ lines) [] others redacted also are same = absurd are
 one_lines (line ∷ lines) (entry ∷ entries) [] redacted also are same = absurd are
 one_lines (line ∷ lines) (entry ∷ entries) (other ∷ others) [] also are same = absurd are
 one_lines (line ∷ lines) (entry ∷ entries) (other ∷ others) (r ∷ redacted) [] are same = absurd same
@@ -93,33 +92,21 @@ one_lines (line ∷ lines) (entry ∷ entries) (other ∷ others) (r ∷ redacte
     let first = one_line line entry other r s are.0 same.0 in
     let rest = one_lines lines entries others redacted also are.1 same.1 in
     cc (first, rest)
+one_lines _ _ others redacted also are same = absurd are
 
 pub as_many : (lines : List (List ℕ)) (entries others : List Entry) (redacted : List (List ℕ)) → AreRedactedLines lines entries others redacted → length redacted ≡ length lines
 as_many [] [] [] [] are = refl
 as_many [] [] [] (r ∷ redacted) are = absurd are
 as_many [] [] (other ∷ others) redacted are = absurd are
-as_many [] (entry ∷ entries) others redacted are = absurd are
-as_many (line ∷ lines) [] others redacted are = absurd are
 as_many (line ∷ lines) (entry ∷ entries) [] redacted are = absurd are
 as_many (line ∷ lines) (entry ∷ entries) (other ∷ others) [] are = absurd are
 as_many (line ∷ lines) (entry ∷ entries) (other ∷ others) (r ∷ redacted) are = ap suc (as_many lines entries others redacted are.1)
+as_many _ _ others redacted are = absurd are
 
 -- ---- the redacted entries
 
 none_more : (n : ℕ) → suc n ≡ 0 → ⊥
 none_more n is = omega (arith, is)
-
--- bytes of the same number before others
-same_front : (a b c d : List ℕ) → length a ≡ length b → a ++ c ≡ b ++ d → (a ≡ b) × (c ≡ d)
-same_front [] [] c d size is = (refl, is)
-same_front (x ∷ a) [] c d size is = absurd (none_more (length a) size)
-same_front [] (y ∷ b) c d size is = absurd (none_more (length b) (sym size))
-same_front (x ∷ a) (y ∷ b) c d size is =
-    let head : x ≡ y = ap (λ (l : List ℕ). slice_index l 0) is in
-    let tail : a ++ c ≡ b ++ d = ap (λ (l : List ℕ). drop 1 l) is in
-    let less : length a ≡ length b = omega (arith, size) in
-    let rest = same_front a b c d less tail in
-    (cc (head, rest.0), rest.1)
 
 both : (P : Role → Type 0) → P Client → P Server → (role : Role) → P role
 both P of_client of_server Client = of_client
@@ -129,10 +116,10 @@ both P of_client of_server Server = of_server
 pub bytes_off : (role : Role) (bytes also : List ℕ) (others more : List Entry) → length bytes ≡ length also
     → ((r : Role) → sent r (Bytes role bytes ∷ others) ≡ sent r (Bytes role also ∷ more)) → (bytes ≡ also) × ((r : Role) → sent r others ≡ sent r more)
 bytes_off Client bytes also others more size same =
-    let parts = same_front bytes also (sent Client others) (sent Client more) size (same Client) in
+    let parts = fronts_agree bytes also (sent Client others) (sent Client more) size (same Client) in
     (parts.0, both (λ r. sent r others ≡ sent r more) parts.1 (same Server))
 bytes_off Server bytes also others more size same =
-    let parts = same_front bytes also (sent Server others) (sent Server more) size (same Server) in
+    let parts = fronts_agree bytes also (sent Server others) (sent Server more) size (same Server) in
     (parts.0, both (λ r. sent r others ≡ sent r more) (same Client) parts.1)
 
 pub nothing_off : (others more : List Entry) → ((r : Role) → sent r (Nothing ∷ others) ≡ sent r (Nothing ∷ more)) → (r : Role) → sent r others ≡ sent r more
@@ -183,8 +170,6 @@ same_others : (lines : List (List ℕ)) (entries others more : List Entry) (reda
 same_others [] [] [] [] redacted also are too same = refl
 same_others [] [] [] (m ∷ more) redacted also are too same = absurd too
 same_others [] [] (other ∷ others) more redacted also are too same = absurd are
-same_others [] (entry ∷ entries) others more redacted also are too same = absurd are
-same_others (line ∷ lines) [] others more redacted also are too same = absurd are
 same_others (line ∷ lines) (entry ∷ entries) [] more redacted also are too same = absurd are
 same_others (line ∷ lines) (entry ∷ entries) (other ∷ others) [] redacted also are too same = absurd too
 same_others (line ∷ lines) (entry ∷ entries) (other ∷ others) (m ∷ more) [] also are too same = absurd are
@@ -194,6 +179,7 @@ same_others (line ∷ lines) (entry ∷ entries) (other ∷ others) (m ∷ more)
     let rest = same_others lines entries others more redacted also are.1 too.1 first.1 in
     let head = first.0 in
     cc (head, rest)
+same_others _ _ others more redacted also are too same = absurd are
 
 -- ---- captures
 

@@ -28,13 +28,12 @@ frame_length f payload same =
 
 pub frames_length : (before fs gs : List Frame) → AreRedacted before fs gs → length (stream gs) ≡ length (stream fs)
 frames_length before [] [] are = refl
-frames_length before [] (g ∷ gs) are = absurd are
-frames_length before (f ∷ fs) [] are = absurd are
 frames_length before (f ∷ fs) (g ∷ gs) are =
     let payload = payload_length (unfinished before) f.op f.payload g.payload are.1 in
     let first : length (frame_bytes g) ≡ length (frame_bytes f) = ap (λ (h : Frame). length (frame_bytes h)) are.0 ∙ frame_length f g.payload payload in
     let rest = frames_length (before ++ f ∷ []) fs gs are.2 in
     omega (arith, first, rest, length-append (frame_bytes g) (stream gs), length-append (frame_bytes f) (stream fs))
+frames_length before _ _ are = absurd are
 
 module _ (role : Role) (limits : Limits) where
   pub rest_length : (fs : List Frame) (rest redacted : List ℕ) → IsRedactedRest role limits fs rest redacted → length redacted ≡ length rest

@@ -18,7 +18,7 @@ use Rattle.wsn_redact.specs.StandIns.{single_stand_in, IsRedactedToBad, IsRedact
 use Rattle.wsn_redact.specs.Redaction.{is_text, is_of_text, IsRedactedData, IsRedactedBody, IsRedactedPayload}
 use Rattle.wsn_redact.proofs.StoodTexts.{stood-append, length-stood, is_stood, redacted_begins, redacted_length, one_end}
 use Rattle.wsn_redact.proofs.RedactedPayloads.{payload_length}
-use Rattle.wsn_redact.proofs.RefusedEvidence.{of_text_is, close_is}
+use Rattle.wsn_redact.proofs.RefusedEvidence.{of_text_is}
 use Rattle.wsn_frame.proofs.HeadsAtOnce.{no_items}
 use Rattle.wsn_redact.proofs.RedactedEnds.{last_of}
 use Rattle.wsn_redact.proofs.KeptParts.{MayBegin}
@@ -26,6 +26,7 @@ use Rattle.std.specs.Int.{from_be_bytes, w16}
 use Rattle.wsn_text.specs.CloseBody.{IsAcceptedCode}
 use Rattle.wsn_redact.proofs.RedactedVerdicts.{SameGroup}
 use Rattle.wsn_redact.proofs.TextsStay.{begins_alike, text_alike}
+use Rattle.wsn_wire.proofs.HeadLemmas.{close_from_opcode}
 
 -- ---- texts
 
@@ -107,10 +108,7 @@ data_part true earlier part redacted is begins r = subst (λ (bs : List ℕ). Is
 pub payload_part : (group : List Frame) (op : Op) (part redacted : List ℕ) → is_of_text group op ≡ true → BeginsText (payload_of group) → IsRedactedPayload group op part redacted → IsRedacted (payload_of group ++ part) (stood [] (payload_of group) ++ redacted)
 payload_part group Continue part redacted is begins r = data_part (is_of_text group Continue) (payload_of group) part redacted is begins r
 payload_part group Text part redacted is begins r = data_part (is_of_text group Text) (payload_of group) part redacted is begins r
-payload_part group Binary part redacted is begins r = absurd cc
-payload_part group Close part redacted is begins r = absurd cc
-payload_part group Ping part redacted is begins r = absurd cc
-payload_part group Pong part redacted is begins r = absurd cc
+payload_part group _ part redacted is begins r = absurd cc
 
 -- ---- a Close's body
 
@@ -184,15 +182,11 @@ module _ (group redacted : List Frame) (same : SameGroup group redacted) (op : O
   size = payload_length group op payload part r
 
   body : opcode_field (first_byte fin op) ≡ 8 → IsBodyOf payload part
-  body is = by op (close_is op (sym field ∙ is)) r
+  body is = by op (close_from_opcode op (sym field ∙ is)) r
     where
       by : (o : Op) → o ≡ Close → IsRedactedPayload group o payload part → IsBodyOf payload part
       by Close closes given = body_of payload part given
-      by Continue closes given = absurd cc
-      by Text closes given = absurd cc
-      by Binary closes given = absurd cc
-      by Ping closes given = absurd cc
-      by Pong closes given = absurd cc
+      by _ closes given = absurd cc
 
   code_same : opcode_field (first_byte fin op) ≡ 8 → length payload ≡ 2 → part ≡ payload
   code_same is two =
@@ -214,19 +208,7 @@ module _ (group redacted : List Frame) (same : SameGroup group redacted) (op : O
   )
   evident_forth TextBad e = (of_text_forth group redacted (opcode_field (first_byte fin op)) same e.0, bad_forth (payload_of group ++ payload) (payload_of redacted ++ part) (whole_text e.0) e.1)
   evident_forth TextCut e = (of_text_forth group redacted (opcode_field (first_byte fin op)) same e.0, e.1, size ∙ e.2, (inside_alike (payload_of group ++ payload) (payload_of redacted ++ part) (whole_text e.0)).0 e.3)
-  evident_forth ReservedBits e = absurd e
-  evident_forth ReservedOpcode e = absurd e
-  evident_forth ControlNotFinal e = absurd e
-  evident_forth NothingToContinue e = absurd e
-  evident_forth MessageOpen e = absurd e
-  evident_forth MaskMissing e = absurd e
-  evident_forth MaskPresent e = absurd e
-  evident_forth ControlTooLong e = absurd e
-  evident_forth CloseOneByte e = absurd e
-  evident_forth LengthTopBit e = absurd e
-  evident_forth LengthNotMinimal e = absurd e
-  evident_forth MessageTooBig e = absurd e
-  evident_forth TooManyFrames e = absurd e
+  evident_forth _ e = absurd e
 
   pub evident_back : (reason : Reason) → EvidentByPayload redacted reason (first_byte fin op) total part → EvidentByPayload group reason (first_byte fin op) total payload
   evident_back CloseCode e = (e.0, sym size ∙ e.1, subst (λ (bs : List ℕ). ¬ (IsAcceptedCode (from_be_bytes w16 bs))) (code_same e.0 (sym size ∙ e.1)) e.2)
@@ -239,16 +221,4 @@ module _ (group redacted : List Frame) (same : SameGroup group redacted) (op : O
   )
   evident_back TextBad e = let own = of_text_back group redacted (opcode_field (first_byte fin op)) same e.0 in (own, bad_back (payload_of group ++ payload) (payload_of redacted ++ part) (whole_text own) e.1)
   evident_back TextCut e = let own = of_text_back group redacted (opcode_field (first_byte fin op)) same e.0 in (own, e.1, sym size ∙ e.2, (inside_alike (payload_of group ++ payload) (payload_of redacted ++ part) (whole_text own)).1 e.3)
-  evident_back ReservedBits e = absurd e
-  evident_back ReservedOpcode e = absurd e
-  evident_back ControlNotFinal e = absurd e
-  evident_back NothingToContinue e = absurd e
-  evident_back MessageOpen e = absurd e
-  evident_back MaskMissing e = absurd e
-  evident_back MaskPresent e = absurd e
-  evident_back ControlTooLong e = absurd e
-  evident_back CloseOneByte e = absurd e
-  evident_back LengthTopBit e = absurd e
-  evident_back LengthNotMinimal e = absurd e
-  evident_back MessageTooBig e = absurd e
-  evident_back TooManyFrames e = absurd e
+  evident_back _ e = absurd e

@@ -74,9 +74,7 @@ plain_after (b ∷ c ∷ front) text front_is is = ap (λ (t : List ℕ). b ∷ 
 -- names of extensions
 never_kept : (within : Within) → is_kept within 13 ≡ true → ⊥
 never_kept Name is = cc
-never_kept Value is = cc
-never_kept Quoted is = cc
-never_kept Escaped is = cc
+never_kept _ is = cc
 
 names_plain : (within : Within) (list : List ℕ) → without_cr (names_in within list) ≡ names_in within list
 names_plain within [] = refl

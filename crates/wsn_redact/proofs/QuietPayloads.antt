@@ -55,10 +55,7 @@ group_begins limits (g ∷ group) op may is of_text = by op refl of_text
     by : (o : Op) → op ≡ o → is_of_text (g ∷ group) o ≡ true → BeginsText (payload_of (g ∷ group))
     by Continue op_is t = is.begins (is_text_first g.op t)
     by Text op_is t = let none : g ∷ group ≡ [] = may.begins (inl op_is) in absurd cc
-    by Binary op_is t = absurd cc
-    by Close op_is t = absurd cc
-    by Ping op_is t = absurd cc
-    by Pong op_is t = absurd cc
+    by _ op_is t = absurd cc
 
 module _ (role : Role) (limits : Limits) (fs : List Frame) (seen : List ℕ) (info : HeadInfo) (b : BeginsWithHead role limits fs seen info) where
   abbrev field : LenForm

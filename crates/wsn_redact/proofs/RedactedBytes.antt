@@ -1,12 +1,11 @@
 -- The redaction of bytes is bytes.
-use Rattle.std.proofs.Common.{◌≡◌, ℕ, ◌+◌, ◌<◌, Bool, true, false, List, [], ◌∷◌, ◌++◌, length, take, drop, inl, inr, refl, sym, ap, ◌∙◌, subst, append_assoc, take-append-drop, arith}
+use Rattle.std.proofs.Common.{◌≡◌, ℕ, ◌+◌, Bool, true, false, List, [], ◌∷◌, ◌++◌, length, take, drop, inl, inr, refl, sym, subst, append_assoc}
 use Rattle.std.specs.List.{concat, flat_map}
-use Rattle.std.proofs.lemmas.Grind.{common_steps}
 use Rattle.wsn_wire.specs.declared.endpoint.Role.{Role}
 use Rattle.wsn_wire.specs.declared.opcode.Op.{Op}
 use Rattle.wsn_wire.specs.declared.opcode.Op.TheVariants.{Continue, Text, Binary, Close, Ping, Pong}
 use Rattle.wsn_wire.specs.Frame.{Frame, IsBytes, frame_bytes, stream, wire_payload}
-use Rattle.wsn_wire.proofs.FrameLemmas.{IsBytes-append, IsBytes-left, IsBytes-right, layout_of_frame}
+use Rattle.wsn_wire.proofs.FrameLemmas.{IsBytes-append, IsBytes-left, IsBytes-right, layout_of_frame, wire_payload_bytes}
 use Rattle.wsn_rules.specs.declared.verdict.Verdict.{Verdict}
 use Rattle.wsn_rules.specs.declared.verdict.Verdict.TheVariants.{Accepted, Cut, Refused}
 use Rattle.wsn_rules.specs.Limits.{Limits}
@@ -14,16 +13,14 @@ use Rattle.wsn_rules.specs.Group.{unfinished, payload_of}
 use Rattle.wsn_rules.specs.Lawful.{IsLawful}
 use Rattle.wsn_rules.specs.Verdict.{IsVerdict}
 use Rattle.wsn_redact.specs.StandIns.{single_stand_in, stand_in, stand_in_of, IsRedactedText, IsRedacted}
-use Rattle.wsn_redact.specs.Redaction.{zeros_for, is_of_text, IsRedactedPart, IsRedactedData, IsRedactedPayload, IsRedactedRest, judged, unjudged, IsRedaction, redacted_frames}
+use Rattle.wsn_redact.specs.Redaction.{zeros_for, is_of_text, IsRedactedData, IsRedactedPayload, IsRedactedRest, judged, unjudged, IsRedaction, redacted_frames}
 use Rattle.wsn_redact.proofs.RedactedPayloads.{are_redacted, one_frames}
 use Rattle.wsn_redact.proofs.RedactedLawful.{stand_in_bytes, zeros_bytes}
 use Rattle.wsn_redact.proofs.RedactedVerdicts.{frames_stay_lawful}
-use Rattle.wsn_redact.proofs.CutStays.{wire_bytes}
+use Rattle.wsn_redact.proofs.StandInNumbers.{single_small}
+use Rattle.wsn_rules.proofs.PlanTheory.MessageFrames.{bytes_drop, bytes_take}
 
 -- ---- a text
-
-single_small : (b : ℕ) → b < 256 → single_stand_in b < 256
-single_small b small = grind (arith, common_steps)
 
 stand_ins_bytes : (characters : List (List ℕ)) → IsBytes (concat characters) → IsBytes (flat_map stand_in_of characters)
 stand_ins_bytes [] all = tt
@@ -31,15 +28,9 @@ stand_ins_bytes ([] ∷ characters) all = stand_ins_bytes characters all
 stand_ins_bytes ((b ∷ more) ∷ characters) all =
     IsBytes-append (stand_in b) (flat_map stand_in_of characters) (stand_in_bytes b all.0) (stand_ins_bytes characters (IsBytes-right (b ∷ more) (concat characters) all))
 
-front_bytes : (n : ℕ) (bytes : List ℕ) → IsBytes bytes → IsBytes (take n bytes)
-front_bytes n bytes all = IsBytes-left (take n bytes) (drop n bytes) (subst IsBytes (sym (take-append-drop n bytes)) all)
-
-later_bytes : (n : ℕ) (bytes : List ℕ) → IsBytes bytes → IsBytes (drop n bytes)
-later_bytes n bytes all = IsBytes-right (take n bytes) (drop n bytes) (subst IsBytes (sym (take-append-drop n bytes)) all)
-
 begun_bytes : (begun : List ℕ) → IsBytes begun → IsBytes (take (length begun) (stand_in_of begun))
 begun_bytes [] all = tt
-begun_bytes (b ∷ begun) all = front_bytes (length (b ∷ begun)) (stand_in b) (stand_in_bytes b all.0)
+begun_bytes (b ∷ begun) all = bytes_take (length (b ∷ begun)) (stand_in b) (stand_in_bytes b all.0)
 
 text_bytes : (text redacted : List ℕ) → IsBytes text → IsRedactedText text redacted → IsBytes redacted
 text_bytes text redacted all is =
@@ -67,12 +58,10 @@ data_bytes false earlier payload redacted before all is = subst IsBytes (sym is)
 
 pub payload_in_bytes : (group : List Frame) (op : Op) (payload redacted : List ℕ) → IsBytes (payload_of group) → IsBytes payload → IsRedactedPayload group op payload redacted → IsBytes redacted
 payload_in_bytes group Close payload redacted before all is =
-    subst IsBytes (sym is.2) (IsBytes-append (take 2 payload) is.0 (front_bytes 2 payload all) (redacted_bytes (drop 2 payload) is.0 (later_bytes 2 payload all) is.1))
+    subst IsBytes (sym is.2) (IsBytes-append (take 2 payload) is.0 (bytes_take 2 payload all) (redacted_bytes (drop 2 payload) is.0 (bytes_drop 2 payload all) is.1))
 payload_in_bytes group Continue payload redacted before all is = data_bytes (is_of_text group Continue) (payload_of group) payload redacted before all is
 payload_in_bytes group Text payload redacted before all is = data_bytes true (payload_of group) payload redacted before all is
-payload_in_bytes group Binary payload redacted before all is = data_bytes false (payload_of group) payload redacted before all is
-payload_in_bytes group Ping payload redacted before all is = data_bytes false (payload_of group) payload redacted before all is
-payload_in_bytes group Pong payload redacted before all is = data_bytes false (payload_of group) payload redacted before all is
+payload_in_bytes group _ payload redacted before all is = data_bytes false (payload_of group) payload redacted before all is
 
 -- ---- a stream
 
@@ -92,7 +81,7 @@ module _ (role : Role) (limits : Limits) where
   judged_bytes : (v : Verdict) (bytes : List ℕ) → IsBytes bytes → IsBytes (judged v bytes)
   judged_bytes (Accepted s) bytes all = all
   judged_bytes (Cut s) bytes all = all
-  judged_bytes (Refused r) bytes all = front_bytes (r.place + 1) bytes all
+  judged_bytes (Refused r) bytes all = bytes_take (r.place + 1) bytes all
 
   rest_in_bytes : (fs : List Frame) (rest redacted : List ℕ) → IsBytes (payload_of (unfinished fs)) → IsBytes rest → IsRedactedRest role limits fs rest redacted → IsBytes redacted
   rest_in_bytes fs rest redacted before all (inl closed) = subst IsBytes (sym closed.1) (zeros_bytes rest)
@@ -100,9 +89,9 @@ module _ (role : Role) (limits : Limits) where
   rest_in_bytes fs rest redacted before all (inr (inr (no_close, is))) =
       let b = is.begins in
       let parts = subst IsBytes b.whole all in
-      let payload = wire_bytes is.info.key b.following b.key (IsBytes-right b.head b.following parts) in
+      let payload = wire_payload_bytes is.info.key b.following b.key (IsBytes-right b.head b.following parts) in
       let part = payload_in_bytes (unfinished fs) is.info.op (wire_payload is.info.key b.following) is.part before payload is.is_part in
-      subst IsBytes (sym is.redacted_is) (IsBytes-append b.head (wire_payload is.info.key is.part) (IsBytes-left b.head b.following parts) (wire_bytes is.info.key is.part b.key part))
+      subst IsBytes (sym is.redacted_is) (IsBytes-append b.head (wire_payload is.info.key is.part) (IsBytes-left b.head b.following parts) (wire_payload_bytes is.info.key is.part b.key part))
 
   pub redaction_bytes : (bytes redacted : List ℕ) → IsBytes bytes → IsRedaction role limits bytes redacted → IsBytes redacted
   redaction_bytes bytes redacted all d =
@@ -113,5 +102,5 @@ module _ (role : Role) (limits : Limits) where
       let stays = frames_stay_lawful role limits fs lawful in
       let same : at.frames ≡ redacted_frames [] fs = one_frames [] fs at.frames (redacted_frames [] fs) at.are_frames (are_redacted role limits [] fs lawful) in
       let frames : IsBytes (stream at.frames) = subst (λ (gs : List Frame). IsBytes (stream gs)) (sym same) (frames_bytes [] (redacted_frames [] fs) stays.lawful) in
-      let rest = rest_in_bytes fs (drop (length (stream fs)) (judged v bytes)) at.rest stays.same.in_bytes (later_bytes (length (stream fs)) (judged v bytes) (judged_bytes v bytes all)) at.is_rest in
+      let rest = rest_in_bytes fs (drop (length (stream fs)) (judged v bytes)) at.rest stays.same.in_bytes (bytes_drop (length (stream fs)) (judged v bytes) (judged_bytes v bytes all)) at.is_rest in
       subst IsBytes (sym at.whole) (IsBytes-append (stream at.frames) (at.rest ++ zeros_for (unjudged v bytes)) frames (IsBytes-append at.rest (zeros_for (unjudged v bytes)) rest (zeros_bytes (unjudged v bytes))))

@@ -56,12 +56,8 @@ last_of (b ∷ []) some = ([], b, refl)
 last_of (b ∷ c ∷ bytes) some = let rest = last_of (c ∷ bytes) (omega arith) in (b ∷ rest.0, rest.1, ap (λ (bs : List ℕ). b ∷ bs) rest.2)
 
 pub is_text_first : (op : Op) → is_text op ≡ true → op ≡ Text
-is_text_first Continue is = absurd cc
 is_text_first Text is = refl
-is_text_first Binary is = absurd cc
-is_text_first Close is = absurd cc
-is_text_first Ping is = absurd cc
-is_text_first Pong is = absurd cc
+is_text_first _ is = absurd cc
 
 module _ (role : Role) (limits : Limits) where
   -- ---- a refusal
@@ -289,12 +285,10 @@ module _ (role : Role) (limits : Limits) where
             subst BeginsText (text_of_push (unfinished h.frames) (frame_so_far info payload)) (own.text data_frame (is_text_first (first_op (unfinished h.frames ++ frame_so_far info payload ∷ [])) (text_of_group (unfinished h.frames) (frame_so_far info payload) may data_frame ∙ of_text)))
 
         by : (op : Op) → info.op ≡ op → HasText (unfinished h.frames) op payload
-        by Continue is = λ t. text (ap is_control is) (ap (λ (o : Op). is_of_text (unfinished h.frames) o) is ∙ t)
-        by Text is = λ t. text (ap is_control is) (ap (λ (o : Op). is_of_text (unfinished h.frames) o) is ∙ t)
-        by Binary is = λ t. text (ap is_control is) (ap (λ (o : Op). is_of_text (unfinished h.frames) o) is ∙ t)
         by Close is = close_begins info payload here is
         by Ping is = λ t. absurd cc
         by Pong is = λ t. absurd cc
+        by _ is = λ t. text (ap is_control is) (ap (λ (o : Op). is_of_text (unfinished h.frames) o) is ∙ t)
 
     rest_ends : (p : Position) → h.position ≡ p → IsRedactedRest role limits h.frames h.rest h.rest_written
     rest_ends BetweenFrames here = by (subst (λ (q : Position). IsRestWritten h.frames h.rest q h.rest_written) here h.is_rest) (between role limits scan came h.frames h.position h.rest h.followed here)

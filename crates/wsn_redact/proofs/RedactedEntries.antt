@@ -94,12 +94,11 @@ lines_entries : (lines : List (List ℕ)) (entries others : List Entry) (redacte
 lines_entries [] [] [] [] given all are = tt
 lines_entries [] [] [] (r ∷ redacted) given all are = absurd are
 lines_entries [] [] (other ∷ others) redacted given all are = absurd are
-lines_entries [] (entry ∷ entries) others redacted given all are = absurd are
-lines_entries (line ∷ lines) [] others redacted given all are = absurd are
 lines_entries (line ∷ lines) (entry ∷ entries) [] redacted given all are = absurd are
 lines_entries (line ∷ lines) (entry ∷ entries) (other ∷ others) [] given all are = absurd are
 lines_entries (line ∷ lines) (entry ∷ entries) (other ∷ others) (r ∷ redacted) given all are =
     (line_entry line r entry other given.0 (first_bytes other others all) are.0, lines_entries lines entries others redacted given.1 (other_bytes other others all) are.1)
+lines_entries _ _ others redacted given all are = absurd are
 
 pub text_alike : (before text : List ℕ) (entry other : Entry) → IsRedactedText before entry other text → IsAlike entry other
 text_alike before text Nothing Nothing is = tt
@@ -116,12 +115,11 @@ lines_alike : (lines : List (List ℕ)) (entries others : List Entry) (redacted 
 lines_alike [] [] [] [] are = tt
 lines_alike [] [] [] (r ∷ redacted) are = absurd are
 lines_alike [] [] (other ∷ others) redacted are = absurd are
-lines_alike [] (entry ∷ entries) others redacted are = absurd are
-lines_alike (line ∷ lines) [] others redacted are = absurd are
 lines_alike (line ∷ lines) (entry ∷ entries) [] redacted are = absurd are
 lines_alike (line ∷ lines) (entry ∷ entries) (other ∷ others) [] are = absurd are
 lines_alike (line ∷ lines) (entry ∷ entries) (other ∷ others) (r ∷ redacted) are =
     (text_alike (without_cr line) are.0.0 entry other are.0.1, lines_alike lines entries others redacted are.1)
+lines_alike _ _ others redacted are = absurd are
 
 -- ---- a capture
 
@@ -177,19 +175,17 @@ sizes_alike role (Mark r) (Bytes s others) is = absurd is
 
 pub ended_alike : (role : Role) (entries others : List Entry) → AreAlike entries others → has_ended role others ≡ has_ended role entries
 ended_alike role [] [] are = refl
-ended_alike role [] (other ∷ others) are = absurd are
-ended_alike role (entry ∷ entries) [] are = absurd are
 ended_alike role (entry ∷ entries) (other ∷ others) are =
     let first = marks_alike role entry other are.0 in
     let rest = ended_alike role entries others are.1 in
     λ i. first i || rest i
+ended_alike role _ _ are = absurd are
 
 pub sent_alike : (role : Role) (n : ℕ) (entries others : List Entry) → AreAlike entries others → length (sent role (take n others)) ≡ length (sent role (take n entries))
 sent_alike role zero entries others are = refl
 sent_alike role (suc n) [] [] are = refl
-sent_alike role (suc n) [] (other ∷ others) are = absurd are
-sent_alike role (suc n) (entry ∷ entries) [] are = absurd are
 sent_alike role (suc n) (entry ∷ entries) (other ∷ others) are =
     let first = sizes_alike role entry other are.0 in
     let rest = sent_alike role n entries others are.1 in
     omega (arith, first, rest, length-append (bytes_in role other) (sent role (take n others)), length-append (bytes_in role entry) (sent role (take n entries)))
+sent_alike role (suc n) _ _ are = absurd are

@@ -181,7 +181,7 @@ module _ (role : Role) (limits : Limits) where
   -- ---- an input whose bytes are known
 
   pub of_all : (old new : Incoming) (before after : Outgoing) (all : List ℕ) (result : Result Verdict Stop) → IsRedactedInput role limits old new before after result → old.remaining ≡ Some all → IsRedactedWhole role limits all before after result
-  of_all old new before after all result r known = by_rest new.remaining refl (subst (λ (o : Option (List ℕ)). Consumes o new.remaining r.came) known r.received.consumed)
+  of_all old new before after all result r known = by_rest new.remaining refl (subst (λ (o : Option (List ℕ)). Consumes o new.remaining r.came) known r.received.consumed.consumed)
     where
       by_answer : (rest : List ℕ) → new.remaining ≡ Some rest → all ≡ r.came ++ rest → (given : Result Verdict Stop) → IsRedactAnswer role limits new r.came before after given → IsRedactedWhole role limits all before after given
       by_answer rest left is (Ok verdict) a =

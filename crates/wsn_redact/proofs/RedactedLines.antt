@@ -100,10 +100,9 @@ entry_mark old limits entries others entry role held is are =
 last_line : (limits : Limits) (before : List Entry) (lines : List (List ℕ)) (entries : List Entry) (line : List ℕ) (entry : Entry) → AreAcceptedAfter limits before lines entries
     → AreAcceptedAfter limits before (lines ++ line ∷ []) (entries ++ entry ∷ []) → IsAcceptedLine limits (before ++ entries) line entry
 last_line limits before [] [] line entry are taken = subst (λ (given : List Entry). IsAcceptedLine limits given line entry) (sym (append-nil before)) taken.0
-last_line limits before [] (e ∷ entries) line entry are taken = absurd are
-last_line limits before (l ∷ lines) [] line entry are taken = absurd are
 last_line limits before (l ∷ lines) (e ∷ entries) line entry are taken =
     subst (λ (given : List Entry). IsAcceptedLine limits given line entry) (append_assoc before (e ∷ []) entries) (last_line limits (before ++ e ∷ []) lines entries line entry are.1 taken.1)
+last_line limits before _ _ line entry are taken = absurd are
 
 pub line_short : (limits : Limits) (old new : CaptureLines) (lines : List (List ℕ)) (entries : List Entry) (line : List ℕ) (entry : Entry) → HasAccepted limits old lines entries
     → HasAccepted limits new (lines ++ line ∷ []) (entries ++ entry ∷ []) → length (without_cr line) ≤ 8194
@@ -136,11 +135,10 @@ redacted_push : (lines : List (List ℕ)) (entries others : List Entry) (redacte
 redacted_push [] [] [] [] line entry other became are is = (is, tt)
 redacted_push [] [] [] (r ∷ redacted) line entry other became are is = absurd are
 redacted_push [] [] (o ∷ others) redacted line entry other became are is = absurd are
-redacted_push [] (e ∷ entries) others redacted line entry other became are is = absurd are
-redacted_push (l ∷ lines) [] others redacted line entry other became are is = absurd are
 redacted_push (l ∷ lines) (e ∷ entries) [] redacted line entry other became are is = absurd are
 redacted_push (l ∷ lines) (e ∷ entries) (o ∷ others) [] line entry other became are is = absurd are
 redacted_push (l ∷ lines) (e ∷ entries) (o ∷ others) (r ∷ redacted) line entry other became are is = (are.0, redacted_push lines entries others redacted line entry other became are.1 is)
+redacted_push _ _ others redacted line entry other became are is = absurd are
 
 pub one_more : (limits : Limits) (new : CaptureRedactor) (lines : List (List ℕ)) (entries others : List Entry) (redacted : List (List ℕ)) (line : List ℕ) (entry other : Entry) (became : List ℕ)
     → HasAccepted limits new.lines (lines ++ line ∷ []) (entries ++ entry ∷ []) → AreStreams limits new (entries ++ entry ∷ []) (others ++ other ∷ [])

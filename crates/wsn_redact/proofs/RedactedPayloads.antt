@@ -50,7 +50,7 @@ payload_is group Close payload has = (stood [] (drop 2 payload), inl (stood_is (
 payload_is group Ping payload has = of_part group payload (is_of_text group Ping) has
 payload_is group Pong payload has = of_part group payload (is_of_text group Pong) has
 
-length_of : (c : Bool) (xs ys : List ℕ) (n : ℕ) → length xs ≡ n → length ys ≡ n → length (if c then xs else ys) ≡ n
+pub length_of : (c : Bool) (xs ys : List ℕ) (n : ℕ) → length xs ≡ n → length ys ≡ n → length (if c then xs else ys) ≡ n
 length_of true xs ys n one other = one
 length_of false xs ys n one other = other
 
@@ -119,12 +119,8 @@ pub text_group : (limits : Limits) (role : Role) (before : List Frame) (f : Fram
 text_group limits role before f law of_text = by f.op (unfinished before) refl refl of_text
   where
     is_text_op : (op : Op) → is_text op ≡ true → op ≡ Text
-    is_text_op Continue h = absurd cc
     is_text_op Text h = refl
-    is_text_op Binary h = absurd cc
-    is_text_op Close h = absurd cc
-    is_text_op Ping h = absurd cc
-    is_text_op Pong h = absurd cc
+    is_text_op _ h = absurd cc
 
     by : (op : Op) (group : List Frame) → f.op ≡ op → unfinished before ≡ group → is_of_text group op ≡ true → (is_data f ≡ true) × (first_op (unfinished before ++ f ∷ []) ≡ Text)
     by Continue [] op_is group_is h = absurd cc
@@ -137,9 +133,7 @@ text_group limits role before f law of_text = by f.op (unfinished before) refl r
         let both : Text ≡ Continue = sym op_is ∙ continues in
         absurd cc
     by Binary group op_is group_is h = absurd cc
-    by Close group op_is group_is h = absurd cc
-    by Ping group op_is group_is h = absurd cc
-    by Pong group op_is group_is h = absurd cc
+    by _ group op_is group_is h = absurd cc
 
 pub lawful_text : (role : Role) (limits : Limits) (before : List Frame) (f : Frame) → LawAt role limits before f → HasText (unfinished before) f.op f.payload
 lawful_text role limits before f law = by f.op refl
@@ -168,11 +162,10 @@ are_redacted role limits before (f ∷ fs) lawful =
 pub one_frames : (before fs gs others : List Frame) → AreRedacted before fs gs → AreRedacted before fs others → gs ≡ others
 one_frames before [] [] [] are also = refl
 one_frames before [] [] (h ∷ others) are also = absurd also
-one_frames before [] (g ∷ gs) others are also = absurd are
-one_frames before (f ∷ fs) [] others are also = absurd are
 one_frames before (f ∷ fs) (g ∷ gs) [] are also = absurd also
 one_frames before (f ∷ fs) (g ∷ gs) (h ∷ others) are also =
     let payload : g.payload ≡ h.payload = one_payload (unfinished before) f.op f.payload g.payload h.payload are.1 also.1 in
     let first : g ≡ h = are.0 ∙ ap (λ (bs : List ℕ). with_payload f bs) payload ∙ sym also.0 in
     let rest = one_frames (before ++ f ∷ []) fs gs others are.2 also.2 in
     λ i. first i ∷ rest i
+one_frames before _ _ others are also = absurd are

@@ -91,9 +91,7 @@ pub same_kept : (old new : Redactor) (group : List Frame) (op : Op) (payload : L
 same_kept old new group Close payload due text reason k = (ap due_of due ∙ k.0, subst (λ (r : Option (List Range)). HasValidated r (drop 2 payload)) (sym reason) k.1)
 same_kept old new group Ping payload due text reason k = λ some. let o = k some in (text ∙ o.0, λ is. ap due_of due ∙ o.1 is)
 same_kept old new group Pong payload due text reason k = λ some. let o = k some in (text ∙ o.0, λ is. ap due_of due ∙ o.1 is)
-same_kept old new group Continue payload due text reason k = (text ∙ k.0, λ is. ap due_of due ∙ k.1 is)
-same_kept old new group Text payload due text reason k = (text ∙ k.0, λ is. ap due_of due ∙ k.1 is)
-same_kept old new group Binary payload due text reason k = (text ∙ k.0, λ is. ap due_of due ∙ k.1 is)
+same_kept old new group _ payload due text reason k = (text ∙ k.0, λ is. ap due_of due ∙ k.1 is)
 
 wire_none : (key : Option (List ℕ)) → wire_payload key [] ≡ []
 wire_none None = refl

@@ -141,6 +141,4 @@ pub payload_twice : (group redacted : List Frame) (op : Op) (payload : List ℕ)
 payload_twice group redacted Close payload first text has = body_twice payload has
 payload_twice group redacted Continue payload first text has = data_twice (is_of_text group Continue) (is_of_text redacted Continue) (payload_of group) (payload_of redacted) payload (ap is_text first) text has
 payload_twice group redacted Text payload first text has = data_twice true true (payload_of group) (payload_of redacted) payload refl text has
-payload_twice group redacted Binary payload first text has = zeros_twice payload
-payload_twice group redacted Ping payload first text has = zeros_twice payload
-payload_twice group redacted Pong payload first text has = zeros_twice payload
+payload_twice group redacted _ payload first text has = zeros_twice payload

@@ -3,7 +3,7 @@ use Rattle.std.proofs.Common.{◌≡◌, ◌≢◌, ℕ, ◌+◌, ◌-◌, ◌�
 use Rattle.std.specs.Int.{to_be_bytes, w16}
 use Rattle.std.specs.Option.{ForSome}
 use Rattle.std.proofs.lemmas.Bool.{cases_Bool, cond-true}
-use Rattle.std.proofs.lemmas.List.{take_at, drop_at}
+use Rattle.std.proofs.lemmas.List.{take_at, drop_at, nil_from_length}
 use Rattle.wsn_wire.specs.declared.endpoint.Role.{Role}
 use Rattle.wsn_wire.specs.declared.opcode.Op.{Op}
 use Rattle.wsn_wire.specs.declared.opcode.Op.TheVariants.{Continue, Text, Binary, Close, Ping, Pong}
@@ -62,18 +62,13 @@ payload_bytes group Close payload before all = IsBytes-append (take 2 payload) (
     whole = subst IsBytes (sym (take-append-drop 2 payload)) all
 payload_bytes group Continue payload before all = either_bytes (is_of_text group Continue) (stood (due_after [] (payload_of group)) payload) (zeros_for payload) (stood_bytes (due_after [] (payload_of group)) payload (due_bytes [] (payload_of group) tt before) all) (zeros_bytes payload)
 payload_bytes group Text payload before all = stood_bytes (due_after [] (payload_of group)) payload (due_bytes [] (payload_of group) tt before) all
-payload_bytes group Binary payload before all = zeros_bytes payload
-payload_bytes group Ping payload before all = zeros_bytes payload
-payload_bytes group Pong payload before all = zeros_bytes payload
+payload_bytes group _ payload before all = zeros_bytes payload
 
 -- A data frame of a text.
 text_payload : (group : List Frame) (op : Op) (payload : List ℕ) → is_of_text group op ≡ true → redacted_payload group op payload ≡ stood (due_after [] (payload_of group)) payload
 text_payload group Continue payload is = cond-true (is_of_text group Continue) (stood (due_after [] (payload_of group)) payload) (zeros_for payload) is
 text_payload group Text payload is = refl
-text_payload group Binary payload is = absurd cc
-text_payload group Close payload is = absurd cc
-text_payload group Ping payload is = absurd cc
-text_payload group Pong payload is = absurd cc
+text_payload group _ payload is = absurd cc
 
 module _ (group redacted : List Frame) (same : SameGroup group redacted) (f : Frame) (may : MayBegin group f.op) (data_frame : is_data f ≡ true) (all : IsBytes f.payload) where
   abbrev g : Frame
@@ -153,18 +148,13 @@ module _ (role : Role) (limits : Limits) (before after : List Frame) (f : Frame)
           masked = e.masked;
           shortest = e.shortest;
           control = λ is. let c = e.control is in record { final = c.final; short = (let most = c.short in omega (arith, most, size_is)); shortest = c.shortest };
-          close = λ is one. e.close is (sym size_is ∙ one);
         };
         close = λ is. by f.op refl (law.frame.close is) is;
       }
     where
       by : (op : Op) → f.op ≡ op → IsCloseBody f.payload → op ≡ Close → IsCloseBody (redacted_payload (unfinished before) op f.payload)
       by Close op_is body is = body_stays f.payload body
-      by Continue op_is body is = absurd cc
-      by Text op_is body is = absurd cc
-      by Binary op_is body is = absurd cc
-      by Ping op_is body is = absurd cc
-      by Pong op_is body is = absurd cc
+      by _ op_is body is = absurd cc
 
   may_be : MayBegin (unfinished before) f.op
   may_be = may_lawful role limits before f law
@@ -283,10 +273,6 @@ pub close_stays : (fs : List Frame) → EndsWithClose fs → EndsWithClose (reda
 close_stays fs (before, close, closes, is) =
     (redacted_frames [] before, with_payload close (redacted_payload (unfinished before) close.op close.payload), closes, ap (λ (gs : List Frame). redacted_frames [] gs) is ∙ redacted_push [] before close)
 
-pub no_frames : (xs : List Frame) → length xs ≡ 0 → xs ≡ []
-no_frames [] none = refl
-no_frames (x ∷ xs) none = absurd (omega (arith, none))
-
 module _ (role : Role) (limits : Limits) where
   -- The redaction of an accepted stream is accepted, with the same heads.
   pub stays_accepted : (bytes redacted : List ℕ) (fs : List Frame) → IsAccepted role limits bytes fs → IsRedaction role limits bytes redacted → IsAccepted role limits redacted (redacted_frames [] fs)
@@ -307,7 +293,7 @@ module _ (role : Role) (limits : Limits) where
               let none : at.rest ≡ [] = no_items at.rest (omega (arith, count, size, length-drop (length (stream fs)) bytes)) in
               let open_count = stays.same.count in
               let open_none = ap (λ (gs : List Frame). length gs) ends.1 in
-              inl (no_close_stays fs ends.0, no_frames (unfinished (redacted_frames [] fs)) (omega (arith, open_count, open_none)), whole ∙ ap (λ (bs : List ℕ). stream (redacted_frames [] fs) ++ bs) none ∙ append-nil (stream (redacted_frames [] fs)))
+              inl (no_close_stays fs ends.0, nil_from_length (unfinished (redacted_frames [] fs)) (omega (arith, open_count, open_none)), whole ∙ ap (λ (bs : List ℕ). stream (redacted_frames [] fs) ++ bs) none ∙ append-nil (stream (redacted_frames [] fs)))
           | inr ends ↦ inr (close_stays fs ends.0, (at.rest, whole))
         ];
       }

@@ -34,11 +34,12 @@ use Rattle.wsn_redact.proofs.RedactedVerdicts.{SameGroup, none_same, redacted_fr
 use Rattle.wsn_redact.proofs.AcceptedTwice.{frames_twice}
 use Rattle.wsn_redact.proofs.TextsStay.{begins_alike}
 use Rattle.wsn_redact.proofs.PayloadsAlike.{body_of}
-use Rattle.wsn_redact.proofs.RefusedStays.{wire_twice}
+use Rattle.wsn_redact.proofs.PayloadsStay.{head_before, head_after}
 use Rattle.wsn_redact.proofs.SameVerdicts.{verdict_stays}
-use Rattle.wsn_redact.proofs.TwiceIsOnce.{whole_text, head_before, head_after, divided, redaction_twice}
+use Rattle.wsn_redact.proofs.TwiceIsOnce.{whole_text, divided, redaction_twice}
 use Rattle.wsn_redact.proofs.AlikeRedactions.{first_alike, begun_by}
 use Rattle.wsn_redact.proofs.KindsOfBytes.{single_back, first_back}
+use Rattle.wsn_wire.proofs.FrameLemmas.{wire_payload_twice}
 
 -- ---- the character with which a text begins
 
@@ -271,9 +272,7 @@ module _ (group others redacted : List Frame) (same : SameGroup group redacted) 
           (size, sym b.code ∙ c.code, texts_back (drop 2 payload) (drop 2 other) (drop 2 part) b.reason c.reason)
       by Continue m n x y size = data_back (is_of_text group Continue) (payload_of group) (payload_of others) payload other size (λ is. either_text Continue m n x y is (ap is_text (sym other_same.first ∙ same.first) ∙ is))
       by Text m n x y size = (size, either_text Text m n x y refl refl)
-      by Binary m n x y size = size
-      by Ping m n x y size = size
-      by Pong m n x y size = size
+      by _ m n x y size = size
 
 -- ---- frames
 
@@ -284,8 +283,6 @@ module _ (role : Role) (limits : Limits) where
   -- The frames before a lawful one are lawful.
   frames_back : (before others after fs gs : List Frame) → IsLawful role limits (before ++ fs) → IsLawful role limits (others ++ gs) → SameGroup (unfinished before) (unfinished after) → SameGroup (unfinished others) (unfinished after) → redacted_frames before fs ≡ redacted_frames others gs → AreAlikeFrames before others fs gs
   frames_back before others after [] [] lawful other_lawful same other_same is = tt
-  frames_back before others after [] (g ∷ gs) lawful other_lawful same other_same is = absurd cc
-  frames_back before others after (f ∷ fs) [] lawful other_lawful same other_same is = absurd cc
   frames_back before others after (f ∷ fs) (g ∷ gs) lawful other_lawful same other_same is =
       let law = lawful.each before fs f refl in
       let other_law = other_lawful.each others gs g refl in
@@ -307,6 +304,7 @@ module _ (role : Role) (limits : Limits) where
         payloads_back (unfinished before) (unfinished others) (unfinished after) same other_same f.payload g.payload h.payload f.op may other_may mine own,
         frames_back (before ++ f ∷ []) (others ++ g ∷ []) (after ++ h ∷ []) fs gs (subst (IsLawful role limits) (sym (append_assoc before (f ∷ []) fs)) lawful) (subst (IsLawful role limits) (sym (append_assoc others (g ∷ []) gs)) other_lawful) next other_next rest,
       )
+  frames_back before others after _ _ lawful other_lawful same other_same is = absurd cc
 
 -- ---- what follows them
 
@@ -323,7 +321,7 @@ module _ (role : Role) (limits : Limits) (fs gs hs : List Frame) (lawful : IsLaw
       let x = begun_by role limits gs other_seen rest info c s in
       let head : b.head ≡ c.head = b.encoded ∙ sym c.encoded in
       let wires : wire_payload info.key r.part ≡ wire_payload info.key x.part = append_cancel c.head (wire_payload info.key r.part) (wire_payload info.key x.part) (ap (λ (bs : List ℕ). bs ++ wire_payload info.key r.part) (sym head) ∙ sym r.redacted_is ∙ x.redacted_is) in
-      let part : x.part ≡ r.part = sym (wire_twice info.key x.part) ∙ ap (λ (bs : List ℕ). wire_payload info.key bs) (sym wires) ∙ wire_twice info.key r.part in
+      let part : x.part ≡ r.part = sym (wire_payload_twice info.key x.part) ∙ ap (λ (bs : List ℕ). wire_payload info.key bs) (sym wires) ∙ wire_payload_twice info.key r.part in
       let own = subst (λ (bs : List ℕ). IsRedactedPayload (unfinished gs) info.op (wire_payload info.key c.following) bs) part x.is_part in
       record {
         info = info;

@@ -31,6 +31,7 @@ use Rattle.wsn_redact.specs.Keeping.{replaced, IsBadReason, KeepsIn, refused_par
 use Rattle.wsn_redact.proofs.StoodTexts.{stood-append, length-stood, stood_is}
 use Rattle.wsn_redact.proofs.RedactedPayloads.{HasText, payload_is}
 use Rattle.wsn_redact.proofs.KeptParts.{MayBegin, joined_split, payload_more}
+use Rattle.wsn_wire.proofs.HeadLemmas.{close_from_opcode}
 
 -- ---- the evidence is in the payload
 
@@ -67,39 +68,35 @@ module _ (role : Role) (limits : Limits) (fs : List Frame) (seen : List ℕ) (in
   long : 2 ≤ length b.head
   long = begins_two role limits fs b.head info alone
 
-  pub in_payload : (reason : Reason) → Evidence role limits (unfinished fs) reason seen → EvidentByPayload (unfinished fs) reason (first_byte info.fin info.op) info.len (wire_payload info.key b.following)
+  -- The evidence is in the payload, and the payload so far is no longer than the frame's.
+  both : (reason : Reason) → Evidence role limits (unfinished fs) reason seen
+      → EvidentByPayload (unfinished fs) reason (first_byte info.fin info.op) info.len (wire_payload info.key b.following) × (length b.following ≤ info.len)
   unfolding alone
-  in_payload reason (ByFirst first is row) = let size = ap (λ (bs : List ℕ). length bs) is in absurd (omega (arith, size, all, long, some))
-  in_payload reason (BySecond first second is row) = let size = ap (λ (bs : List ℕ). length bs) is in absurd (omega (arith, size, all, long, some))
-  in_payload reason (ByLength first second len is count row) =
+  both reason (ByFirst first is row) = let size = ap (λ (bs : List ℕ). length bs) is in absurd (omega (arith, size, all, long, some))
+  both reason (BySecond first second is row) = let size = ap (λ (bs : List ℕ). length bs) is in absurd (omega (arith, size, all, long, some))
+  both reason (ByLength first second len is count row) =
       let parts = head_parts b.head b.following first second len long (sym b.whole ∙ is) in
       let came = head_came info [] first second parts.0 (encodable_begun role limits fs b.head info alone) (sym (begun_is role limits fs b.head info alone) ∙ parts.1) in
       let size : length len ≡ length parts.0 + length b.following = ap (λ (bs : List ℕ). length bs) parts.2 ∙ length-append parts.0 b.following in
       absurd (omega (arith, came, size, count, some))
-  in_payload reason (ByPayload p row) =
+  both reason (ByPayload p row) =
       let same = same_parts info b.following p.first p.second p.len p.key p.wire (encodable_begun role limits fs seen info b) (sym (begun_is role limits fs seen info b) ∙ p.whole) p.len_count p.key_counted in
       let payload : wire_payload info.key b.following ≡ unmasked p.second p.key p.wire =
       ap (λ (bs : List ℕ). wire_payload info.key bs) same.following_is ∙ unmasked_is info.key p.second p.key p.wire same.mask_is same.key_is in
-      subst (λ (bs : List ℕ). EvidentByPayload (unfinished fs) reason (first_byte info.fin info.op) info.len bs) (sym payload)
-      (subst (λ (n : ℕ). EvidentByPayload (unfinished fs) reason (first_byte info.fin info.op) n (unmasked p.second p.key p.wire)) (sym same.len_is)
-      (subst (λ (f : ℕ). EvidentByPayload (unfinished fs) reason f (encoded_length (len_form_at p.second) p.len) (unmasked p.second p.key p.wire)) (sym same.first_is) row))
-
-  -- The payload so far is no longer than the frame's.
-  pub within_payload : (reason : Reason) → Evidence role limits (unfinished fs) reason seen → length b.following ≤ info.len
-  unfolding alone
-  within_payload reason (ByFirst first is row) = let size = ap (λ (bs : List ℕ). length bs) is in absurd (omega (arith, size, all, long, some))
-  within_payload reason (BySecond first second is row) = let size = ap (λ (bs : List ℕ). length bs) is in absurd (omega (arith, size, all, long, some))
-  within_payload reason (ByLength first second len is count row) =
-      let parts = head_parts b.head b.following first second len long (sym b.whole ∙ is) in
-      let came = head_came info [] first second parts.0 (encodable_begun role limits fs b.head info alone) (sym (begun_is role limits fs b.head info alone) ∙ parts.1) in
-      let size : length len ≡ length parts.0 + length b.following = ap (λ (bs : List ℕ). length bs) parts.2 ∙ length-append parts.0 b.following in
-      absurd (omega (arith, came, size, count, some))
-  within_payload reason (ByPayload p row) =
-      let same = same_parts info b.following p.first p.second p.len p.key p.wire (encodable_begun role limits fs seen info b) (sym (begun_is role limits fs seen info b) ∙ p.whole) p.len_count p.key_counted in
       let count = ap (λ (bs : List ℕ). length bs) same.following_is in
       let len = same.len_is in
-      let most = p.within in
-      omega (arith, count, len, most)
+      let most = p.within in (
+        subst (λ (bs : List ℕ). EvidentByPayload (unfinished fs) reason (first_byte info.fin info.op) info.len bs) (sym payload)
+        (subst (λ (n : ℕ). EvidentByPayload (unfinished fs) reason (first_byte info.fin info.op) n (unmasked p.second p.key p.wire)) (sym same.len_is)
+        (subst (λ (f : ℕ). EvidentByPayload (unfinished fs) reason f (encoded_length (len_form_at p.second) p.len) (unmasked p.second p.key p.wire)) (sym same.first_is) row)),
+        omega (arith, count, len, most),
+      )
+
+  pub in_payload : (reason : Reason) → Evidence role limits (unfinished fs) reason seen → EvidentByPayload (unfinished fs) reason (first_byte info.fin info.op) info.len (wire_payload info.key b.following)
+  in_payload reason evidence = (both reason evidence).0
+
+  pub within_payload : (reason : Reason) → Evidence role limits (unfinished fs) reason seen → length b.following ≤ info.len
+  within_payload reason evidence = (both reason evidence).1
 
 -- ---- what is written for the payload
 
@@ -111,14 +108,6 @@ of_text_is (g ∷ group) Binary may of_text = let none : g ∷ group ≡ [] = ma
 of_text_is (g ∷ group) Close may of_text = let few = of_text.0 in absurd (omega (arith, few))
 of_text_is (g ∷ group) Ping may of_text = let few = of_text.0 in absurd (omega (arith, few))
 of_text_is (g ∷ group) Pong may of_text = let few = of_text.0 in absurd (omega (arith, few))
-
-pub close_is : (op : Op) → opcode op ≡ 8 → op ≡ Close
-close_is Continue is = absurd (omega (arith, is))
-close_is Text is = absurd (omega (arith, is))
-close_is Binary is = absurd (omega (arith, is))
-close_is Close is = refl
-close_is Ping is = absurd (omega (arith, is))
-close_is Pong is = absurd (omega (arith, is))
 
 true_or_not : (c : Bool) → c ≡ true → c ≡ false → ⊥
 true_or_not c is_on is_off = let both : true ≡ false = sym is_on ∙ is_off in cc
@@ -192,10 +181,7 @@ module _ (kept : Redactor) (group : List Frame) (op : Op) (before front : List �
       by : (o : Op) → is_of_text group o ≡ true → IsRedactedPayload group o whole (redacted_payload group o (before ++ front) ++ single_stand_in last ∷ [])
       by Continue t = wrong_text (is_of_text group Continue) t ends
       by Text t = wrong_text (is_of_text group Text) t ends
-      by Binary t = absurd cc
-      by Close t = absurd cc
-      by Ping t = absurd cc
-      by Pong t = absurd cc
+      by _ t = absurd cc
 
   text_goes_on : is_of_text group op ≡ true → (reason ≡ TextBad → ⊥) → BeginsText (payload_of group ++ whole) → IsRedactedPayload group op whole part
   text_goes_on is other begins = by op refl is
@@ -203,10 +189,7 @@ module _ (kept : Redactor) (group : List Frame) (op : Op) (before front : List �
       by : (o : Op) → op ≡ o → is_of_text group o ≡ true → IsRedactedPayload group op whole part
       by Continue op_is t = right (not_wrong (subst (λ (o : Op). IsBadReason kept o evidence bad) op_is is_bad) other) (subst (λ (o : Op). HasText group o whole) (sym op_is) (λ _. begins))
       by Text op_is t = right (not_wrong (subst (λ (o : Op). IsBadReason kept o evidence bad) op_is is_bad) other) (subst (λ (o : Op). HasText group o whole) (sym op_is) (λ _. begins))
-      by Binary op_is t = absurd cc
-      by Close op_is t = absurd cc
-      by Ping op_is t = absurd cc
-      by Pong op_is t = absurd cc
+      by _ op_is t = absurd cc
 
   -- ---- a Close's reason
 
@@ -254,7 +237,7 @@ module _ (kept : Redactor) (group : List Frame) (op : Op) (before front : List �
     field = (first_byte_fields fin op).opcode_is
 
     is_close_op : opcode_field (first_byte fin op) ≡ 8 → op ≡ Close
-    is_close_op is = close_is op (sym field ∙ is)
+    is_close_op is = close_from_opcode op (sym field ∙ is)
 
     is_text_op : IsOfText group (opcode_field (first_byte fin op)) → is_of_text group op ≡ true
     is_text_op is = of_text_is group op may (subst (IsOfText group) field is)
@@ -270,15 +253,4 @@ module _ (kept : Redactor) (group : List Frame) (op : Op) (before front : List �
       | inr inside ↦ reason_goes_on (is_close_op e.0) (λ also. let both : CloseReason ≡ TextBad = sym is ∙ also in cc) inside.1.0
     ]
     refused_payload ReservedBits is e = absurd e
-    refused_payload ReservedOpcode is e = absurd e
-    refused_payload ControlNotFinal is e = absurd e
-    refused_payload NothingToContinue is e = absurd e
-    refused_payload MessageOpen is e = absurd e
-    refused_payload MaskMissing is e = absurd e
-    refused_payload MaskPresent is e = absurd e
-    refused_payload ControlTooLong is e = absurd e
-    refused_payload CloseOneByte is e = absurd e
-    refused_payload LengthTopBit is e = absurd e
-    refused_payload LengthNotMinimal is e = absurd e
-    refused_payload MessageTooBig is e = absurd e
-    refused_payload TooManyFrames is e = absurd e
+    refused_payload _ is e = absurd e

@@ -11,7 +11,7 @@ use Rattle.std.specs.List.{slice_index}
 use Rattle.wsn_redact.specs.Redaction.{zeros_for}
 use Rattle.wsn_redact.specs.Keeping.{replaced}
 use Rattle.wsn_redact.proofs.StoodTexts.{stood-append, length-stood}
-use Rattle.wsn_redact.proofs.RedactedPayloads.{length-zeros, zeros-append}
+use Rattle.wsn_redact.proofs.RedactedPayloads.{length-zeros, zeros-append, length_of}
 
 -- A result that is no error.
 pub err_or_ok : {T E : Type 0} (result : Result T E) (bad : Bool) (P : Type 0) → bad ≡ is_err result → (IsOk result ↔ P) → (bad ≡ false ↔ P)
@@ -28,19 +28,13 @@ split_at_count n k bytes (inr all) =
       drop_all n bytes (omega (arith, size)) ∙ sym (drop_all k bytes few),
     )
 
-length_if : (c : Bool) (xs ys : List ℕ) (n : ℕ) → length xs ≡ n → length ys ≡ n → length (if c then xs else ys) ≡ n
-length_if true xs ys n one other = one
-length_if false xs ys n one other = other
-
 pub length-replaced : (op : Op) (text : Bool) (due : List ℕ) (done : ℕ) (payload : List ℕ) → length (replaced op text due done payload) ≡ length payload
 length-replaced Close text due done payload =
     length-append (take (2 - done) payload) (stood due (drop (2 - done) payload)) ∙ ap (λ (n : ℕ). length (take (2 - done) payload) + n) (length-stood due (drop (2 - done) payload))
     ∙ sym (length-append (take (2 - done) payload) (drop (2 - done) payload)) ∙ ap (λ (bs : List ℕ). length bs) (take-append-drop (2 - done) payload)
 length-replaced Ping text due done payload = length-zeros payload
 length-replaced Pong text due done payload = length-zeros payload
-length-replaced Continue text due done payload = length_if text (stood due payload) (zeros_for payload) (length payload) (length-stood due payload) (length-zeros payload)
-length-replaced Text text due done payload = length_if text (stood due payload) (zeros_for payload) (length payload) (length-stood due payload) (length-zeros payload)
-length-replaced Binary text due done payload = length_if text (stood due payload) (zeros_for payload) (length payload) (length-stood due payload) (length-zeros payload)
+length-replaced _ text due done payload = length_of text (stood due payload) (zeros_for payload) (length payload) (length-stood due payload) (length-zeros payload)
 
 -- With one byte more.
 record IsPushed (front all : List ℕ) : Type 0 where
@@ -77,9 +71,7 @@ pub replaced_push : (op : Op) (text : Bool) (due : List ℕ) (done : ℕ) (front
 replaced_push Close text due done front b = let p = body_push due front (2 - done) b in (p.last, p.is)
 replaced_push Ping text due done front b = (0, zeros-append front (b ∷ []))
 replaced_push Pong text due done front b = (0, zeros-append front (b ∷ []))
-replaced_push Continue text due done front b = let p = data_push text due front b in (p.last, p.is)
-replaced_push Text text due done front b = let p = data_push text due front b in (p.last, p.is)
-replaced_push Binary text due done front b = let p = data_push text due front b in (p.last, p.is)
+replaced_push _ text due done front b = let p = data_push text due front b in (p.last, p.is)
 
 -- The last byte of a part.
 pub last_at : (bytes front : List ℕ) (last end : ℕ) → bytes ≡ front ++ last ∷ [] → end + 1 ≡ length bytes → get_or bytes end 0 ≡ last

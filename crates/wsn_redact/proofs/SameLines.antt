@@ -115,12 +115,11 @@ lines_alike : (lines : List (List ℕ)) (entries others : List Entry) (redacted 
 lines_alike [] [] [] [] given all are = tt
 lines_alike [] [] [] (r ∷ redacted) given all are = absurd are
 lines_alike [] [] (other ∷ others) redacted given all are = absurd are
-lines_alike [] (entry ∷ entries) others redacted given all are = absurd are
-lines_alike (line ∷ lines) [] others redacted given all are = absurd are
 lines_alike (line ∷ lines) (entry ∷ entries) [] redacted given all are = absurd are
 lines_alike (line ∷ lines) (entry ∷ entries) (other ∷ others) [] given all are = absurd are
 lines_alike (line ∷ lines) (entry ∷ entries) (other ∷ others) (r ∷ redacted) given all are =
     (line_alike line r entry other given.0 (first_bytes other others all) are.0, lines_alike lines entries others redacted given.1 (other_bytes other others all) are.1)
+lines_alike _ _ others redacted given all are = absurd are
 
 pub capture_alike : (limits : Limits) (lines redacted : List (List ℕ)) → IsRedactedCapture limits lines redacted → AreAlikeLines lines redacted
 capture_alike limits lines redacted c = lines_alike lines c.entries c.others redacted (entries_given limits lines redacted c) (others_bytes limits lines redacted c) c.each
@@ -146,8 +145,6 @@ none_said role (k, x, within, at, holds) = omega (arith, within)
 
 say_reset : (role : Role) (lines others : List (List ℕ)) → AreAlikeLines lines others → SayReset lines role ↔ SayReset others role
 say_reset role [] [] are = (λ said. said, λ said. said)
-say_reset role [] (other ∷ others) are = absurd are
-say_reset role (line ∷ lines) [] are = absurd are
 say_reset role (line ∷ lines) (other ∷ others) are =
     let rest = say_reset role lines others are.1 in (
       λ said. elim (first_or_later (Resets role) line lines said) [
@@ -159,6 +156,7 @@ say_reset role (line ∷ lines) (other ∷ others) are =
         | inr later ↦ is_later (Resets role) line lines (rest.1 later)
       ],
     )
+say_reset role _ _ are = absurd are
 
 marks_alike : (entry other : Entry) → IsAlike entry other → marks_in other ≡ marks_in entry
 marks_alike Nothing Nothing is = refl
@@ -173,12 +171,11 @@ marks_alike (Mark r) (Bytes s others) is = absurd is
 
 same_marks : (entries others : List Entry) → AreAlike entries others → end_marks others ≡ end_marks entries
 same_marks [] [] are = refl
-same_marks [] (other ∷ others) are = absurd are
-same_marks (entry ∷ entries) [] are = absurd are
 same_marks (entry ∷ entries) (other ∷ others) are =
     let first = marks_alike entry other are.0 in
     let rest = same_marks entries others are.1 in
     λ i. first i ++ rest i
+same_marks _ _ are = absurd are
 
 iff_then : {A B C : Type 0} → A ↔ B → B ↔ C → A ↔ C
 iff_then ab bc = (λ a. bc.0 (ab.0 a), λ c. ab.1 (bc.1 c))

@@ -34,11 +34,7 @@ first_close_stays before (f ∷ fs) = by (first_close_stays (before ++ f ∷ [])
   where
     by : close_of (redacted_frames (before ++ f ∷ []) fs) ≡ close_of fs → (op : Op) → ◌≡◌ {A = Option (Option ℕ)} (if is_close op then Some (close_code (redacted_payload (unfinished before) op f.payload)) else close_of (redacted_frames (before ++ f ∷ []) fs)) (if is_close op then Some (close_code f.payload) else close_of fs)
     by rest Close = ap (λ (c : Option ℕ). Some c) (code_stays f.payload)
-    by rest Continue = rest
-    by rest Text = rest
-    by rest Binary = rest
-    by rest Ping = rest
-    by rest Pong = rest
+    by rest _ = rest
 
 length_stays : (before fs : List Frame) → length (redacted_frames before fs) ≡ length fs
 length_stays before [] = refl

@@ -40,7 +40,7 @@ either : (P : List ℕ → Type 0) (c : Bool) (xs ys : List ℕ) → P xs → P 
 either P true xs ys one other = one
 either P false xs ys one other = other
 
-single_small : (b : ℕ) → b < 256 → single_stand_in b < 256
+pub single_small : (b : ℕ) → b < 256 → single_stand_in b < 256
 single_small b to = grind (arith, common_steps)
 
 one_byte : (b : ℕ) → b < 256 → IsBegun (b ∷ [])

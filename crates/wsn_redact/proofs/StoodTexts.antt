@@ -49,9 +49,8 @@ due_first (d ∷ due) (b ∷ bytes) rest few = ap (λ (bs : List ℕ). d ∷ bs)
 
 pub count_row : (row : List Range) (bytes : List ℕ) → FitsRow row bytes → length bytes ≡ length row
 count_row [] [] fits = refl
-count_row [] (b ∷ bytes) fits = absurd fits
-count_row (r ∷ row) [] fits = absurd fits
 count_row (r ∷ row) (b ∷ bytes) fits = ap suc (count_row row bytes fits.2)
+count_row _ _ fits = absurd fits
 
 one_byte : (b : ℕ) → b ≤ 0x7F → length (stand_in b) ≡ 1
 one_byte b to = grind (arith, common_steps)

@@ -1,26 +1,20 @@
 -- The redaction of a redaction is itself, whatever the verdict is.
 use Rattle.std.proofs.Common.{◌≡◌, ℕ, ◌+◌, ◌≤◌, Bool, true, false, List, [], ◌∷◌, ◌++◌, length, take, drop, inl, inr, refl, sym, ap, ◌∙◌, subst, append-nil, append_assoc, length-append, length-drop, take-append-drop, arith}
-use Rattle.std.proofs.lemmas.Grind.{common_steps}
 use Rattle.std.proofs.lemmas.List.{take_at, drop_at, length-take-le}
 use Rattle.wsn_wire.specs.declared.endpoint.Role.{Role}
 use Rattle.wsn_wire.specs.declared.opcode.Op.{Op}
 use Rattle.wsn_wire.specs.declared.opcode.Op.TheVariants.{Continue, Text, Binary, Close, Ping, Pong}
-use Rattle.wsn_wire.specs.Frame.{Frame, IsBytes, head_bytes, stream, wire_payload}
+use Rattle.wsn_wire.specs.Frame.{Frame, IsBytes, stream, wire_payload}
 use Rattle.wsn_text.specs.Utf8.{BeginsText}
-use Rattle.wsn_text.proofs.Prefixes.{begins-nil}
-use Rattle.wsn_frame.proofs.HeadsAtOnce.{no_items}
-use Rattle.wsn_rules.specs.declared.head_info.HeadInfo.{HeadInfo}
 use Rattle.wsn_rules.specs.declared.verdict.Verdict.{Verdict}
 use Rattle.wsn_rules.specs.declared.verdict.Verdict.TheVariants.{Accepted, Cut, Refused}
 use Rattle.wsn_rules.specs.Limits.{Limits}
 use Rattle.wsn_rules.specs.Accepted.{HasNoClose, EndsWithClose}
-use Rattle.wsn_rules.specs.Evidence.{IntoPayload, IsOfText}
 use Rattle.wsn_rules.specs.Group.{unfinished, payload_of}
 use Rattle.wsn_rules.specs.Heads.{BeginsWithHead}
 use Rattle.wsn_rules.specs.Lawful.{IsLawful}
 use Rattle.wsn_rules.specs.Verdict.{IsVerdict}
-use Rattle.wsn_rules.proofs.BegunHeads.{same_parts, encodable_begun}
-use Rattle.wsn_rules.proofs.Groups.{IsGroup, group_of_lawful}
+use Rattle.wsn_rules.proofs.Groups.{group_of_lawful}
 use Rattle.wsn_rules.proofs.OneVerdict.{all_of_verdict}
 use Rattle.wsn_redact.specs.StandIns.{single_stand_in, IsRedactedText, IsRedacted, stood}
 use Rattle.wsn_redact.specs.Redaction.{zeros_for, is_text, is_of_text, IsRedactedData, IsRedactedPayload, IsRedactedRest, AreRedacted, redacted_frames, judged, unjudged, IsRedaction}
@@ -36,14 +30,12 @@ use Rattle.wsn_redact.proofs.RedactedTwice.{stood_twice, zeros_twice}
 use Rattle.wsn_redact.proofs.AcceptedTwice.{text_before, frames_twice}
 use Rattle.wsn_redact.proofs.TextsStay.{begins_alike}
 use Rattle.wsn_redact.proofs.PayloadsAlike.{payload_part, body_of}
-use Rattle.wsn_redact.proofs.HeadsAlike.{head_forth, head_back}
-use Rattle.wsn_redact.proofs.RefusedStays.{wire_twice}
+use Rattle.wsn_redact.proofs.PayloadsStay.{head_before, head_after}
 use Rattle.wsn_redact.proofs.SameVerdicts.{verdict_stays}
+use Rattle.wsn_redact.proofs.Singles.{single_twice}
+use Rattle.wsn_wire.proofs.FrameLemmas.{wire_payload_twice}
 
 -- ---- texts
-
-single_again : (b : ℕ) → single_stand_in (single_stand_in b) ≡ single_stand_in b
-single_again b = grind (arith, common_steps)
 
 text_again : (text redacted : List ℕ) → IsRedactedText text redacted → IsRedactedText redacted redacted
 text_again text redacted r =
@@ -60,7 +52,7 @@ redacted_again text redacted (inr r) = inr (record {
   text_is = r.redacted_is;
   goes_wrong = λ good. r.goes_wrong ((begins_alike text redacted (inr r)).1 good);
   is_front = text_again r.front r.front_redacted r.is_front;
-  redacted_is = r.redacted_is ∙ ap (λ (b : ℕ). r.front_redacted ++ b ∷ []) (sym (single_again r.bad));
+  redacted_is = r.redacted_is ∙ ap (λ (b : ℕ). r.front_redacted ++ b ∷ []) (sym (single_twice r.bad));
 })
 
 -- ---- payloads
@@ -83,67 +75,16 @@ module _ (group redacted : List Frame) (same : SameGroup group redacted) (payloa
   payload_again Continue may begins r =
       subst (λ (c : Bool). IsRedactedData c (payload_of redacted) part part) (sym (ap is_text same.first)) (data_again (is_of_text group Continue) (payload_of group) (payload_of redacted) payload part (whole_text Continue may begins r) r)
   payload_again Text may begins r = data_again true (payload_of group) (payload_of redacted) payload part (whole_text Text may begins r) r
-  payload_again Binary may begins r = zeros_again payload part r
-  payload_again Ping may begins r = zeros_again payload part r
-  payload_again Pong may begins r = zeros_again payload part r
+  payload_again _ may begins r = zeros_again payload part r
 
 -- ---- what follows the frames
 
 module _ (role : Role) (limits : Limits) (fs gs : List Frame) (lawful : IsLawful role limits fs) (same : SameGroup (unfinished fs) (unfinished gs)) (streams : length (stream gs) ≡ length (stream fs)) where
-  begins : (n : ℕ) → IsOfText (unfinished fs) n → BeginsText (payload_of (unfinished fs))
-  begins n is = by (unfinished fs) (group_of_lawful role limits fs lawful) is
-    where
-      by : (group : List Frame) → IsGroup limits group → IsOfText group n → BeginsText (payload_of group)
-      by [] g of_text = begins-nil
-      by (f ∷ group) g of_text = g.begins of_text.1
-
-  -- A prefix of a head has no payload.
-  head_only : (hs : List Frame) (rest : List ℕ) (info : HeadInfo) (b : BeginsWithHead role limits hs rest info) (front after : List ℕ) → b.head ≡ front ++ after → (p : IntoPayload front) → p.wire ≡ []
-  head_only hs rest info b front after is p =
-      let whole : head_bytes info.fin info.op info.key info.form info.len ++ [] ≡ p.first ∷ p.second ∷ (p.len ++ (p.key ++ (p.wire ++ after))) =
-      append-nil (head_bytes info.fin info.op info.key info.form info.len) ∙ sym b.encoded ∙ is ∙ ap (λ (bs : List ℕ). bs ++ after) p.whole
-      ∙ ap (λ (bs : List ℕ). p.first ∷ p.second ∷ bs) (append_assoc p.len (p.key ++ p.wire) after ∙ ap (λ (bs : List ℕ). p.len ++ bs) (append_assoc p.key p.wire after)) in
-      let parts = same_parts info [] p.first p.second p.len p.key (p.wire ++ after) (encodable_begun role limits hs rest info b) whole p.len_count p.key_counted in
-      let size = ap (λ (bs : List ℕ). length bs) parts.following_is in
-      no_items p.wire (omega (arith, size, length-append p.wire after))
-
-  -- A head that begins after the redacted frames begins after the frames.
-  pub head_before : (rest : List ℕ) (info : HeadInfo) → BeginsWithHead role limits gs rest info → BeginsWithHead role limits fs rest info
-  head_before rest info g = record {
-    head = g.head;
-    following = g.following;
-    whole = g.whole;
-    place = g.place ∙ streams;
-    encoded = g.encoded;
-    key = g.key;
-    form = g.form;
-    size = g.size;
-    has_no_evidence = record {
-      none = λ front after s is e. g.has_no_evidence.none front after s is (head_forth role limits (unfinished fs) (unfinished gs) same begins s front (head_only gs rest info g front after is) e);
-    };
-  }
-
-  -- The other way round, whatever follows it.
-  pub head_after : (rest : List ℕ) (info : HeadInfo) (b : BeginsWithHead role limits fs rest info) (following : List ℕ) → BeginsWithHead role limits gs (b.head ++ following) info
-  head_after rest info b following = record {
-    head = b.head;
-    following = following;
-    whole = refl;
-    place = b.place ∙ sym streams;
-    encoded = b.encoded;
-    key = b.key;
-    form = b.form;
-    size = b.size;
-    has_no_evidence = record {
-      none = λ front after s is e. b.has_no_evidence.none front after s is (head_back role limits (unfinished fs) (unfinished gs) same begins s front (head_only fs rest info b front after is) e);
-    };
-  }
-
   pub rest_again : (EndsWithClose fs → EndsWithClose gs) → (HasNoClose fs → HasNoClose gs) → (seen rest : List ℕ) → IsRedactedRest role limits fs seen rest → IsRedactedRest role limits gs rest rest
   unfolding head_after
   rest_again closes none_closes seen rest (inl closed) = inl (closes closed.0, zeros_again seen rest closed.1)
   rest_again closes none_closes seen rest (inr (inl none)) =
-      inr (inl (none_closes none.0, λ info g. none.1 info (head_before seen info (subst (λ (bs : List ℕ). BeginsWithHead role limits gs bs info) none.2 g)), refl))
+      inr (inl (none_closes none.0, λ info g. none.1 info (head_before role limits fs gs lawful same streams seen info (subst (λ (bs : List ℕ). BeginsWithHead role limits gs bs info) none.2 g)), refl))
   rest_again closes none_closes seen rest (inr (inr some)) =
       let s = some.1 in
       let b = s.begins in
@@ -157,9 +98,9 @@ module _ (role : Role) (limits : Limits) (fs gs : List Frame) (lawful : IsLawful
         none_closes some.0,
         record {
           info = s.info;
-          begins = head_after seen s.info b wire;
+          begins = head_after role limits fs gs lawful same streams seen s.info b wire;
           part = s.part;
-          is_part = subst (λ (bs : List ℕ). IsRedactedPayload (unfinished gs) s.info.op bs s.part) (sym (wire_twice s.info.key s.part)) part;
+          is_part = subst (λ (bs : List ℕ). IsRedactedPayload (unfinished gs) s.info.op bs s.part) (sym (wire_payload_twice s.info.key s.part)) part;
           redacted_is = refl;
         },
       )) in

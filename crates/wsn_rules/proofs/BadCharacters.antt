@@ -173,12 +173,10 @@ module _ (role : Role) (limits : Limits) where
   text_opcode (f ∷ group) opcode of_text = of_text.0
 
   not_control : (op : Op) → opcode op ≤ 2 → is_control op ≡ false
-  not_control Continue few = refl
-  not_control Text few = refl
-  not_control Binary few = refl
   not_control Close few = absurd (omega (arith, few))
   not_control Ping few = absurd (omega (arith, few))
   not_control Pong few = absurd (omega (arith, few))
+  not_control _ few = refl
 
   group_begins : (group : List Frame) (opcode : ℕ) → IsGroup limits group → IsOfText group opcode → BeginsText (payload_of group)
   group_begins [] opcode is of_text = begins-nil
@@ -348,22 +346,7 @@ module _ (detail : Detail) (role : Role) (limits : Limits) (bytes : List ℕ) (f
     where
       none : (reason : Reason) (info : HeadInfo) (part : List ℕ) → ¬ (reason ≡ TextBad) → character_of reason fs info part ≡ None
       none TextBad info part other = absurd (other refl)
-      none ReservedBits info part other = refl
-      none ReservedOpcode info part other = refl
-      none ControlNotFinal info part other = refl
-      none NothingToContinue info part other = refl
-      none MessageOpen info part other = refl
-      none MaskMissing info part other = refl
-      none MaskPresent info part other = refl
-      none ControlTooLong info part other = refl
-      none CloseOneByte info part other = refl
-      none LengthTopBit info part other = refl
-      none LengthNotMinimal info part other = refl
-      none MessageTooBig info part other = refl
-      none CloseCode info part other = refl
-      none CloseReason info part other = refl
-      none TextCut info part other = refl
-      none TooManyFrames info part other = refl
+      none _ info part other = refl
 
       by : IsShownEvidence role limits fs refusal.reason (drop (length (stream fs)) (take (refusal.place + 1) bytes)) is.evidence is.character → is.character ≡ None
       by (inl (info, b, p, part, is_character)) = is_character ∙ none refusal.reason info is.evidence other

@@ -1,8 +1,6 @@
 -- The entries of lines and the report on them, where they compute: for lines that are written out.
-use Rattle.std.proofs.Common.{◌≡◌, ℕ, suc, ◌<◌, ◌≤◌, Bool, true, false, not, ◌&&◌, ◌==◌, inl, inr, ◌-◌, Ok, List, [], ◌∷◌, ◌++◌, Some, None, length, take, drop, nat_lt, nat_le, refl, sym, ap, ◌∙◌, arith, length-append, take-append-drop}
+use Rattle.std.proofs.Common.{◌≡◌, ℕ, suc, ◌<◌, Bool, true, false, not, ◌&&◌, ◌==◌, inl, inr, ◌-◌, Ok, List, [], ◌∷◌, ◌++◌, Some, None, length, take, nat_lt, nat_le, refl, sym, ap, ◌∙◌, arith}
 use Rattle.std.proofs.lemmas.Bool.{and_parts, and_from, cases_lt, ltb-true, leb-true, eqb-false, not-true, false≢true}
-use Rattle.std.proofs.lemmas.List.{take-take}
-use Rattle.std.proofs.lemmas.List.Concat.{flat_map-append}
 use Rattle.hex.specs.Hex.{decode_of}
 use Rattle.wsn_wire.specs.declared.endpoint.Role.{Role}
 use Rattle.wsn_wire.specs.declared.endpoint.Role.TheVariants.{Client, Server}
@@ -19,12 +17,13 @@ use Rattle.wsn_rules.specs.Verdict.{IsVerdict}
 use Rattle.wsn_rules.specs.TextLines.{IsLine}
 use Rattle.wsn_rules.specs.Entries.{Entry, GivesEntry, bytes_prefix}
 use Rattle.wsn_rules.specs.Entries.Entry.{Bytes}
-use Rattle.wsn_rules.specs.Sides.{bytes_in, sent, has_ended, side_of}
+use Rattle.wsn_rules.specs.Sides.{sent, has_ended, side_of}
 use Rattle.wsn_rules.specs.Reports.{ClosesIn, IsFirst, other_endpoint, echo_of, seen_of, IsReportOf}
 use Rattle.wsn_rules.proofs.EveryInput.{HasVerdict}
 use Rattle.wsn_rules.proofs.OneVerdict.{one_verdict}
 use Rattle.wsn_rules.proofs.Computed.{all_bytes, bytes_by_test, in_range, range_by_test, found}
 use Rattle.wsn_rules.proofs.Outcomes.{has_outcome, is_outcome}
+use Rattle.wsn_rules.proofs.OneReport.{sent_grows}
 
 -- ---- lines and entries
 
@@ -55,11 +54,7 @@ last_is_close (f ∷ g ∷ fs) = last_is_close (g ∷ fs)
 
 close_by_test : (o : Op) → is_close o ≡ true → o ≡ op.Close
 close_by_test op.Close test = refl
-close_by_test op.Continue test = absurd (false≢true test)
-close_by_test op.Text test = absurd (false≢true test)
-close_by_test op.Binary test = absurd (false≢true test)
-close_by_test op.Ping test = absurd (false≢true test)
-close_by_test op.Pong test = absurd (false≢true test)
+close_by_test _ test = absurd (false≢true test)
 
 closes_by_test : (fs : List Frame) → last_is_close fs ≡ true → EndsWithClose fs
 closes_by_test [] test = absurd (false≢true test)
@@ -79,15 +74,6 @@ is_accepted (Cut summary) = false
 is_accepted (Refused refusal) = false
 
 -- ---- the report
-
--- more lines have no fewer bytes
-pub sent_grows : (role : Role) (entries : List Entry) (j k : ℕ) → j ≤ k → length (sent role (take j entries)) ≤ length (sent role (take k entries))
-sent_grows role entries j k le =
-    let parts : sent role (take j (take k entries) ++ drop j (take k entries)) ≡ sent role (take j (take k entries)) ++ sent role (drop j (take k entries)) = flat_map-append (bytes_in role) (take j (take k entries)) (drop j (take k entries)) in
-    let whole : sent role (take k entries) ≡ sent role (take j entries) ++ sent role (drop j (take k entries)) =
-    ap (sent role) (sym (take-append-drop j (take k entries))) ∙ parts ∙ ap (λ (es : List Entry). sent role es ++ sent role (drop j (take k entries))) (take-take j k entries le) in
-    let sizes = ap (λ (bs : List ℕ). length bs) whole ∙ length-append (sent role (take j entries)) (sent role (drop j (take k entries))) in
-    omega (arith, sizes)
 
 module _ (limits : Limits) (entries : List Entry) (range : in_range limits ≡ true) (client : all_bytes (sent Client entries) ≡ true) (server : all_bytes (sent Server entries) ≡ true) where
   pub in_bytes : (role : Role) → all_bytes (sent role entries) ≡ true

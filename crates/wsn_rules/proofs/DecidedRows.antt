@@ -101,11 +101,7 @@ top_bit len_form.Eight len = at_most (2 ^ 63) len
 
 unfoldable pub op_is_text : (op : Op) → Decided (op ≡ Text)
 op_is_text Text = inl refl
-op_is_text Continue = inr (λ e. cc)
-op_is_text Binary = inr (λ e. cc)
-op_is_text Close = inr (λ e. cc)
-op_is_text Ping = inr (λ e. cc)
-op_is_text Pong = inr (λ e. cc)
+op_is_text _ = inr (λ e. cc)
 
 unfoldable pub of_text : (group : List Frame) (opcode : ℕ) → Decided (IsOfText group opcode)
 of_text [] opcode = same_or_not opcode 1

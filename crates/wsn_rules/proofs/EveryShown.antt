@@ -5,7 +5,7 @@ use Rattle.wsn_wire.specs.declared.endpoint.Role.{Role}
 use Rattle.wsn_wire.specs.declared.refusal.Reason.{Reason}
 use Rattle.wsn_wire.specs.Frame.{Frame, IsBytes, head_bytes, stream, wire_payload}
 use Rattle.wsn_wire.specs.Layout.{HasLayout, len_form_at, length_count, encoded_length, key_count}
-use Rattle.wsn_wire.specs.HeadLaw.{HeadHasNoEvidence}
+use Rattle.wsn_wire.specs.HeadsWithoutEvidence.{HeadHasNoEvidence}
 use Rattle.wsn_wire.proofs.FrameLemmas.{IsBytes-append, IsBytes-left, IsBytes-right, fronts_agree, frame_at}
 use Rattle.wsn_wire.proofs.HeadLemmas.{frame_of_layout}
 use Rattle.wsn_rules.specs.declared.detail.Detail.{Detail}
@@ -33,14 +33,9 @@ use Rattle.wsn_rules.proofs.OneHead.{one_following}
 use Rattle.wsn_rules.proofs.HeadEvidence.{first_row, encoding_row}
 use Rattle.wsn_rules.proofs.HeadsGoOn.{begins_two}
 use Rattle.wsn_rules.proofs.BegunHeads.{same_parts, head_came, encodable_begun, begun_is}
+use Rattle.wsn_rules.proofs.PlanTheory.MessageFrames.{bytes_drop, bytes_take}
 
 -- ---- whether bytes begin with a head
-
-pub IsBytes-drop : (n : ℕ) (bytes : List ℕ) → IsBytes bytes → IsBytes (drop n bytes)
-IsBytes-drop n bytes all = IsBytes-right (take n bytes) (drop n bytes) (subst IsBytes (sym (take-append-drop n bytes)) all)
-
-pub IsBytes-take : (n : ℕ) (bytes : List ℕ) → IsBytes bytes → IsBytes (take n bytes)
-IsBytes-take n bytes all = IsBytes-left (take n bytes) (drop n bytes) (subst IsBytes (sym (take-append-drop n bytes)) all)
 
 module _ (role : Role) (limits : Limits) (fs : List Frame) where
   abbrev IsHeadDecided : List ℕ → Type 0
@@ -179,7 +174,7 @@ module _ (role : Role) (limits : Limits) (range : InRange limits) where
   some_left_of bytes fs (Accepted summary) all = (items_of_bytes Tail (length (stream fs)) (drop (length (stream fs)) bytes), refl)
   some_left_of bytes fs (Cut summary) all =
       let rest = drop (length (stream fs)) bytes in
-      elim (decide_head role limits fs rest (IsBytes-drop (length (stream fs)) bytes all)) [
+      elim (decide_head role limits fs rest (bytes_drop (length (stream fs)) bytes all)) [
         | inl p ↦ (items_of_part fs p.0 (wire_payload p.0.key p.1.following), inl (p.0, p.1, refl))
         | inr none ↦ (items_of_head fs rest, inr (none, refl))
       ]
@@ -228,7 +223,7 @@ module _ (role : Role) (limits : Limits) (range : InRange limits) where
   some_of_verdict detail bytes fs (Cut summary) all = ([], refl)
   some_of_verdict detail bytes fs (Refused refusal) all =
       let seen = drop (length (stream fs)) (take (refusal.place + 1) bytes) in
-      let evidence = some_evidence fs refusal.reason seen (IsBytes-drop (length (stream fs)) (take (refusal.place + 1) bytes) (IsBytes-take (refusal.place + 1) bytes all)) in (
+      let evidence = some_evidence fs refusal.reason seen (bytes_drop (length (stream fs)) (take (refusal.place + 1) bytes) (bytes_take (refusal.place + 1) bytes all)) in (
         shown_after (refusal.place + 1) (interrupted detail fs ++ RefusedFrame (length (stream fs)) refusal evidence.0 evidence.1 ∷ []),
         record { evidence = evidence.0; character = evidence.1; is_evidence = evidence.2; is = refl },
       )

@@ -5,14 +5,9 @@ use Rattle.std.proofs.lemmas.Bool.{cases_lt, cases_eq}
 use Rattle.wsn_rules.specs.Entries.{without_cr}
 use Rattle.wsn_rules.specs.ShownCapture.{IsDigit, IsSeconds, GivesTime, GivesNoTime, IsNoTime, IsTimeAfter}
 use Rattle.wsn_rules.proofs.Prefixes.{head_same, tail_same}
-use Rattle.wsn_rules.proofs.Outcomes.{Decided}
+use Rattle.wsn_rules.proofs.Outcomes.{Decided, both}
 
 -- ---- digits
-
-both : {A B : Type 0} → Decided A → Decided B → Decided (A × B)
-both (inl a) (inl b) = inl (a, b)
-both (inl a) (inr none) = inr (λ is. none is.1)
-both (inr none) b = inr (λ is. none is.0)
 
 at_most : (m n : ℕ) → Decided (m ≤ n)
 at_most m n =

@@ -1,7 +1,7 @@
 -- The evidence in the first byte of a frame, after an open message or without one.
 use Rattle.std.proofs.Common.{◌≡◌, ◌≢◌, ℕ, ◌≤◌, Some, List, [], ◌⊎◌, length, ap, inl, inr, arith}
 use Rattle.wsn_wire.specs.declared.opcode.Op.{Op}
-use Rattle.wsn_wire.specs.declared.opcode.Op.TheVariants.{Continue, Text, Binary, Close, Ping, Pong}
+use Rattle.wsn_wire.specs.declared.opcode.Op.TheVariants.{Text, Binary, Close, Ping, Pong}
 use Rattle.wsn_wire.specs.declared.refusal.Reason.{Reason}
 use Rattle.wsn_wire.specs.declared.refusal.Reason.TheVariants.{NothingToContinue, MessageOpen, TooManyFrames}
 use Rattle.wsn_wire.specs.Frame.{Frame, opcode}
@@ -11,14 +11,6 @@ use Rattle.wsn_wire.specs.EvidenceInHeads.{EvidentInFirst}
 use Rattle.wsn_rules.specs.Limits.{Limits}
 use Rattle.wsn_rules.specs.Evidence.{EvidentByFirst}
 use Rattle.wsn_rules.proofs.HeadEvidence.{first_number, first_row}
-
-pub continue_from_opcode : (op : Op) → opcode op ≡ 0 → op ≡ Continue
-continue_from_opcode Continue is = cc
-continue_from_opcode Text is = absurd (omega (arith, is))
-continue_from_opcode Binary is = absurd (omega (arith, is))
-continue_from_opcode Close is = absurd (omega (arith, is))
-continue_from_opcode Ping is = absurd (omega (arith, is))
-continue_from_opcode Pong is = absurd (omega (arith, is))
 
 -- Text and Binary begin a message.
 abbrev pub Begins : Op → Type 0

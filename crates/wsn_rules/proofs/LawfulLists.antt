@@ -13,11 +13,7 @@ use Rattle.wsn_rules.proofs.Prefixes.{nil-push, nil-cons, split_push, push-appen
 
 unfoldable pub close_or_not : (op : Op) → (op ≡ Close) ⊎ (op ≡ Close → ⊥)
 close_or_not Close = inl refl
-close_or_not Continue = inr (λ e. cc)
-close_or_not Text = inr (λ e. cc)
-close_or_not Binary = inr (λ e. cc)
-close_or_not Ping = inr (λ e. cc)
-close_or_not Pong = inr (λ e. cc)
+close_or_not _ = inr (λ e. cc)
 
 pub no_close_nil : HasNoClose []
 no_close_nil before after f e c = nil-push before f after e

@@ -1,7 +1,7 @@
 -- The meaning of lawful frames is lawful: each event that a final frame completes, and all of them.
-use Rattle.std.proofs.Common.{◌≡◌, ℕ, ◌<◌, ◌≤◌, ◌^◌, Bool, true, false, cond, not, List, [], ◌∷◌, ◌++◌, length, filter, refl, sym, ap, subst, inl, inr, arith}
+use Rattle.std.proofs.Common.{◌≡◌, ℕ, ◌<◌, ◌≤◌, ◌^◌, Bool, true, false, cond, not, List, [], ◌∷◌, ◌++◌, length, filter, refl, sym, ap, subst, inl, inr, arith, if◌then◌else◌}
 use Rattle.std.proofs.lemmas.Bool.{cases_Bool, cond-true, cond-false}
-use Rattle.std.specs.List.{AllByRecursion, list_any}
+use Rattle.std.specs.List.{AllByRecursion, fold}
 use Rattle.wsn_wire.specs.declared.endpoint.Role.{Role}
 use Rattle.wsn_wire.specs.declared.opcode.Op.{Op}
 use Rattle.wsn_wire.specs.declared.opcode.Op.TheVariants.{Continue, Text, Binary, Close, Ping, Pong}
@@ -9,7 +9,7 @@ use Rattle.wsn_wire.specs.declared.opcode.Kind.TheVariants as kind
 use Rattle.wsn_wire.specs.Frame.{Frame, IsBytes, is_control}
 use Rattle.wsn_wire.proofs.FrameLemmas.{IsBytes-append}
 use Rattle.wsn_rules.specs.Limits.{Limits, InRange}
-use Rattle.wsn_rules.specs.Group.{after_last, is_data, is_final, unfinished, first_op, kind_at, kind_of, payload_of}
+use Rattle.wsn_rules.specs.Group.{is_data, with_frame, unfinished, first_op, kind_at, kind_of, payload_of}
 use Rattle.wsn_rules.specs.Lawful.{GroupLaw, LawAt, IsLawful}
 use Rattle.wsn_rules.specs.FrameLaw.{FrameLaw}
 use Rattle.wsn_rules.specs.LawfulAfter.{AreLawfulAfter}
@@ -25,25 +25,21 @@ use Rattle.wsn_rules.specs.LawfulEvents.{IsLawfulMessage, IsLawfulControl, IsLaw
 abbrev HaveBytes : List Frame → Type 0
 HaveBytes = AllByRecursion (λ f. IsBytes f.payload)
 
-module _ {A : Type 0} (Holds : A → Type 0) where
-  all_kept : (keep : Bool) (x : A) (xs : List A) → Holds x → AllByRecursion Holds xs → AllByRecursion Holds (cond keep (x ∷ xs) xs)
-  all_kept true x xs here each = (here, each)
-  all_kept false x xs here each = each
-
-  all_filter : (keeps : A → Bool) (xs : List A) → AllByRecursion Holds xs → AllByRecursion Holds (filter keeps xs)
-  all_filter keeps [] each = tt
-  all_filter keeps (x ∷ xs) each = all_kept (keeps x) x (filter keeps xs) each.0 (all_filter keeps xs each.1)
-
-  all_either : (later : Bool) (xs ys : List A) → AllByRecursion Holds xs → AllByRecursion Holds ys → AllByRecursion Holds (cond later xs ys)
-  all_either true xs ys left right = left
-  all_either false xs ys left right = right
-
-  all_after_last : (passes : A → Bool) (xs : List A) → AllByRecursion Holds xs → AllByRecursion Holds (after_last passes xs)
-  all_after_last passes [] each = tt
-  all_after_last passes (x ∷ xs) each = all_either (list_any passes (x ∷ xs)) (after_last passes xs) (x ∷ xs) (all_after_last passes xs each.1) each
+have_bytes_push : (fs : List Frame) (f : Frame) → HaveBytes fs → IsBytes f.payload → HaveBytes (fs ++ f ∷ [])
+have_bytes_push [] f each here = (here, tt)
+have_bytes_push (g ∷ fs) f each here = (each.0, have_bytes_push fs f each.1 here)
 
 group_has_bytes : (fs : List Frame) → HaveBytes fs → HaveBytes (unfinished fs)
-group_has_bytes fs each = all_after_last (λ f. IsBytes f.payload) is_final (filter is_data fs) (all_filter (λ f. IsBytes f.payload) is_data fs each)
+group_has_bytes fs each = from_front fs [] each tt
+  where
+    from_front : (fs group : List Frame) → HaveBytes fs → HaveBytes group → HaveBytes (fold with_frame group fs)
+    from_front [] group each so_far = so_far
+    from_front (f ∷ fs) group each so_far = from_front fs (with_frame group f) each.1 (by (is_data f) f.fin)
+      where
+        by : (data_frame final : Bool) → HaveBytes (if data_frame then (if final then [] else group ++ f ∷ []) else group)
+        by true true = tt
+        by true false = have_bytes_push group f so_far each.0
+        by false final = so_far
 
 lawful_have_bytes : (role : Role) (limits : Limits) (before fs : List Frame) → AreLawfulAfter role limits before fs → HaveBytes fs
 lawful_have_bytes role limits before [] following = tt
@@ -57,12 +53,8 @@ text_in_bytes (f ∷ fs) each = IsBytes-append f.payload (payload_of fs) each.0 
 
 -- Only Text begins text.
 text_of_kind : (op : Op) → kind_at op ≡ kind.Text → op ≡ Text
-text_of_kind Continue is = cc
 text_of_kind Text is = refl
-text_of_kind Binary is = cc
-text_of_kind Close is = cc
-text_of_kind Ping is = cc
-text_of_kind Pong is = cc
+text_of_kind _ is = cc
 
 -- A message within a limit has a length below 2^63.
 below_2^63 : (size most : ℕ) → size ≤ most → most ≤ 16777216 → size < 2 ^ 63

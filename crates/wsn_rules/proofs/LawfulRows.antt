@@ -8,7 +8,7 @@ use Rattle.wsn_wire.specs.declared.refusal.Reason.{Reason}
 use Rattle.wsn_wire.specs.declared.refusal.Reason.TheVariants.{ReservedBits, ReservedOpcode, ControlNotFinal, NothingToContinue, MessageOpen, LengthTopBit, LengthNotMinimal, MessageTooBig, CloseCode, CloseReason, TextBad, TextCut, TooManyFrames}
 use Rattle.wsn_wire.specs.Frame.{Frame, opcode, is_control, second_byte, len_form_of, length_bytes, key_bytes, wire_payload, masked}
 use Rattle.wsn_wire.specs.Layout.{HasLayout, opcode_field, mask_bit, encoded_length}
-use Rattle.wsn_wire.specs.HeadLaw.{IsEncodedFor, HeadHasNoEvidence}
+use Rattle.wsn_wire.specs.HeadsWithoutEvidence.{HeadHasNoEvidence}
 use Rattle.wsn_wire.proofs.MaskLemmas.{masked-masked}
 use Rattle.wsn_wire.proofs.FrameLemmas.{layout_of_frame, first_byte_fields, second_byte_fields, length_bytes_fields, spells-len_form_of}
 use Rattle.wsn_wire.proofs.HeadLemmas.{IsSpelledBy, frame_shows_nothing, close_from_opcode}
@@ -16,16 +16,18 @@ use Rattle.wsn_text.specs.Utf8.{IsText, BeginsText}
 use Rattle.wsn_text.specs.CloseBody.{IsCloseBody}
 use Rattle.wsn_rules.specs.Limits.{Limits}
 use Rattle.wsn_rules.specs.Group.{unfinished, payload_of}
+use Rattle.wsn_rules.specs.FrameLaw.{FrameLaw}
 use Rattle.wsn_rules.specs.Lawful.{LawAt}
 use Rattle.wsn_rules.specs.Evidence.{EvidentByFirst, EvidentByLength, EvidentByPayload, IsOfText}
 use Rattle.wsn_rules.proofs.RowsOfLayout.{RowAt, payload_in, reported_by, length-unmasked}
 use Rattle.wsn_rules.proofs.RowsOfLayout.RowAt.{FirstShows, SecondShows, LengthShows, PayloadShows}
-use Rattle.wsn_rules.proofs.MessageText.{continue_from_opcode, data_from_opcode, begins_from_opcode, text_of_push, group_from_of_text, begins_not_bad, code_is_accepted, reason_is_text, reason_not_bad}
+use Rattle.wsn_rules.proofs.MessageText.{not_one_byte, continue_from_opcode, data_from_opcode, begins_from_opcode, text_of_push, group_from_of_text, begins_not_bad, code_is_accepted, reason_is_text, reason_not_bad}
 
 -- The layout of a frame's bytes is that of the frame.
-pub encoded_by_itself : (role : Role) (lengths : Lengths) (f : Frame) (owed : IsEncodedFor role lengths f) → IsSpelledBy role lengths (layout_of_frame f owed.encodable) f
+pub encoded_by_itself : (role : Role) (lengths : Lengths) (f : Frame) (law : FrameLaw role lengths f) → IsSpelledBy role lengths (layout_of_frame f law.encoded.encodable) f
 unfolding layout_of_frame
-encoded_by_itself role lengths f owed =
+encoded_by_itself role lengths f law =
+    let owed = law.encoded in
     let spells = spells-len_form_of f.form (length f.payload) owed.encodable.form owed.encodable.size in
     let of_first = first_byte_fields f.fin f.op in
     let of_second = second_byte_fields f.key (len_form_of f.form (length f.payload)) (length f.payload) spells in
@@ -33,6 +35,7 @@ encoded_by_itself role lengths f owed =
     let bytes = length_bytes (len_form_of f.form (length f.payload)) (length f.payload) in
     record {
       owed = owed;
+      not_one = λ is. not_one_byte f.payload (law.close is);
       bytes_are = refl;
       fin_is = sym of_first.fin_is;
       opcode_is = sym of_first.opcode_is;
@@ -135,5 +138,5 @@ module _ (role : Role) (limits : Limits) (before : List Frame) (f : Frame) (law 
 pub lawful_shows_no_row : (role : Role) (limits : Limits) (before : List Frame) (f : Frame) (law : LawAt role limits before f) (reason : Reason) → RowAt role limits (unfinished before) reason (layout_of_frame f law.frame.encoded.encodable) → ⊥
 unfolding layout_of_frame
 lawful_shows_no_row role limits before f law reason row =
-    let owed = law.frame.encoded in
-    no_row role limits before f law (layout_of_frame f law.frame.encoded.encodable) (encoded_by_itself role limits.lengths f owed) (frame_shows_nothing role limits.lengths f owed) reason row
+    let encoded = encoded_by_itself role limits.lengths f law.frame in
+    no_row role limits before f law (layout_of_frame f law.frame.encoded.encodable) encoded (frame_shows_nothing role limits.lengths f law.frame.encoded encoded.not_one) reason row

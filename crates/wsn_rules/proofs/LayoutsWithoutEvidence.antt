@@ -10,7 +10,7 @@ use Rattle.wsn_wire.specs.declared.refusal.Reason.TheVariants.{ReservedBits, Res
 use Rattle.wsn_wire.specs.Frame.{Frame, opcode, frame_bytes}
 use Rattle.wsn_wire.specs.Layout.{HasLayout, opcode_field, len_form_at}
 use Rattle.wsn_wire.specs.EvidenceInHeads.{EvidentInFirst, EvidentInLength}
-use Rattle.wsn_wire.specs.HeadLaw.{HeadHasNoEvidence}
+use Rattle.wsn_wire.specs.HeadsWithoutEvidence.{HeadHasNoEvidence}
 use Rattle.wsn_wire.proofs.FrameLemmas.{frame_at}
 use Rattle.wsn_wire.proofs.HeadLemmas.{IsSpelledBy, frame_of_layout}
 use Rattle.wsn_text.specs.Utf8.{IsText, BeginsText}
@@ -76,7 +76,7 @@ module _ (role : Role) (limits : Limits) (range : InRange limits) (before : List
 
     body_is_lawful : f.op ≡ Close → IsCloseBody f.payload
     body_is_lawful close =
-        elim (body_or_shows f.payload encoded.owed.encodable.payload (encoded.owed.close close)) [
+        elim (body_or_shows f.payload encoded.owed.encodable.payload (encoded.not_one close)) [
           | inl body ↦ body
           | inr shows ↦ absurd (no_body close shows)
         ]

@@ -49,22 +49,7 @@ reason_at n =
 pub reason_at-number_of : (r : Reason) → reason_at (number_of r) ≡ r
 unfolding reason_at
 reason_at-number_of ReservedBits = refl
-reason_at-number_of ReservedOpcode = refl
-reason_at-number_of ControlNotFinal = refl
-reason_at-number_of NothingToContinue = refl
-reason_at-number_of MessageOpen = refl
-reason_at-number_of MaskMissing = refl
-reason_at-number_of MaskPresent = refl
-reason_at-number_of ControlTooLong = refl
-reason_at-number_of CloseOneByte = refl
-reason_at-number_of LengthTopBit = refl
-reason_at-number_of LengthNotMinimal = refl
-reason_at-number_of MessageTooBig = refl
-reason_at-number_of CloseCode = refl
-reason_at-number_of CloseReason = refl
-reason_at-number_of TextBad = refl
-reason_at-number_of TextCut = refl
-reason_at-number_of TooManyFrames = refl
+reason_at-number_of _ = refl
 
 -- A number has one reason.
 pub same_number : (r s : Reason) → number_of r ≡ number_of s → r ≡ s
@@ -72,22 +57,7 @@ same_number r s e = sym (reason_at-number_of r) ∙ ap reason_at e ∙ reason_at
 
 pub number_below : (r : Reason) → number_of r < 18
 number_below ReservedBits = omega arith
-number_below ReservedOpcode = omega arith
-number_below ControlNotFinal = omega arith
-number_below NothingToContinue = omega arith
-number_below MessageOpen = omega arith
-number_below MaskMissing = omega arith
-number_below MaskPresent = omega arith
-number_below ControlTooLong = omega arith
-number_below CloseOneByte = omega arith
-number_below LengthTopBit = omega arith
-number_below LengthNotMinimal = omega arith
-number_below MessageTooBig = omega arith
-number_below CloseCode = omega arith
-number_below CloseReason = omega arith
-number_below TextBad = omega arith
-number_below TextCut = omega arith
-number_below TooManyFrames = omega arith
+number_below _ = omega arith
 
 -- ---- the least reason for which bytes are evidence
 

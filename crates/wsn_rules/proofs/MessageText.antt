@@ -26,35 +26,23 @@ not_one_byte body (inr p) one = let two : length body ≡ suc (suc (length p.1))
 
 pub continue_from_opcode : (op : Op) → opcode op ≡ 0 → op ≡ Continue
 continue_from_opcode Continue e = refl
-continue_from_opcode Text e = absurd (omega arith)
-continue_from_opcode Binary e = absurd (omega arith)
-continue_from_opcode Close e = absurd (omega arith)
-continue_from_opcode Ping e = absurd (omega arith)
-continue_from_opcode Pong e = absurd (omega arith)
+continue_from_opcode _ e = absurd (omega arith)
 
 pub text_from_opcode : (op : Op) → opcode op ≡ 1 → op ≡ Text
 text_from_opcode Text e = refl
-text_from_opcode Continue e = absurd (omega arith)
-text_from_opcode Binary e = absurd (omega arith)
-text_from_opcode Close e = absurd (omega arith)
-text_from_opcode Ping e = absurd (omega arith)
-text_from_opcode Pong e = absurd (omega arith)
+text_from_opcode _ e = absurd (omega arith)
 
 pub data_from_opcode : (op : Op) → IsDataOpcode (opcode op) → not (is_control op) ≡ true
-data_from_opcode Continue e = refl
-data_from_opcode Text e = refl
-data_from_opcode Binary e = refl
 data_from_opcode Close e = absurd (omega arith)
 data_from_opcode Ping e = absurd (omega arith)
 data_from_opcode Pong e = absurd (omega arith)
+data_from_opcode _ e = refl
 
 pub opcode_of_data : (op : Op) → not (is_control op) ≡ true → IsDataOpcode (opcode op)
-opcode_of_data Continue e = omega arith
-opcode_of_data Text e = omega arith
-opcode_of_data Binary e = omega arith
 opcode_of_data Close e = absurd (true≢false (sym e))
 opcode_of_data Ping e = absurd (true≢false (sym e))
 opcode_of_data Pong e = absurd (true≢false (sym e))
+opcode_of_data _ e = omega arith
 
 -- A message begins with opcode 1 or 2.
 pub begins_from_opcode : (op : Op) → (opcode op ≡ 1) ⊎ (opcode op ≡ 2) → (op ≡ Continue → ⊥) × (not (is_control op) ≡ true)
@@ -73,17 +61,11 @@ pub opcode_of_beginning : (op : Op) → not (is_control op) ≡ true → (op ≡
 opcode_of_beginning Continue is_data other = absurd (other refl)
 opcode_of_beginning Text is_data other = inl refl
 opcode_of_beginning Binary is_data other = inr refl
-opcode_of_beginning Close is_data other = absurd (true≢false (sym is_data))
-opcode_of_beginning Ping is_data other = absurd (true≢false (sym is_data))
-opcode_of_beginning Pong is_data other = absurd (true≢false (sym is_data))
+opcode_of_beginning _ is_data other = absurd (true≢false (sym is_data))
 
 pub continue_or_not : (op : Op) → (op ≡ Continue) ⊎ (op ≡ Continue → ⊥)
 continue_or_not Continue = inl refl
-continue_or_not Text = inr (λ same. cc)
-continue_or_not Binary = inr (λ same. cc)
-continue_or_not Close = inr (λ same. cc)
-continue_or_not Ping = inr (λ same. cc)
-continue_or_not Pong = inr (λ same. cc)
+continue_or_not _ = inr (λ same. cc)
 
 -- ---- a group with one more frame
 

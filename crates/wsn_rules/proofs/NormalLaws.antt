@@ -14,11 +14,12 @@ use Rattle.wsn_rules.specs.Meaning.{MeantEvent, meaning}
 use Rattle.wsn_rules.specs.Summary.{counted}
 use Rattle.wsn_rules.specs.Verdict.{IsVerdict}
 use Rattle.wsn_rules.proofs.LawfulLists.{finished_is_accepted}
-use Rattle.wsn_rules.proofs.OneVerdict.{one_verdict, same_bytes}
+use Rattle.wsn_rules.proofs.OneVerdict.{same_bytes}
 use Rattle.wsn_rules.specs.LawfulEvents.{AreLawful}
 use Rattle.wsn_rules.specs.NormalForm.{normal_frame, normal_form}
 use Rattle.wsn_rules.proofs.LawfulMeaning.{lawful_meaning}
 use Rattle.wsn_rules.proofs.NormalFrames.{AllowsOneFrame, normal_finished, normal_lawful, normal_meaning}
+use Rattle.wsn_rules.proofs.OneReport.{same_accepted}
 
 -- ---- an accepted input has one list of frames, and one meaning
 
@@ -29,13 +30,8 @@ verdict_with bytes fs = Accepted (counted fs (length (stream fs)) (length bytes 
 accepted_verdict : (role : Role) (limits : Limits) (bytes : List ℕ) (fs : List Frame) → IsAccepted role limits bytes fs → IsVerdict role limits bytes fs (verdict_with bytes fs)
 accepted_verdict role limits bytes fs accepted = (accepted, refl)
 
-pub accepted_frames : (role : Role) (limits : Limits) (bytes : List ℕ) (fs gs : List Frame) → IsAccepted role limits bytes fs → IsAccepted role limits bytes gs → fs ≡ gs
-accepted_frames role limits bytes fs gs accepted other =
-    (one_verdict role limits bytes fs gs (verdict_with bytes fs) (verdict_with bytes gs)
-    (accepted_verdict role limits bytes fs accepted) (accepted_verdict role limits bytes gs other)).0
-
 pub accepted_meaning : (role : Role) (limits : Limits) (bytes : List ℕ) (fs gs : List Frame) → IsAccepted role limits bytes fs → IsAccepted role limits bytes gs → meaning fs ≡ meaning gs
-accepted_meaning role limits bytes fs gs accepted other = ap meaning (accepted_frames role limits bytes fs gs accepted other)
+accepted_meaning role limits bytes fs gs accepted other = ap meaning (same_accepted role limits bytes fs gs accepted other)
 
 -- ---- normal forms determine the events
 

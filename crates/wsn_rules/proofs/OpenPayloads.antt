@@ -3,11 +3,11 @@ use Rattle.std.proofs.Common.{◌≡◌, ℕ, zero, suc, ◌+◌, ◌-◌, ◌<�
 use Rattle.std.proofs.lemmas.List.{drop_at, drop_all, drop-map, drop-append-le, length-map, map-append}
 use Rattle.std.proofs.lemmas.List.Concat.{flat_map-append}
 use Rattle.std.proofs.lemmas.Bool.{cases_Bool, cond-true, cond-false}
-use Rattle.std.specs.List.{AllByRecursion, list_any}
+use Rattle.std.specs.List.{AllByRecursion, fold}
 use Rattle.wsn_text.proofs.Numbers.{less_or_not}
 use Rattle.wsn_wire.specs.Frame.{Frame, stream, head_bytes, frame_bytes}
 use Rattle.wsn_rules.specs.declared.head_info.HeadInfo.{HeadInfo}
-use Rattle.wsn_rules.specs.Group.{after_last, is_data, is_final, unfinished, payload_of}
+use Rattle.wsn_rules.specs.Group.{is_data, with_frame, unfinished, payload_of}
 use Rattle.wsn_rules.specs.Heads.{info_of}
 use Rattle.wsn_rules.specs.Summary.{ends_message}
 use Rattle.wsn_rules.specs.PlacedByte.{PlacedByte, placed}
@@ -49,15 +49,19 @@ bytes_of-payloads place (f ∷ fs) =
           ∙ ap payload_of (sym (cond-false (is_data f) (f ∷ filter is_data fs) (filter is_data fs) left_out))
     ]
 
-after_last_ends : {A : Type 0} → (passes : A → Bool) (xs : List A) → (before : List A) × (xs ≡ before ++ after_last passes xs)
-after_last_ends {A = A} passes [] = ([], refl)
-after_last_ends {A = A} passes (x ∷ xs) =
-    elim (cases_Bool (list_any passes (x ∷ xs))) [
-      | inl some ↦
-          let p = after_last_ends passes xs in
-          (x ∷ p.0, ap (λ (ys : List A). x ∷ ys) p.1 ∙ ap (λ (ys : List A). x ∷ (p.0 ++ ys)) (sym (cond-true (list_any passes (x ∷ xs)) (after_last passes xs) (x ∷ xs) some)))
-      | inr none ↦ ([], sym (cond-false (list_any passes (x ∷ xs)) (after_last passes xs) (x ∷ xs) none))
-    ]
+-- The data frames end with those of the unfinished message, after these.
+abbrev EndWith : List Frame → List Frame → List Frame → Type 0
+EndWith fs data_frames group = (before : List Frame) × (data_frames ≡ before ++ fold with_frame group fs)
+
+data_frames_end : (fs group : List Frame) → EndWith fs (group ++ filter is_data fs) group
+data_frames_end [] group = ([], append-nil group)
+data_frames_end (f ∷ fs) group = by (is_data f) f.fin (data_frames_end fs [], data_frames_end fs (group ++ f ∷ []), data_frames_end fs group)
+  where
+    by : (data_frame final : Bool) → EndWith fs (filter is_data fs) [] × EndWith fs ((group ++ f ∷ []) ++ filter is_data fs) (group ++ f ∷ []) × EndWith fs (group ++ filter is_data fs) group
+        → EndWith fs (group ++ (if data_frame then f ∷ filter is_data fs else filter is_data fs)) (if data_frame then (if final then [] else group ++ f ∷ []) else group)
+    by true true ends = (group ++ f ∷ ends.0.0, ap (λ (hs : List Frame). group ++ f ∷ hs) ends.0.1 ∙ sym (append_assoc group (f ∷ ends.0.0) (unfinished fs)))
+    by true false ends = (ends.1.0, sym (append_assoc group (f ∷ []) (filter is_data fs)) ∙ ends.1.1)
+    by false final ends = ends.2
 
 record IsAtEnd (fs : List Frame) : Type 0 where
   earlier : List Frame
@@ -67,7 +71,7 @@ record IsAtEnd (fs : List Frame) : Type 0 where
 is_at_end : (fs : List Frame) → IsAtEnd fs
 is_at_end fs =
     let all = placed_payloads 0 fs in
-    let parts = after_last_ends is_final (filter is_data fs) in
+    let parts = data_frames_end fs [] in
     let bytes : bytes_of all ≡ payload_of parts.0 ++ payload_of (unfinished fs) =
     bytes_of-payloads 0 fs ∙ ap payload_of parts.1 ∙ flat_map-append (λ (f : Frame). f.payload) parts.0 (unfinished fs) in
     record { earlier = parts.0; bytes = bytes; size = sym (length-bytes_of all) ∙ ap (λ (bs : List ℕ). length bs) bytes ∙ length-append (payload_of parts.0) (payload_of (unfinished fs)) }

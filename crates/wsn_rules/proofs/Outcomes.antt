@@ -17,11 +17,7 @@ outcome_at (suc (suc (suc (suc (suc n))))) = Live
 
 pub at_its_place : (outcome : Outcome) → outcome_at (outcome_order outcome) ≡ outcome
 at_its_place Failed = refl
-at_its_place Clean = refl
-at_its_place Complete = refl
-at_its_place Abnormal = refl
-at_its_place Half = refl
-at_its_place Live = refl
+at_its_place _ = refl
 
 pub order_at : (n : ℕ) → n ≤ 5 → outcome_order (outcome_at n) ≡ n
 order_at zero le = refl
@@ -65,7 +61,7 @@ one_of (inl a) b = inl (inl a)
 one_of (inr none) (inl b) = inl (inr b)
 one_of (inr none) (inr neither) = inr (λ is. elim is [ inl a ↦ none a | inr b ↦ neither b ])
 
-both : {A B : Type 0} → Decided A → Decided B → Decided (A × B)
+pub both : {A B : Type 0} → Decided A → Decided B → Decided (A × B)
 both (inl a) (inl b) = inl (a, b)
 both (inl a) (inr none) = inr (λ is. none is.1)
 both (inr none) b = inr (λ is. none is.0)

@@ -17,7 +17,7 @@ use Rattle.wsn_rules.specs.PlacedByte.{PlacedByte, placed}
 use Rattle.wsn_rules.specs.ShownPlaces.{IsEncodableHead, IsPlaced, ArePlaced, is_open_message, IsEnd, AreInOrder, IsPartOf, AreHeadsInPlace}
 use Rattle.wsn_rules.specs.ShownStream.{Shown, shown_head, IsShownVerdict, IsShownStream}
 use Rattle.wsn_rules.proofs.Prefixes.{append_cancel, two_fronts}
-use Rattle.wsn_rules.proofs.Walk.{AreSpellable, spellable_of_lawful}
+use Rattle.wsn_rules.proofs.Walk.{AreSpellable, spellable_of_lawful, spellable_tail}
 use Rattle.wsn_rules.proofs.LeastEvident.{evidence_is_some}
 use Rattle.wsn_rules.proofs.BegunHeads.{encodable_begun}
 use Rattle.wsn_rules.proofs.PlacedBytes.{placed-append, end_is, in_order_from}
@@ -70,9 +70,6 @@ one_head bytes n info shown front after whole place is from p =
     one_more bytes n (shown_head info) shown front head after whole (λ e. absurd e) refl some (ap (λ k. k + length head) place) (omega (arith, place, from, some))
     (subst (λ k. IsPlaced (shown_head info) (placed k head)) place (head_placed info is)) p
 
-spellable_after : (f : Frame) (fs : List Frame) → AreSpellable (f ∷ fs) → AreSpellable fs
-spellable_after f fs each before after g e = each (f ∷ before) after g (ap (λ (hs : List Frame). f ∷ hs) e)
-
 -- The heads of whole frames, and then the rest.
 heads_placed : (bytes : List ℕ) (fs : List Frame) (front rest : List ℕ) (later : List Shown) (n : ℕ) → bytes ≡ front ++ (stream fs ++ rest) → AreSpellable fs → n ≤ length front → ArePlacedFrom bytes (length front + length (stream fs)) later
     → ArePlacedFrom bytes n (map shown_head (heads_from (length front) fs) ++ later)
@@ -88,7 +85,7 @@ heads_placed bytes (f ∷ fs) front rest later n whole each from p =
     let grouped : bytes ≡ (front ++ frame_bytes f) ++ (stream fs ++ rest) =
     whole ∙ ap (λ (bs : List ℕ). front ++ bs) (append_assoc (frame_bytes f) (stream fs) rest) ∙ sym (append_assoc front (frame_bytes f) (stream fs ++ rest)) in
     let end : length front + length (stream (f ∷ fs)) ≡ length (front ++ frame_bytes f) + length (stream fs) = omega (arith, next, all) in
-    let others = heads_placed bytes fs (front ++ frame_bytes f) rest later (length front + length head) grouped (spellable_after f fs each) (omega (arith, next, own)) (subst (λ k. ArePlacedFrom bytes k later) end p) in
+    let others = heads_placed bytes fs (front ++ frame_bytes f) rest later (length front + length head) grouped (spellable_tail f fs each) (omega (arith, next, own)) (subst (λ k. ArePlacedFrom bytes k later) end p) in
     let moved = subst (λ k. ArePlacedFrom bytes (length front + length head) (map shown_head (heads_from k fs) ++ later)) next others in
     let parts : bytes ≡ front ++ (head ++ (wire ++ (stream fs ++ rest))) =
     whole ∙ ap (λ (bs : List ℕ). front ++ bs) (append_assoc (frame_bytes f) (stream fs) rest ∙ append_assoc head wire (stream fs ++ rest)) in

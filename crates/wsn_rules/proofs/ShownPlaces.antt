@@ -354,11 +354,7 @@ drop_front (b ∷ front) rest = drop_front front rest
 module _ (role : Role) (limits : Limits) where
   not_close : (op : Op) → (op ≡ Close → ⊥) → is_close op ≡ false
   not_close Close other = absurd (other refl)
-  not_close Continue other = refl
-  not_close Text other = refl
-  not_close Binary other = refl
-  not_close Ping other = refl
-  not_close Pong other = refl
+  not_close _ other = refl
 
   usual_frames : (before fs : List Frame) → AreLawfulAfter role limits before fs → HasNoClose fs → AreUsual before fs
   usual_frames before [] lawful none = tt

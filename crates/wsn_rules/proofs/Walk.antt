@@ -15,7 +15,7 @@ AreSpellable fs = (before after : List Frame) (f : Frame) → fs ≡ before ++ f
 pub spellable_of_lawful : (role : Role) (limits : Limits) (fs : List Frame) → IsLawful role limits fs → AreSpellable fs
 spellable_of_lawful role limits fs lawful before after f e = (lawful.each before after f e).frame.encoded.encodable
 
-spellable_tail : (f : Frame) (fs : List Frame) → AreSpellable (f ∷ fs) → AreSpellable fs
+pub spellable_tail : (f : Frame) (fs : List Frame) → AreSpellable (f ∷ fs) → AreSpellable fs
 spellable_tail f fs each before after g e = each (f ∷ before) after g (ap (λ (hs : List Frame). f ∷ hs) e)
 
 pub stream-append : (fs gs : List Frame) → stream (fs ++ gs) ≡ stream fs ++ stream gs

@@ -1,29 +1,25 @@
 -- Messages as groups of data frames. RFC 6455 section 5.4.
-use Rattle.std.specs.Prelude.{◌≢◌, ℕ, Bool, not, List, [], ◌∷◌, filter, if◌then◌else◌}
-use Rattle.std.specs.List.{list_any, flat_map}
+use Rattle.std.specs.Prelude.{◌≢◌, ℕ, Bool, not, List, [], ◌∷◌, ◌++◌, if◌then◌else◌}
+use Rattle.std.specs.List.{fold, flat_map}
 use Rattle.wsn_wire.specs.declared.opcode.Op.{Op}
 use Rattle.wsn_wire.specs.declared.opcode.Op.TheVariants.{Continue, Text, Binary, Close, Ping, Pong}
 use Rattle.wsn_wire.specs.declared.opcode.Kind.{Kind}
 use Rattle.wsn_wire.specs.declared.opcode.Kind.TheVariants as kind
 use Rattle.wsn_wire.specs.Frame.{Frame, is_control}
 
--- The elements after the last one that passes; all, if none passes.
-abbrev pub after_last : {A : Type 0} → (A → Bool) → List A → List A
-after_last passes [] = []
-after_last passes (x ∷ xs) = if list_any passes (x ∷ xs) then after_last passes xs else x ∷ xs
-
 -- The frame is a data frame.
 abbrev pub is_data : Frame → Bool
 is_data f = not (is_control f.op)
 
--- The frame has FIN.
-abbrev pub is_final : Frame → Bool
-is_final f = f.fin
+-- The data frames of the unfinished message, after one more frame: a data frame ends the message if it is final, and
+-- joins it otherwise; a control frame changes nothing.
+abbrev pub with_frame : List Frame → Frame → List Frame
+with_frame group f = if is_data f then (if f.fin then [] else group ++ f ∷ []) else group
 
--- The data frames of the unfinished message: those after the last final data frame. The group of a data frame is the
--- frames that are unfinished before it, and the frame itself.
+-- The data frames of the unfinished message, frame by frame. The group of a data frame is the frames that are
+-- unfinished before it, and the frame itself.
 abbrev pub unfinished : List Frame → List Frame
-unfinished fs = after_last is_final (filter is_data fs)
+unfinished = fold with_frame []
 
 -- A message is unfinished.
 abbrev pub IsOpen : List Frame → Type 0

@@ -1,12 +1,11 @@
 -- Plans: how events are split into frames, one step for each frame. RFC 6455 sections 5.3 and 5.4.
-use Rattle.std.specs.Prelude.{ℕ, Bool, true, false, Option, None, Some, List, [], ◌∷◌, length, filter, map, drop, sum, IfSome}
-use Rattle.std.specs.List.{AllByRecursion}
+use Rattle.std.specs.Prelude.{ℕ, Bool, true, false, Option, None, Some, List, [], ◌∷◌, ◌++◌, length, filter, map, drop, sum, IfSome}
+use Rattle.std.specs.List.{AllByRecursion, fold}
 use Rattle.wsn_wire.specs.declared.length_forms.Form.{Form}
 use Rattle.wsn_wire.specs.declared.length_forms.Form.TheVariants.{Shortest}
 use Rattle.wsn_wire.specs.Frame.{IsKey}
 use Rattle.wsn_rules.specs.declared.step.Step.{Step}
 use Rattle.wsn_rules.specs.declared.step.Step.TheVariants.{Piece, Last, Control}
-use Rattle.wsn_rules.specs.Group.{after_last}
 use Rattle.wsn_rules.specs.Meaning.{MeantEvent}
 use Rattle.wsn_rules.specs.Meaning as meant
 
@@ -29,11 +28,6 @@ abbrev pub is_last : Step → Bool
 is_last (Last key form) = true
 is_last step = false
 
--- The step is a Piece.
-abbrev pub is_piece : Step → Bool
-is_piece (Piece len key form) = true
-is_piece step = false
-
 -- The step is an end: a Last ends a message, and a Control is a whole control.
 abbrev pub is_end : Step → Bool
 is_end (Piece len key form) = false
@@ -54,9 +48,16 @@ IsPlan = AllByRecursion (λ step. IfSome (key_of step) IsKey)
 abbrev pub ends : List Step → List Step
 ends = filter is_end
 
--- The Pieces after the last Last: they belong to the unfinished message. Controls may come between them.
+-- The Pieces of the unfinished message, after one more step: a Piece joins them, a Last ends the message, and a Control
+-- changes nothing.
+abbrev pub pieces_after : List Step → Step → List Step
+pieces_after pieces (Piece len key form) = pieces ++ Piece len key form ∷ []
+pieces_after pieces (Last key form) = []
+pieces_after pieces (Control key) = pieces
+
+-- The Pieces of the unfinished message, step by step.
 abbrev pub pending : List Step → List Step
-pending plan = filter is_piece (after_last is_last plan)
+pending = fold pieces_after []
 
 -- The number of bytes in Pieces.
 abbrev pub total : List Step → ℕ

@@ -1,6 +1,6 @@
 -- What is shown of a stream: its events or its frames' heads, a refusal, and what its frames leave over. Every byte of
 -- the stream belongs to one of these. RFC 6455 sections 5.2 to 5.6 and 7.1.
-use Rattle.std.specs.Prelude.{◌≡◌, ◌≢◌, ℕ, ◌+◌, ◌-◌, ◌⊎◌, Bool, nat_lt, Option, None, Some, List, [], ◌∷◌, ◌++◌, length, take, drop, map, flat_map, if◌then◌else◌}
+use Rattle.std.specs.Prelude.{◌≡◌, ◌≢◌, ℕ, ◌+◌, ◌-◌, ◌⊎◌, Bool, not, ◌&&◌, nat_lt, Option, None, Some, List, [], ◌∷◌, ◌++◌, length, take, drop, map, flat_map, if◌then◌else◌}
 use Rattle.wsn_wire.specs.declared.endpoint.Role.{Role}
 use Rattle.wsn_wire.specs.declared.refusal.Reason.{Reason}
 use Rattle.wsn_wire.specs.Frame.{Frame, stream, is_control, head_bytes, wire_payload}
@@ -11,7 +11,8 @@ use Rattle.wsn_rules.specs.declared.verdict.Refusal.{Refusal}
 use Rattle.wsn_rules.specs.declared.verdict.Verdict.{Verdict}
 use Rattle.wsn_rules.specs.declared.verdict.Verdict.TheVariants.{Accepted, Cut, Refused}
 use Rattle.wsn_rules.specs.Limits.{Limits}
-use Rattle.wsn_rules.specs.Group.{after_last, is_data, unfinished, kind_of, payload_of}
+use Rattle.std.specs.List.{fold}
+use Rattle.wsn_rules.specs.Group.{is_data, unfinished, kind_of, payload_of}
 use Rattle.wsn_rules.specs.Meaning.{MeantEvent, Message, Control, event_at}
 use Rattle.wsn_rules.specs.Summary.{ends_message, is_close}
 use Rattle.wsn_rules.specs.Heads.{BeginsWithHead, AreHeads}
@@ -50,14 +51,15 @@ shown_after n = map (λ item. record { after = n; item = item })
 
 -- ---- the open message
 
--- The elements from the first one that passes on; none, if none passes.
-abbrev pub from_first : {A : Type 0} → (A → Bool) → List A → List A
-from_first passes [] = []
-from_first passes (x ∷ xs) = if passes x then x ∷ xs else from_first passes xs
+-- The frames from the first one of the open message on, after one more frame: the frame ends the message, or joins
+-- them; if none is open, a fragment begins one.
+abbrev pub since_with : List Frame → Frame → List Frame
+since_with [] f = if is_data f && not f.fin then f ∷ [] else []
+since_with (g ∷ since) f = if ends_message f then [] else g ∷ (since ++ f ∷ [])
 
 -- The frames from the first one of the open message on, with the controls between them; none if no message is open.
 abbrev pub since_open : List Frame → List Frame
-since_open fs = from_first is_data (after_last ends_message fs)
+since_open = fold since_with []
 
 -- The offset of the open message's first frame; if no message is open, that of the next frame.
 abbrev pub open_offset : List Frame → ℕ

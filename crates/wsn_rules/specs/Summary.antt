@@ -5,7 +5,7 @@ use Rattle.wsn_wire.specs.declared.opcode.Op.{Op}
 use Rattle.wsn_wire.specs.declared.opcode.Op.TheVariants.{Close, Ping, Pong}
 use Rattle.wsn_wire.specs.Frame.{Frame}
 use Rattle.wsn_rules.specs.declared.verdict.Summary.{Summary}
-use Rattle.wsn_rules.specs.Group.{is_data, is_final, unfinished, payload_of}
+use Rattle.wsn_rules.specs.Group.{is_data, unfinished, payload_of}
 
 -- The size in bytes of the open message, if there is one.
 abbrev pub size_of_open : List Frame → Option ℕ
@@ -14,7 +14,7 @@ size_of_open (f ∷ group) = Some (length (payload_of (f ∷ group)))
 
 -- [5.4] The frame ends a message: it is a final data frame.
 abbrev pub ends_message : Frame → Bool
-ends_message f = is_data f && is_final f
+ends_message f = is_data f && f.fin
 
 -- The opcode is Close.
 abbrev pub is_close : Op → Bool
@@ -31,10 +31,10 @@ abbrev pub is_pong : Op → Bool
 is_pong Pong = true
 is_pong _ = false
 
--- [7.1.5] The code in the body of a Close; none if the body is empty.
+-- [7.1.5] The code in the body of a Close: its first two bytes, the higher first; none if the body is empty.
 abbrev pub close_code : List ℕ → Option ℕ
-close_code [] = None
-close_code (b ∷ body) = Some (from_be_bytes w16 (b ∷ body))
+close_code (high ∷ low ∷ reason) = Some (from_be_bytes w16 (high ∷ low ∷ []))
+close_code body = None
 
 -- The code of the first Close, or none if it is empty; and none without a Close.
 abbrev pub close_of : List Frame → Option (Option ℕ)

@@ -40,6 +40,20 @@ impl Model for Limits {
 impl Limits {
     ghost use Rattle.wsn_rules.specs.Limits.{Limits, InRange};
 
+    /// The greatest limits: 16,777,216 bytes for a message and 2^40 for an input, with any number of frames in a message
+    /// and only the shortest encoding of a length.
+    #[tactic(none)]
+    pub fn greatest() -> Limits
+        ensures { result ≡ record { message = 16777216; input = 2 ^ 40; frames = None; lengths = Shortest } }
+    {
+        Limits {
+            message: MESSAGE_MAX,
+            input: INPUT_MAX,
+            frames: None,
+            lengths: Lengths::Shortest,
+        }
+    }
+
     /// Limits of `message` bytes for a message and `input` bytes for an input, with any number of frames in a message
     /// and only the shortest encoding of a length. `None` exactly if `message` is over 16,777,216 or `input` over 2^40.
     #[tactic(none)]

@@ -1,8 +1,6 @@
 -- The last byte of a frame: the bytes that came are a lawful frame, and the scan has one whole frame more.
-use Rattle.std.proofs.Common.{◌≡◌, ◌≢◌, ℕ, ◌+◌, ◌<◌, ◌≤◌, ◌^◌, Bool, true, false, cond, not, Option, None, Some, is_some, List, [], ◌∷◌, ◌++◌, length, refl, sym, ap, ◌∙◌, subst, arith, append_assoc, append-nil, length-append}
-use Rattle.std.specs.Prelude.{filter}
-use Rattle.std.specs.List.{list_any}
-use Rattle.std.proofs.lemmas.List.Sums.{length-filter, count_by-le-length}
+use Rattle.std.proofs.Common.{◌≡◌, ◌≢◌, ℕ, ◌+◌, ◌<◌, ◌≤◌, ◌^◌, Bool, true, false, cond, not, Option, None, Some, is_some, List, [], ◌∷◌, ◌++◌, length, refl, sym, ap, ◌∙◌, subst, arith, append_assoc, append-nil, length-append, if◌then◌else◌}
+use Rattle.std.specs.List.{fold}
 use Rattle.wsn_wire.specs.declared.endpoint.Role.{Role}
 use Rattle.wsn_wire.specs.declared.opcode.Op.{Op}
 use Rattle.wsn_wire.specs.declared.opcode.Op.TheVariants.{Close}
@@ -16,7 +14,7 @@ use Rattle.wsn_frame.specs.declared.heads.Head.{Head}
 use Rattle.wsn_frame.specs.declared.payload_check.PayloadCheck.{PayloadCheck}
 use Rattle.wsn_scan.specs.declared.scan.Scan.{Scan}
 use Rattle.wsn_rules.specs.Limits.{Limits, InRange}
-use Rattle.wsn_rules.specs.Group.{after_last, is_data, is_final, unfinished, payload_of, first_op}
+use Rattle.wsn_rules.specs.Group.{is_data, with_frame, unfinished, payload_of, first_op}
 use Rattle.wsn_rules.specs.Lawful.{LawAt, IsLawful}
 use Rattle.wsn_rules.specs.Accepted.{HasNoClose, EndsWithClose}
 use Rattle.wsn_rules.specs.Summary.{is_close, close_code, close_of}
@@ -32,7 +30,7 @@ use Rattle.wsn_rules.proofs.LawfulLists.{law_at_split, lawful_push}
 use Rattle.wsn_rules.proofs.Groups.{group_of_lawful, unfinished_control, unfinished_final, unfinished_more}
 use Rattle.wsn_scan.proofs.ScanVerdicts.{other_op}
 use Rattle.wsn_rules.proofs.LayoutPrefixes.{layout_of}
-use Rattle.wsn_rules.proofs.MessageText.{text_of_push}
+use Rattle.wsn_rules.proofs.MessageText.{text_of_push, not_one_byte}
 use Rattle.wsn_rules.proofs.Walk.{stream_push}
 use Rattle.wsn_rules.proofs.RowsOfLayout.{RowAt, row_has_evidence}
 use Rattle.wsn_rules.proofs.LayoutsWithoutEvidence.{without_evidence_is_lawful, head_shows_nothing}
@@ -48,7 +46,7 @@ close_of-push (g ∷ fs) f none is =
 
 -- a lawful Close's body isn't one byte long
 pub close_not_one : (role : Role) (limits : Limits) (fs : List Frame) (f : Frame) → IsLawful role limits (fs ++ f ∷ []) → f.op ≡ Close → length f.payload ≢ 1
-close_not_one role limits fs f lawful is = (law_at_split role limits fs f [] lawful).frame.encoded.close is
+close_not_one role limits fs f lawful is = not_one_byte f.payload ((law_at_split role limits fs f [] lawful).frame.close is)
 
 -- a frame whose first byte has opcode 8 is a Close
 pub is_a_close : (f : Frame) → opcode_field (first_byte f.fin f.op) ≡ 8 → f.op ≡ Close
@@ -154,16 +152,17 @@ frames_few (f ∷ fs) =
     let some : 0 < length (frame_bytes f) = omega arith in
     omega arith
 
-after_last_few : (fs : List Frame) → length (after_last is_final fs) ≤ length fs
-after_last_few [] = omega arith
-after_last_few (f ∷ fs) = by (list_any is_final (f ∷ fs)) (after_last_few fs)
+group_few : (fs group : List Frame) → length (fold with_frame group fs) ≤ length group + length fs
+group_few [] group = omega arith
+group_few (f ∷ fs) group = omega (arith, group_few fs (with_frame group f), by (is_data f) f.fin)
   where
-    by : (b : Bool) → length (after_last is_final fs) ≤ length fs → length (cond b (after_last is_final fs) (f ∷ fs)) ≤ length (f ∷ fs)
-    by true fewer = omega arith
-    by false fewer = omega arith
+    by : (data_frame final : Bool) → length (if data_frame then (if final then [] else group ++ f ∷ []) else group) ≤ length group + 1
+    by true true = omega arith
+    by true false = omega (arith, length-append group (f ∷ []))
+    by false final = omega arith
 
 pub unfinished_few : (fs : List Frame) → length (unfinished fs) ≤ length (stream fs)
-unfinished_few fs = omega (arith, after_last_few (filter is_data fs), length-filter is_data fs, count_by-le-length is_data fs, frames_few fs)
+unfinished_few fs = omega (arith, group_few fs [], frames_few fs)
 
 pub text_small : (role : Role) (limits : Limits) (fs : List Frame) (f : Frame) → InRange limits → IsLawful role limits fs → LawAt role limits fs f → length (payload_of (unfinished fs ++ f ∷ [])) < 2 ^ 32
 text_small role limits fs f range lawful law = by_op (is_control f.op) refl

@@ -111,7 +111,7 @@ module _ (role : Role) (limits : Limits) where
 
   -- the verdict is that on all of them
   pub whole_verdict : (old new : Incoming) (verdict : Verdict) (all : List ℕ) → IsJudged role limits old new (Ok verdict) → old.remaining ≡ Some all → (fs : List Frame) × IsVerdict role limits all fs verdict
-  whole_verdict old new verdict all judged known = by_rest new.remaining refl (subst (λ (a : Option (List ℕ)). Consumes a new.remaining judged.0) known judged.1.received.consumed)
+  whole_verdict old new verdict all judged known = by_rest new.remaining refl (subst (λ (a : Option (List ℕ)). Consumes a new.remaining judged.0) known judged.1.received.consumed.consumed)
     where
       by_verdict : (rest : List ℕ) → new.remaining ≡ Some rest → all ≡ judged.0 ++ rest → (v : Verdict) → IsReached role limits new judged.0 v → (fs : List Frame) × IsVerdict role limits all fs v
       by_verdict rest left is (Refused refusal) reached =
@@ -132,7 +132,7 @@ module _ (role : Role) (limits : Limits) where
   -- more bytes are left than the limit allows, and those within it are not refused
   pub whole_limit : (old new : Incoming) (all : List ℕ) → IsJudged role limits old new (Err stop.InputLimit) → old.remaining ≡ Some all
       → (limits.input < length all) × IsUnrefused role limits (take limits.input all)
-  whole_limit old new all judged known = by_rest new.remaining (subst (λ (a : Option (List ℕ)). Consumes a new.remaining judged.0) known judged.1.received.consumed)
+  whole_limit old new all judged known = by_rest new.remaining (subst (λ (a : Option (List ℕ)). Consumes a new.remaining judged.0) known judged.1.received.consumed.consumed)
     where
       by_rest : (rest : Option (List ℕ)) → Consumes (Some all) rest judged.0 → (limits.input < length all) × IsUnrefused role limits (take limits.input all)
       by_rest None consumed = absurd consumed

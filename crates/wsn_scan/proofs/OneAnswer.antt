@@ -33,8 +33,8 @@ module _ (role : Role) (limits : Limits) (old : Incoming) (all : List ℕ) (know
       by_verdict verdict judged.1.answer whole.0 whole.1 limit.0 limit.1
     where
       by_verdict : (v : Verdict) → IsReached role limits new judged.0 v → (fs : List Frame) → IsVerdict role limits all fs v → limits.input < length all → IsUnrefused role limits (take limits.input all) → ⊥
-      by_verdict (Accepted s) reached fs is more none = let size = ap (λ (bs : List ℕ). length bs) (all_came new judged.0 judged.1.received.consumed reached.2) in omega (arith, reached.3)
-      by_verdict (Cut s) reached fs is more none = let size = ap (λ (bs : List ℕ). length bs) (all_came new judged.0 judged.1.received.consumed reached.2) in omega (arith, reached.3)
+      by_verdict (Accepted s) reached fs is more none = let size = ap (λ (bs : List ℕ). length bs) (all_came new judged.0 judged.1.received.consumed.consumed reached.2) in omega (arith, reached.3)
+      by_verdict (Cut s) reached fs is more none = let size = ap (λ (bs : List ℕ). length bs) (all_came new judged.0 judged.1.received.consumed.consumed reached.2) in omega (arith, reached.3)
       by_verdict (Refused r) reached fs is more none =
           none fs r.place r.reason (refused_alike role limits fs all (take limits.input all) r.place r.reason (take-take (r.place + 1) limits.input all (omega (arith, reached.3))) is)
 

@@ -5,22 +5,17 @@ use Rattle.wsn_wire.specs.declared.endpoint.Role.{Role}
 use Rattle.wsn_wire.specs.declared.refusal.Reason.{Reason}
 use Rattle.wsn_wire.specs.Frame.{Frame}
 use Rattle.wsn_io.specs.Transfer.{Incoming, IsReceived}
-use Rattle.wsn_rules.specs.declared.head_info.HeadInfo.{HeadInfo}
 use Rattle.wsn_rules.specs.declared.verdict.Verdict.{Verdict}
 use Rattle.wsn_rules.specs.declared.verdict.Verdict.TheVariants.{Refused}
 use Rattle.wsn_io.specs.declared.stop.Stop.{Stop}
 use Rattle.wsn_io.specs.declared.stop.Stop.TheVariants as stop
 use Rattle.wsn_rules.specs.Limits.{Limits}
-use Rattle.wsn_rules.specs.Heads.{AreHeads}
-use Rattle.wsn_scan.specs.Refill.{chunk_size}
 use Rattle.wsn_rules.specs.Verdict.{IsRefused, IsVerdict}
+pub use Rattle.wsn_scan.specs.ReportedHeads.{HasVerdictAndHeads}
 
--- The bytes have this verdict, and these are all their heads.
-pub record HasVerdictAndHeads (role : Role) (limits : Limits) (bytes : List ℕ) (heads : List HeadInfo)
-    (verdict : Verdict) : Type 0 where
-  pub frames : List Frame
-  pub is_verdict : IsVerdict role limits bytes frames verdict
-  pub are_heads : AreHeads role limits bytes frames heads
+-- The maximum number of bytes that one read returns.
+abbrev pub chunk_size : ℕ
+chunk_size = 4096
 
 -- These bytes are not refused.
 abbrev pub IsUnrefused : Role → Limits → List ℕ → Type 0

@@ -6,10 +6,7 @@ use Rattle.wsn_io.specs.Transfer.{Incoming, IsConsumed, IsKept}
 use Rattle.wsn_io.specs.declared.stop.Stop.{Stop}
 use Rattle.wsn_io.specs.declared.stop.Stop.TheVariants as stop
 use Rattle.wsn_scan.specs.declared.refill.ReadChunk.{ReadChunk}
-
--- the maximum number of bytes that one read returns
-abbrev pub chunk_size : ℕ
-chunk_size = 4096
+pub use Rattle.wsn_scan.specs.Judging.{chunk_size}
 
 -- how many bytes past the limit came
 abbrev pub count_past : Bool → ℕ

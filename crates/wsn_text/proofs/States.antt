@@ -11,14 +11,7 @@ use Rattle.wsn_text.proofs.Decide.{fill}
 
 not_at_end : (expected : Expected) → expected ≢ Character → ¬ (Follows (awaited expected) [])
 not_at_end Character other follows = other refl
-not_at_end One other follows = follows
-not_at_end Two other follows = follows
-not_at_end TwoFromA0 other follows = follows
-not_at_end TwoUpTo9F other follows = follows
-not_at_end Three other follows = follows
-not_at_end ThreeFrom90 other follows = follows
-not_at_end ThreeUpTo8F other follows = follows
-not_at_end Nothing other follows = follows
+not_at_end _ other follows = follows
 
 pub text_between : (expected : Expected) (state : Option (List Range)) (taken : List ℕ) → awaited expected ≡ state → expected ≡ Character → HasValidated state taken → IsText taken
 text_between expected state taken seen between has =

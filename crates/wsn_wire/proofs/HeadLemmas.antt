@@ -18,7 +18,8 @@ use Rattle.wsn_wire.specs.declared.refusal.Reason.TheVariants.{ReservedBits, Res
 use Rattle.wsn_wire.specs.Frame.{Frame, opcode, is_control, first_byte, second_byte, length_field, length_bytes, len_form_of, key_bytes, wire_payload, frame_bytes, masked, IsBytes, IsKey, FormFits}
 use Rattle.wsn_wire.specs.Layout.{fin_bit, reserved_bits, opcode_field, mask_bit, len_form_at, length_count, encoded_length, HasLayout}
 use Rattle.wsn_wire.specs.EvidenceInHeads.{IsReserved, IsControlOpcode, EvidentInFirst, EvidentInSecond, EvidentInLength, HasTopBit, IsNotMinimal, IsLong}
-use Rattle.wsn_wire.specs.HeadLaw.{IsEncodedFor, HeadHasNoEvidence}
+use Rattle.wsn_wire.specs.HeadLaw.{IsEncodedFor}
+use Rattle.wsn_wire.specs.HeadsWithoutEvidence.{HeadHasNoEvidence, IsNoCloseOfOneByte}
 use Rattle.wsn_wire.proofs.MaskLemmas.{at-All}
 use Rattle.wsn_wire.proofs.FrameLemmas.{op_at, form_at, key_at, frame_at, Spells, short-len_form_of, two-len_form_of, eight-len_form_of, IsBytes-left, IsBytes-right, length-wire_payload, wire_payload_bytes, wire_payload_twice, IsFirstByteOf, first_byte_fields, second_byte_fields, length_bytes_fields, spells-len_form_of}
 
@@ -185,6 +186,7 @@ masked_for Server false present absent = ((λ is. absurd (false≢true is)), (λ
 -- The frame of a layout: it is encoded as its sender must, and its bytes are the layout's.
 pub record IsSpelledBy (role : Role) (lengths : Lengths) {bytes : List ℕ} (l : HasLayout bytes) (f : Frame) : Type 0 where
   pub owed : IsEncodedFor role lengths f
+  pub not_one : IsNoCloseOfOneByte f
   pub bytes_are : frame_bytes f ≡ bytes
   pub fin_is : f.fin ≡ fin_bit l.first
   pub opcode_is : opcode f.op ≡ opcode_field l.first
@@ -242,10 +244,10 @@ frame_of_layout role lengths bytes l shows =
         control = λ control.
             let fits = form_at_short field count spells (short control) in
             record { final = final_control (fin_bit l.first) (λ more. shows.by_first ControlNotFinal (as_control control, more)); short = rw size fits.1; shortest = fits.0 };
-        close = λ close one.
-            let is_control : is_control (op_at (opcode_field l.first)) ≡ true = ap is_control close in
-            shows.by_second CloseOneByte (sym op ∙ ap opcode close, one_byte field count spells (short is_control) (sym size ∙ one));
       };
+      not_one = λ close one.
+          let is_control : is_control (op_at (opcode_field l.first)) ≡ true = ap is_control close in
+          shows.by_second CloseOneByte (sym op ∙ ap opcode close, one_byte field count spells (short is_control) (sym size ∙ one));
       bytes_are = parts ∙ (ap (λ bs. l.first ∷ l.second ∷ bs) (append_assoc l.len l.key l.payload) ∙ sym l.whole);
       fin_is = refl;
       opcode_is = op;
@@ -313,24 +315,24 @@ first_shows_nothing fin op first fields final ControlNotFinal is_evident =
     false≢true (sym is_evident.1 ∙ (fields.fin_is ∙ is_final))
 first_shows_nothing fin op first fields final _ is_evident = is_evident
 
-pub second_shows_nothing : (role : Role) (lengths : Lengths) (f : Frame) → IsEncodedFor role lengths f → (first second : ℕ) →
+pub second_shows_nothing : (role : Role) (lengths : Lengths) (f : Frame) → IsEncodedFor role lengths f → IsNoCloseOfOneByte f → (first second : ℕ) →
     opcode_field first ≡ opcode f.op → mask_bit second ≡ is_some f.key → len_form_at second ≡ len_form_of f.form (length f.payload) →
     (r : Reason) → EvidentInSecond role r first second → ⊥
-second_shows_nothing role lengths f owed first second op mask field MaskMissing is_evident = false≢true (sym is_evident.1 ∙ (mask ∙ owed.masked.1 is_evident.0))
-second_shows_nothing role lengths f owed first second op mask field MaskPresent is_evident =
+second_shows_nothing role lengths f owed not_one first second op mask field MaskMissing is_evident = false≢true (sym is_evident.1 ∙ (mask ∙ owed.masked.1 is_evident.0))
+second_shows_nothing role lengths f owed not_one first second op mask field MaskPresent is_evident =
     let client : role ≡ Client = owed.masked.0 (sym mask ∙ is_evident.1) in
     let server : role ≡ Server = is_evident.0 in
     cc
-second_shows_nothing role lengths f owed first second op mask field ControlTooLong is_evident =
+second_shows_nothing role lengths f owed not_one first second op mask field ControlTooLong is_evident =
     let law = owed.control (control_from_opcode f.op (subst IsControlOpcode op is_evident.0)) in
     let encoded : len_form_at second ≡ len_form_of form.Shortest (length f.payload) = field ∙ ap (λ g. len_form_of g (length f.payload)) law.shortest in
     (short_is (length f.payload) law.short).0 (subst IsLong encoded is_evident.1)
-second_shows_nothing role lengths f owed first second op mask field CloseOneByte is_evident =
+second_shows_nothing role lengths f owed not_one first second op mask field CloseOneByte is_evident =
     let is_close = close_from_opcode f.op (sym op ∙ is_evident.0) in
     let law = owed.control (ap is_control is_close) in
     let encoded : len_form_at second ≡ len_form_of form.Shortest (length f.payload) = field ∙ ap (λ g. len_form_of g (length f.payload)) law.shortest in
-    owed.close is_close ((short_is (length f.payload) law.short).1 1 (sym encoded ∙ is_evident.1))
-second_shows_nothing role lengths f owed first second op mask field _ is_evident = is_evident
+    not_one is_close ((short_is (length f.payload) law.short).1 1 (sym encoded ∙ is_evident.1))
+second_shows_nothing role lengths f owed not_one first second op mask field _ is_evident = is_evident
 
 pub length_shows_nothing : (role : Role) (lengths : Lengths) (f : Frame) → IsEncodedFor role lengths f → (g : LenForm) (bytes : List ℕ) →
     g ≡ len_form_of f.form (length f.payload) → encoded_length g bytes ≡ length f.payload →
@@ -341,12 +343,12 @@ length_shows_nothing role lengths f owed g bytes field decoded LengthNotMinimal 
     minimal_is (length f.payload) (subst (λ h. IsNotMinimal h (length f.payload)) encoded (subst (λ n. IsNotMinimal g n) decoded is_evident.1))
 length_shows_nothing role lengths f owed g bytes field decoded _ is_evident = is_evident
 
-pub frame_shows_nothing : (role : Role) (lengths : Lengths) (f : Frame) → IsEncodedFor role lengths f →
+pub frame_shows_nothing : (role : Role) (lengths : Lengths) (f : Frame) → IsEncodedFor role lengths f → IsNoCloseOfOneByte f →
     HeadHasNoEvidence role lengths
     (first_byte f.fin f.op)
     (second_byte f.key (len_form_of f.form (length f.payload)))
     (length_bytes (len_form_of f.form (length f.payload)) (length f.payload))
-frame_shows_nothing role lengths f owed =
+frame_shows_nothing role lengths f owed not_one =
     let first = first_byte f.fin f.op in
     let second = second_byte f.key (len_form_of f.form (length f.payload)) in
     let bytes = length_bytes (len_form_of f.form (length f.payload)) (length f.payload) in
@@ -356,7 +358,7 @@ frame_shows_nothing role lengths f owed =
     let of_length = length_bytes_fields (len_form_of f.form (length f.payload)) (length f.payload) spells in
     record {
       by_first = first_shows_nothing f.fin f.op first of_first (λ control. (owed.control control).final);
-      by_second = second_shows_nothing role lengths f owed first second of_first.opcode_is of_second.mask_is of_second.field_is;
+      by_second = second_shows_nothing role lengths f owed not_one first second of_first.opcode_is of_second.mask_is of_second.field_is;
       by_length = length_shows_nothing role lengths f owed (len_form_at second) bytes of_second.field_is (ap (λ g. encoded_length g bytes) of_second.field_is ∙ of_length.decoded);
     }
 

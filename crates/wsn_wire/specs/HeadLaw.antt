@@ -1,15 +1,11 @@
 -- The rules for the head of a frame that an endpoint sends. RFC 6455 sections 5.1, 5.2 and 5.5.
-use Rattle.std.specs.Prelude.{◌≡◌, ◌≢◌, ℕ, ◌≤◌, ◌↔◌, true, List, length, IsSome}
+use Rattle.std.specs.Prelude.{◌≡◌, ℕ, ◌≤◌, ◌↔◌, true, List, length, IsSome}
 use Rattle.wsn_wire.specs.declared.endpoint.Role.{Role}
 use Rattle.wsn_wire.specs.declared.endpoint.Role.TheVariants.{Client}
-use Rattle.wsn_wire.specs.declared.opcode.Op.TheVariants.{Close}
-use Rattle.wsn_wire.specs.declared.refusal.Reason.{Reason}
 use Rattle.wsn_wire.specs.declared.length_forms.Form.TheVariants as form
 use Rattle.wsn_wire.specs.declared.length_forms.Lengths.{Lengths}
 use Rattle.wsn_wire.specs.declared.length_forms.Lengths.TheVariants as encodings
 use Rattle.wsn_wire.specs.Frame.{Frame, is_control, IsEncodable}
-use Rattle.wsn_wire.specs.Layout.{len_form_at}
-use Rattle.wsn_wire.specs.EvidenceInHeads.{EvidentInFirst, EvidentInSecond, EvidentInLength}
 
 -- [5.5] A control frame has FIN and at most 125 bytes of payload, with the shortest encoding of its length.
 pub record ControlLaw (f : Frame) : Type 0 where
@@ -26,11 +22,3 @@ pub record IsEncodedFor (role : Role) (lengths : Lengths) (f : Frame) : Type 0 w
   -- A longer encoding of the length is valid only if any is accepted.
   pub shortest : lengths ≡ encodings.Shortest → f.form ≡ form.Shortest
   pub control : is_control f.op ≡ true → ControlLaw f
-  -- [5.5.1] The body of a Close is not a single byte.
-  pub close : f.op ≡ Close → length f.payload ≢ 1
-
--- The head is evidence for no reason: neither its first byte, nor its second, nor its length bytes.
-pub record HeadHasNoEvidence (role : Role) (lengths : Lengths) (first second : ℕ) (len : List ℕ) : Type 0 where
-  pub by_first : (r : Reason) → ¬ (EvidentInFirst r first)
-  pub by_second : (r : Reason) → ¬ (EvidentInSecond role r first second)
-  pub by_length : (r : Reason) → ¬ (EvidentInLength lengths r (len_form_at second) len)

@@ -4,3 +4,4 @@ pub mod Layout
 pub mod Refusal
 pub mod EvidenceInHeads
 pub mod HeadLaw
+pub mod HeadsWithoutEvidence

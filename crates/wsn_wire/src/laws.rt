@@ -3,7 +3,8 @@
 ghost use Rattle.std.specs.Prelude.{◌≡◌, ℕ, ◌+◌, ◌<◌, ◌^◌, Bool, true, Option, None, List, [], ◌∷◌, ◌++◌, length, is_some};
 ghost use Rattle.wsn_wire.specs.Frame.{Frame, IsBytes, IsEncodable, masked, opcode, first_byte, second_byte, len_form_of, length_bytes, head_bytes, frame_bytes, FormFits};
 ghost use Rattle.wsn_wire.specs.Layout.{fin_bit, reserved_bits, opcode_field, mask_bit, len_form_at, length_count, encoded_length, HasLayout};
-ghost use Rattle.wsn_wire.specs.HeadLaw.{IsEncodedFor, HeadHasNoEvidence};
+ghost use Rattle.wsn_wire.specs.HeadLaw.{IsEncodedFor};
+ghost use Rattle.wsn_wire.specs.HeadsWithoutEvidence.{HeadHasNoEvidence, IsNoCloseOfOneByte};
 ghost use Rattle.wsn_wire.specs.declared.endpoint.Role.{Role};
 ghost use Rattle.wsn_wire.specs.declared.opcode.Op.{Op};
 ghost use Rattle.wsn_wire.specs.declared.length_forms.Form.{Form};
@@ -78,19 +79,21 @@ pub fn frame_bytes_determine_the_frame()
         frame_bytes f ++ xs ≡ frame_bytes g ++ ys → (f ≡ g) × (xs ≡ ys) }
 {}
 
-/// The head of a frame that is encoded as its sender must is evidence for no reason to refuse it.
+/// The head of a frame that is encoded as its sender must, and isn't a Close with a body of one byte, is evidence for no
+/// reason to refuse it.
 pub fn owed_heads_have_no_evidence()
-    ensures { (role : Role) (lengths : Lengths) (f : Frame) → IsEncodedFor role lengths f →
+    ensures { (role : Role) (lengths : Lengths) (f : Frame) → IsEncodedFor role lengths f → IsNoCloseOfOneByte f →
         HeadHasNoEvidence role lengths (first_byte f.fin f.op)
         (second_byte f.key (len_form_of f.form (length f.payload)))
         (length_bytes (len_form_of f.form (length f.payload)) (length f.payload)) }
 {}
 
-/// A complete layout whose head is evidence for no refusal is the bytes of a frame that is encoded as its sender must.
+/// A complete layout whose head is evidence for no refusal is the bytes of a frame that is encoded as its sender must,
+/// and isn't a Close with a body of one byte.
 pub fn layouts_without_evidence_are_frames()
     ensures { (role : Role) (lengths : Lengths) (bytes : List ℕ) (l : HasLayout bytes) →
         HeadHasNoEvidence role lengths l.first l.second l.len →
-        (f : Frame) × IsEncodedFor role lengths f × (frame_bytes f ≡ bytes) }
+        (f : Frame) × IsEncodedFor role lengths f × IsNoCloseOfOneByte f × (frame_bytes f ≡ bytes) }
 {}
 
 /// A server's heads of final frames, byte for byte: at the lengths where the shortest encoding changes, and for a

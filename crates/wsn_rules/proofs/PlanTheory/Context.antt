@@ -3,26 +3,20 @@
 use Rattle.std.proofs.Common.{◌≡◌, ℕ, ◌+◌, List, [], ◌∷◌, ◌++◌, length, filter, drop, refl, sym, ap, ◌∙◌, append-nil, drop-drop}
 use Rattle.std.proofs.lemmas.List.{length-append}
 use Rattle.std.proofs.lemmas.List.Elements.{filter-append}
+use Rattle.std.proofs.lemmas.List.Sums.{fold_push, fold-append}
 use Rattle.wsn_wire.specs.Frame.{Frame}
 use Rattle.wsn_rules.specs.declared.step.Step.{Step}
 use Rattle.wsn_rules.specs.declared.step.Step.TheVariants.{Piece, Last, Control}
-use Rattle.wsn_rules.specs.Group.{after_last}
 use Rattle.wsn_rules.specs.Meaning.{MeantEvent}
-use Rattle.wsn_rules.specs.Plan.{is_last, is_piece, is_end, ends, pending, events_left}
+use Rattle.wsn_rules.specs.Plan.{is_end, ends, pending, events_left}
 use Rattle.wsn_rules.specs.Recut.{frame_at, frames_after, recut}
 use Rattle.wsn_rules.proofs.Prefixes.{push-append}
-use Rattle.wsn_rules.proofs.Groups.{after_last_push_yes, after_last_push_no}
 use Rattle.wsn_rules.proofs.PlanTheory.FromTheFront.{pieces_after, left_after, left_following, pieces_following, recut_from}
 
 -- ---- one more step
 
 pub pending_push : (plan : List Step) (step : Step) → pending (plan ++ step ∷ []) ≡ pieces_after (pending plan) step
-pending_push plan (Piece len key form) =
-    ap (filter is_piece) (after_last_push_no is_last plan (Piece len key form) refl) ∙ filter-append is_piece (after_last is_last plan) (Piece len key form ∷ [])
-pending_push plan (Last key form) = ap (filter is_piece) (after_last_push_yes is_last plan (Last key form) refl)
-pending_push plan (Control key) =
-    ap (filter is_piece) (after_last_push_no is_last plan (Control key) refl) ∙ filter-append is_piece (after_last is_last plan) (Control key ∷ [])
-    ∙ append-nil (pending plan)
+pending_push plan step = fold_push pieces_after [] plan step
 
 drop_one_more : (n : ℕ) (events : List MeantEvent) → drop (n + 1) events ≡ drop 1 (drop n events)
 drop_one_more n events = sym (drop-drop 1 n events)
@@ -40,10 +34,7 @@ left_push plan (Control key) events = left_after_an_end plan (Control key) event
 -- ---- one more plan
 
 pub pending-append : (before plan : List Step) → pending (before ++ plan) ≡ pieces_following (pending before) plan
-pending-append before [] = ap pending (append-nil before)
-pending-append before (step ∷ plan) =
-    ap pending (sym (push-append before step plan)) ∙ pending-append (before ++ step ∷ []) plan
-    ∙ ap (λ (pieces : List Step). pieces_following pieces plan) (pending_push before step)
+pending-append before plan = fold-append pieces_after [] before plan
 
 pub left-append : (before plan : List Step) (events : List MeantEvent) → events_left events (before ++ plan) ≡ left_following (events_left events before) plan
 left-append before [] events = ap (events_left events) (append-nil before)
@@ -62,7 +53,7 @@ frames_after_are events before (step ∷ plan) =
 -- ---- a plan from its start
 
 pub pending_is : (plan : List Step) → pending plan ≡ pieces_following [] plan
-pending_is plan = pending-append [] plan
+pending_is plan = refl
 
 pub events_left_are : (plan : List Step) (events : List MeantEvent) → events_left events plan ≡ left_following events plan
 events_left_are plan events = left-append [] plan events

@@ -23,25 +23,11 @@ why_at (suc (suc (suc (suc (suc (suc (suc (suc n)))))))) = EventsLeft
 pub why_at-order_of : (why : Why) → why_at (order_of why) ≡ why
 unfolding why_at
 why_at-order_of KeyMismatch = refl
-why_at-order_of StepsLeft = refl
-why_at-order_of NoMessage = refl
-why_at-order_of PieceTooLong = refl
-why_at-order_of TooManyPieces = refl
-why_at-order_of NotAControl = refl
-why_at-order_of NotAMessage = refl
-why_at-order_of WrongForm = refl
-why_at-order_of EventsLeft = refl
+why_at-order_of _ = refl
 
 pub order_below : (why : Why) → order_of why < 9
 order_below KeyMismatch = omega arith
-order_below StepsLeft = omega arith
-order_below NoMessage = omega arith
-order_below PieceTooLong = omega arith
-order_below TooManyPieces = omega arith
-order_below NotAControl = omega arith
-order_below NotAMessage = omega arith
-order_below WrongForm = omega arith
-order_below EventsLeft = omega arith
+order_below _ = omega arith
 
 pub order_at : (n : ℕ) → order_of (why_at n) ≤ n
 unfolding why_at

@@ -1,8 +1,8 @@
 -- Frames whose plan is the uniform plan of their meaning are uniform.
-use Rattle.std.proofs.Common.{◌≡◌, ℕ, zero, suc, ◌+◌, ◌-◌, ◌*◌, ◌/◌, ◌≤◌, ◌∷◌, ◌++◌, [], true, false, not, List, Option, length, replicate, refl, sym, ap, ◌∙◌, subst, inl, inr, arith, append_assoc, append-nil, true≢false}
+use Rattle.std.proofs.Common.{◌≡◌, ℕ, zero, suc, ◌+◌, ◌-◌, ◌*◌, ◌/◌, ◌≤◌, ◌∷◌, ◌++◌, [], Bool, true, false, not, List, Option, length, replicate, refl, sym, ap, ◌∙◌, subst, inl, inr, arith, append_assoc, append-nil, true≢false}
 use Rattle.std.specs.List.{AllByRecursion}
 use Rattle.std.proofs.lemmas.Bool.{cases_Bool}
-use Rattle.std.proofs.lemmas.List.{map-append}
+use Rattle.std.proofs.lemmas.List.{map-append, nil_from_length}
 use Rattle.std.proofs.Math.Nat.{div-mul-le_self, lt-div-mul-add}
 use Rattle.wsn_text.proofs.Numbers.{less_or_not}
 use Rattle.wsn_wire.specs.declared.endpoint.Role.{Role}
@@ -16,14 +16,14 @@ use Rattle.wsn_rules.specs.Group.{is_data, unfinished, payload_of}
 use Rattle.wsn_rules.specs.Lawful.{IsLawful}
 use Rattle.wsn_rules.specs.Meaning.{MeantEvent, events_after, meaning}
 use Rattle.wsn_rules.specs.Meaning as meant
-use Rattle.wsn_rules.specs.Plan.{is_piece}
 use Rattle.wsn_rules.specs.Recut.{plan_of}
 use Rattle.wsn_rules.specs.UniformPlan.{piece_count, uniform_after, uniform_plan}
 use Rattle.wsn_rules.specs.UniformFrames.{HoldsTheRest, IsUniformAt, AreUniform}
 use Rattle.wsn_rules.proofs.Prefixes.{push-append, nil-push, head_same, tail_same}
 use Rattle.wsn_rules.proofs.LawfulLists.{law_at_split}
 use Rattle.wsn_rules.proofs.Groups.{unfinished_control, unfinished_final, unfinished_more}
-use Rattle.wsn_rules.proofs.PlanTheory.UniformOfFrames.{step_of_control, step_of_last, step_of_piece, text_of_push, full, uniform, pieces_of, IsFull, empty_is_full, full_push, control_after, last_after, piece_after}
+use Rattle.wsn_rules.proofs.PlanTheory.UniformOfFrames.{text_of_push, full, uniform, pieces_of, IsFull, empty_is_full, full_push, control_after, last_after, piece_after}
+use Rattle.wsn_rules.proofs.PlanTheory.PlansOfFrames.{step_of_last, step_of_piece, step_of_control}
 
 -- ---- the length of a rest after the given number of Pieces
 
@@ -34,9 +34,10 @@ rest_of_count size n rest some bytes is =
     let same : (n * size + rest - 1) / size * size ≡ n * size = ap (λ (k : ℕ). k * size) is in
     (omega arith, omega arith)
 
-nothing_of_none : (bytes : List ℕ) → length bytes ≡ 0 → bytes ≡ []
-nothing_of_none [] none = refl
-nothing_of_none (b ∷ bytes) none = absurd (omega arith)
+-- The step is a Piece.
+abbrev is_piece : Step → Bool
+is_piece (Piece len key form) = true
+is_piece step = false
 
 module _ (size : ℕ) (key : Option (List ℕ)) (some : 1 ≤ size) where
   -- ---- every Piece of a uniform plan is a full one
@@ -106,7 +107,7 @@ module _ (size : ℕ) (key : Option (List ℕ)) (some : 1 ≤ size) where
       let sum_is : length (payload_of (earlier ++ f ∷ [])) ≡ length earlier * size + length f.payload = omega arith in
       elim (less_or_not 0 (length (payload_of (earlier ++ f ∷ [])))) [
         | inl held ↦ inl (rest_of_count size (length earlier) (length f.payload) some (omega arith) (ap (piece_count size) (sym sum_is) ∙ is))
-        | inr none ↦ inr (nothing_of_none (payload_of (earlier ++ f ∷ [])) (omega arith))
+        | inr none ↦ inr (nil_from_length (payload_of (earlier ++ f ∷ [])) (omega arith))
       ]
 
   -- ---- frame by frame

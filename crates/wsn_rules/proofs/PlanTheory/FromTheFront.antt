@@ -1,5 +1,6 @@
 -- Plans step by step, with a context: the Pieces of the unfinished message, and the events without an end.
 use Rattle.std.proofs.Common.{◌≡◌, ℕ, ◌-◌, List, [], ◌∷◌, ◌++◌, Some, length, drop}
+use Rattle.std.specs.List.{fold}
 use Rattle.wsn_wire.specs.declared.endpoint.Role.{Role}
 use Rattle.wsn_rules.specs.declared.step.Step.{Step}
 use Rattle.wsn_rules.specs.declared.step.Step.TheVariants.{Piece, Last, Control}
@@ -7,16 +8,12 @@ use Rattle.wsn_wire.specs.Frame.{Frame}
 use Rattle.wsn_rules.specs.Limits.{Limits}
 use Rattle.wsn_rules.specs.Meaning.{MeantEvent, Message}
 use Rattle.wsn_rules.specs.Meaning as meant
+pub use Rattle.wsn_rules.specs.Plan.{pieces_after}
 use Rattle.wsn_rules.specs.Plan.{total, next_text}
 use Rattle.wsn_rules.specs.Fitting.{HasKeyOf, PiecesFit, IsAllowedForm}
 use Rattle.wsn_rules.specs.Recut.{step_frame}
 
 -- ---- the context after a step
-
-abbrev pub pieces_after : List Step → Step → List Step
-pieces_after pieces (Piece len key form) = pieces ++ Piece len key form ∷ []
-pieces_after pieces (Last key form) = []
-pieces_after pieces (Control key) = pieces
 
 abbrev pub left_after : List MeantEvent → Step → List MeantEvent
 left_after left (Piece len key form) = left
@@ -48,8 +45,7 @@ left_following left [] = left
 left_following left (step ∷ plan) = left_following (left_after left step) plan
 
 abbrev pub pieces_following : List Step → List Step → List Step
-pieces_following pieces [] = pieces
-pieces_following pieces (step ∷ plan) = pieces_following (pieces_after pieces step) plan
+pieces_following = fold pieces_after
 
 -- ---- recuts
 

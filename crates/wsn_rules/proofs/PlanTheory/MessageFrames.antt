@@ -86,7 +86,6 @@ data_frame_law role limits f data_frame key masked payload size form = record {
     masked = masked;
     shortest = form.0;
     control = λ is. absurd (let both : true ≡ false = sym is ∙ data_frame in cc);
-    close = λ is. no_close is;
   };
   close = λ is. no_close is;
 }

@@ -1,5 +1,5 @@
 -- The frames of a recut are lawful, leave no message unfinished and mean the events; so their bytes are accepted.
-use Rattle.std.proofs.Common.{◌≡◌, ℕ, cond, List, [], ◌∷◌, ◌++◌, length, refl, sym, ap, ◌∙◌, subst, append-nil, append_assoc, arith}
+use Rattle.std.proofs.Common.{◌≡◌, ℕ, cond, List, [], ◌∷◌, ◌++◌, length, refl, sym, ap, ◌∙◌, subst, append-nil, append_assoc}
 use Rattle.wsn_wire.specs.declared.endpoint.Role.{Role}
 use Rattle.wsn_wire.specs.Frame.{Frame}
 use Rattle.wsn_rules.specs.declared.step.Step.{Step}
@@ -21,6 +21,7 @@ use Rattle.wsn_rules.proofs.PlanTheory.Context.{pending_is, events_left_are, rec
 use Rattle.wsn_rules.proofs.PlanTheory.FitsFromTheFront.{begins_from}
 use Rattle.wsn_rules.proofs.PlanTheory.MessageFrames.{IsOfPieces, of_no_pieces}
 use Rattle.wsn_rules.proofs.PlanTheory.RecutSteps.{step_goes_on}
+use Rattle.std.proofs.lemmas.List.{nil_from_length}
 
 -- ---- with no event left, no step is allowed
 
@@ -79,10 +80,6 @@ nothing_pends role limits plan events fits =
     none_pend [] not_some = refl
     none_pend (piece ∷ pieces) not_some = absurd (not_some (λ none. cc))
 
-no_frames : (fs : List Frame) → length fs ≡ 0 → fs ≡ []
-no_frames [] none = refl
-no_frames (f ∷ fs) none = absurd (omega arith)
-
 module _ (role : Role) (limits : Limits) (events : List MeantEvent) (plan : List Step) (lawful : AreLawful limits.message events) (is_plan : IsPlan plan) (fits : Fits role limits plan events) where
   frames_from : AreFrames role limits [] events (recut_from [] events plan) (pieces_following [] plan) (left_following events plan)
   frames_from = recut_after role limits [] [] events plan is_plan lawful (of_no_pieces (next_message events)) (begins_from role limits events [] plan fits.begins)
@@ -96,7 +93,7 @@ module _ (role : Role) (limits : Limits) (events : List MeantEvent) (plan : List
   pub recut_is_finished : unfinished (recut plan events) ≡ []
   recut_is_finished =
       ap unfinished (recut_is plan events)
-      ∙ no_frames (unfinished (recut_from [] events plan)) (frames_from.following.count ∙ ap length (sym (pending_is plan) ∙ nothing_pends role limits plan events fits))
+      ∙ nil_from_length (unfinished (recut_from [] events plan)) (frames_from.following.count ∙ ap length (sym (pending_is plan) ∙ nothing_pends role limits plan events fits))
 
   pub recut_means : meaning (recut plan events) ≡ events
   recut_means =

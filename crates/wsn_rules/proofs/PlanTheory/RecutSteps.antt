@@ -24,7 +24,7 @@ use Rattle.wsn_rules.specs.Plan.{key_of, total, next_text}
 use Rattle.wsn_rules.specs.Fitting.{HasKeyOf, PiecesFit, IsAllowedForm}
 use Rattle.wsn_rules.specs.Recut.{next_message}
 use Rattle.wsn_rules.proofs.Groups.{unfinished_control, unfinished_final, unfinished_more}
-use Rattle.wsn_rules.proofs.MessageText.{text_of_push, not_one_byte}
+use Rattle.wsn_rules.proofs.MessageText.{text_of_push}
 use Rattle.wsn_rules.proofs.LawfulMeaning.{event_of_control, event_of_data}
 use Rattle.wsn_rules.proofs.PlanTheory.FromTheFront.{pieces_after, left_after, StepLaw, frame_from}
 use Rattle.wsn_rules.proofs.PlanTheory.PiecesInARow.{total_push}
@@ -159,7 +159,6 @@ module _ (role : Role) (limits : Limits) (before : List Frame) where
       masked = masked;
       shortest = λ _. refl;
       control = λ _. record { final = refl; short = lawful.size; shortest = refl };
-      close = λ is. not_one_byte body (lawful.close is);
     };
     close = lawful.close;
   }

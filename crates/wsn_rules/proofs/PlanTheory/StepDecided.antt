@@ -156,8 +156,7 @@ module _ (role : Role) (limits : Limits) (pieces : List Step) (left : List Meant
   no_why (Control key) law NotAControl holds =
       let both : meant.Control law.1.0 law.1.1 ∷ law.1.2 ≡ meant.Message holds.0 holds.1 ∷ holds.2 = sym law.1.3 ∙ holds.3 in cc
   no_why (Control key) law NotAMessage holds = holds
-  no_why (Control key) law WrongForm holds = holds
-  no_why (Control key) law EventsLeft holds = holds
+  no_why (Control key) law _ holds = holds
 
   pub not_both : (step : Step) (why : Why) → StepLaw role limits pieces left step → IsFirstWhy (Holds role limits (length pieces) (total pieces) left step) why → ⊥
   not_both step why law is = no_why step law why is.holds

@@ -22,21 +22,9 @@ use Rattle.wsn_rules.proofs.Prefixes.{push-append}
 use Rattle.wsn_rules.proofs.LawfulLists.{law_at_split}
 use Rattle.wsn_rules.proofs.LawfulMeaning.{event_of_control, event_of_data}
 use Rattle.wsn_rules.proofs.Groups.{unfinished_control, unfinished_final, unfinished_more}
+use Rattle.wsn_rules.proofs.PlanTheory.PlansOfFrames.{step_of_last, step_of_piece, step_of_control}
 
 -- ---- steps of frames
-
-pub step_of_control : (f : Frame) → is_control f.op ≡ true → step_of f ≡ Control f.key
-step_of_control f control = ap (λ (b : Bool). cond b (Control f.key) (cond f.fin (Last f.key f.form) (Piece (length f.payload) f.key f.form))) control
-
-pub step_of_last : (f : Frame) → is_control f.op ≡ false → f.fin ≡ true → step_of f ≡ Last f.key f.form
-step_of_last f other final =
-    ap (λ (b : Bool). cond b (Control f.key) (cond f.fin (Last f.key f.form) (Piece (length f.payload) f.key f.form))) other
-    ∙ ap (λ (b : Bool). cond b (Last f.key f.form) (Piece (length f.payload) f.key f.form)) final
-
-pub step_of_piece : (f : Frame) → is_control f.op ≡ false → f.fin ≡ false → step_of f ≡ Piece (length f.payload) f.key f.form
-step_of_piece f other more =
-    ap (λ (b : Bool). cond b (Control f.key) (cond f.fin (Last f.key f.form) (Piece (length f.payload) f.key f.form))) other
-    ∙ ap (λ (b : Bool). cond b (Last f.key f.form) (Piece (length f.payload) f.key f.form)) more
 
 -- ---- the number of Pieces of a message with full ones and a rest
 

@@ -3,16 +3,12 @@ use Rattle.wsn_redact.specs.StandIns.{IsRedacted, stood}
 use Rattle.wsn_redact.proofs.StoodTexts.{stood_is, redacted_begins, one_redacted, redacted_length}
 use Rattle.wsn_redact.proofs.laws.law_one_redacted_text.Goals as goal
 
-pub returns-clause-computed : goal.returns-clause-computed
-returns-clause-computed c = λ text redacted begins.
-    let it : IsRedacted text (stood [] text) = inl (stood_is text begins) in
-    (λ is. one_redacted text redacted (stood [] text) is it, λ same. subst (λ (bs : List ℕ). IsRedacted text bs) (sym same) it)
-
-pub returns-clause-begins : goal.returns-clause-begins
-returns-clause-begins c = redacted_begins
-
-pub returns-clause-one : goal.returns-clause-one
-returns-clause-one c = one_redacted
-
-pub returns-clause-size : goal.returns-clause-size
-returns-clause-size c = redacted_length
+pub returns : goal.returns
+returns c = record {
+  computed = λ text redacted begins.
+      let it : IsRedacted text (stood [] text) = inl (stood_is text begins) in
+      (λ is. one_redacted text redacted (stood [] text) is it, λ same. subst (λ (bs : List ℕ). IsRedacted text bs) (sym same) it);
+  begins = redacted_begins;
+  one = one_redacted;
+  size = redacted_length;
+}

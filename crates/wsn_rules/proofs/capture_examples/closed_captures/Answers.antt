@@ -10,57 +10,47 @@ use Rattle.wsn_rules.proofs.Outcomes.{has_outcome}
 use Rattle.wsn_rules.proofs.ComputedReports.{given_bytes, judged_stream, earlier_first, report_is}
 use Rattle.wsn_rules.proofs.capture_examples.closed_captures.Goals as goal
 
-pub returns-clause-clean : goal.returns-clause-clean
+pub returns : goal.returns
 unfolding found judged_stream has_outcome decode_pairs
-returns-clause-clean c = record {
-  entries = Bytes Client (0x88 ∷ 0x82 ∷ 0x00 ∷ 0x00 ∷ 0x00 ∷ 0x00 ∷ 0x03 ∷ 0xe8 ∷ []) ∷ Bytes Server (0x88 ∷ 0x02 ∷ 0x03 ∷ 0xe8 ∷ []) ∷ Mark Server ∷ Mark Client ∷ [];
-  given = (given_bytes Client 56 (codes "8820000000003e8") (0x88 ∷ 0x82 ∷ 0x00 ∷ 0x00 ∷ 0x00 ∷ 0x00 ∷ 0x03 ∷ 0xe8 ∷ []) refl, (given_bytes Server 56 (codes "80203e8") (0x88 ∷ 0x02 ∷ 0x03 ∷ 0xe8 ∷ []) refl, (refl, (refl, tt))));
-  is = report_is greatest (Bytes Client (0x88 ∷ 0x82 ∷ 0x00 ∷ 0x00 ∷ 0x00 ∷ 0x00 ∷ 0x03 ∷ 0xe8 ∷ []) ∷ Bytes Server (0x88 ∷ 0x02 ∷ 0x03 ∷ 0xe8 ∷ []) ∷ Mark Server ∷ Mark Client ∷ []) refl refl refl
-      (record { client = Closed (Some 1000); server = Closed (Some 1000); first = Some Client; echo = Some true; client_sees = Some 1000; server_sees = Some 1000; outcome = Clean })
-      (earlier_first greatest (Bytes Client (0x88 ∷ 0x82 ∷ 0x00 ∷ 0x00 ∷ 0x00 ∷ 0x00 ∷ 0x03 ∷ 0xe8 ∷ []) ∷ Bytes Server (0x88 ∷ 0x02 ∷ 0x03 ∷ 0xe8 ∷ []) ∷ Mark Server ∷ Mark Client ∷ []) refl refl refl Client 0 refl refl refl refl)
-      refl refl refl refl refl refl;
-}
-
-pub returns-clause-no_end_marks : goal.returns-clause-no_end_marks
-unfolding found judged_stream has_outcome decode_pairs
-returns-clause-no_end_marks c = record {
-  entries = Bytes Client (0x88 ∷ 0x82 ∷ 0x00 ∷ 0x00 ∷ 0x00 ∷ 0x00 ∷ 0x03 ∷ 0xe8 ∷ []) ∷ Bytes Server (0x88 ∷ 0x02 ∷ 0x03 ∷ 0xe8 ∷ []) ∷ [];
-  given = (given_bytes Client 56 (codes "8820000000003e8") (0x88 ∷ 0x82 ∷ 0x00 ∷ 0x00 ∷ 0x00 ∷ 0x00 ∷ 0x03 ∷ 0xe8 ∷ []) refl, (given_bytes Server 56 (codes "80203e8") (0x88 ∷ 0x02 ∷ 0x03 ∷ 0xe8 ∷ []) refl, tt));
-  is = report_is greatest (Bytes Client (0x88 ∷ 0x82 ∷ 0x00 ∷ 0x00 ∷ 0x00 ∷ 0x00 ∷ 0x03 ∷ 0xe8 ∷ []) ∷ Bytes Server (0x88 ∷ 0x02 ∷ 0x03 ∷ 0xe8 ∷ []) ∷ []) refl refl refl
-      (record { client = Closed (Some 1000); server = Closed (Some 1000); first = Some Client; echo = Some true; client_sees = Some 1000; server_sees = Some 1000; outcome = Complete })
-      (earlier_first greatest (Bytes Client (0x88 ∷ 0x82 ∷ 0x00 ∷ 0x00 ∷ 0x00 ∷ 0x00 ∷ 0x03 ∷ 0xe8 ∷ []) ∷ Bytes Server (0x88 ∷ 0x02 ∷ 0x03 ∷ 0xe8 ∷ []) ∷ []) refl refl refl Client 0 refl refl refl refl)
-      refl refl refl refl refl refl;
-}
-
-pub returns-clause-other_code : goal.returns-clause-other_code
-unfolding found judged_stream has_outcome decode_pairs
-returns-clause-other_code c = record {
-  entries = Bytes Client (0x88 ∷ 0x82 ∷ 0x00 ∷ 0x00 ∷ 0x00 ∷ 0x00 ∷ 0x03 ∷ 0xe8 ∷ []) ∷ Bytes Server (0x88 ∷ 0x02 ∷ 0x03 ∷ 0xe9 ∷ []) ∷ [];
-  given = (given_bytes Client 56 (codes "8820000000003e8") (0x88 ∷ 0x82 ∷ 0x00 ∷ 0x00 ∷ 0x00 ∷ 0x00 ∷ 0x03 ∷ 0xe8 ∷ []) refl, (given_bytes Server 56 (codes "80203e9") (0x88 ∷ 0x02 ∷ 0x03 ∷ 0xe9 ∷ []) refl, tt));
-  is = report_is greatest (Bytes Client (0x88 ∷ 0x82 ∷ 0x00 ∷ 0x00 ∷ 0x00 ∷ 0x00 ∷ 0x03 ∷ 0xe8 ∷ []) ∷ Bytes Server (0x88 ∷ 0x02 ∷ 0x03 ∷ 0xe9 ∷ []) ∷ []) refl refl refl
-      (record { client = Closed (Some 1000); server = Closed (Some 1001); first = Some Client; echo = Some false; client_sees = Some 1001; server_sees = Some 1000; outcome = Complete })
-      (earlier_first greatest (Bytes Client (0x88 ∷ 0x82 ∷ 0x00 ∷ 0x00 ∷ 0x00 ∷ 0x00 ∷ 0x03 ∷ 0xe8 ∷ []) ∷ Bytes Server (0x88 ∷ 0x02 ∷ 0x03 ∷ 0xe9 ∷ []) ∷ []) refl refl refl Client 0 refl refl refl refl)
-      refl refl refl refl refl refl;
-}
-
-pub returns-clause-no_codes : goal.returns-clause-no_codes
-unfolding found judged_stream has_outcome decode_pairs
-returns-clause-no_codes c = record {
-  entries = Nothing ∷ Bytes Server (0x88 ∷ 0x00 ∷ []) ∷ Bytes Client (0x88 ∷ 0x80 ∷ 0x00 ∷ 0x00 ∷ 0x00 ∷ 0x00 ∷ []) ∷ Mark Client ∷ [];
-  given = (inr (codes " closed", refl), (given_bytes Server 56 (codes "800") (0x88 ∷ 0x00 ∷ []) refl, (given_bytes Client 56 (codes "88000000000") (0x88 ∷ 0x80 ∷ 0x00 ∷ 0x00 ∷ 0x00 ∷ 0x00 ∷ []) refl, (refl, tt))));
-  is = report_is greatest (Nothing ∷ Bytes Server (0x88 ∷ 0x00 ∷ []) ∷ Bytes Client (0x88 ∷ 0x80 ∷ 0x00 ∷ 0x00 ∷ 0x00 ∷ 0x00 ∷ []) ∷ Mark Client ∷ []) refl refl refl
-      (record { client = Closed None; server = Closed None; first = Some Server; echo = Some true; client_sees = Some 1005; server_sees = Some 1005; outcome = Complete })
-      (earlier_first greatest (Nothing ∷ Bytes Server (0x88 ∷ 0x00 ∷ []) ∷ Bytes Client (0x88 ∷ 0x80 ∷ 0x00 ∷ 0x00 ∷ 0x00 ∷ 0x00 ∷ []) ∷ Mark Client ∷ []) refl refl refl Server 1 refl refl refl refl)
-      refl refl refl refl refl refl;
-}
-
-pub returns-clause-in_parts : goal.returns-clause-in_parts
-unfolding found judged_stream has_outcome decode_pairs
-returns-clause-in_parts c = record {
-  entries = Bytes Server (0x88 ∷ 0x02 ∷ []) ∷ Bytes Client (0x88 ∷ 0x80 ∷ 0x00 ∷ 0x00 ∷ 0x00 ∷ 0x00 ∷ []) ∷ Bytes Server (0x03 ∷ 0xe8 ∷ []) ∷ [];
-  given = (given_bytes Server 56 (codes "802") (0x88 ∷ 0x02 ∷ []) refl, (given_bytes Client 56 (codes "88000000000") (0x88 ∷ 0x80 ∷ 0x00 ∷ 0x00 ∷ 0x00 ∷ 0x00 ∷ []) refl, (given_bytes Server 48 (codes "3E8") (0x03 ∷ 0xe8 ∷ []) refl, tt)));
-  is = report_is greatest (Bytes Server (0x88 ∷ 0x02 ∷ []) ∷ Bytes Client (0x88 ∷ 0x80 ∷ 0x00 ∷ 0x00 ∷ 0x00 ∷ 0x00 ∷ []) ∷ Bytes Server (0x03 ∷ 0xe8 ∷ []) ∷ []) refl refl refl
-      (record { client = Closed None; server = Closed (Some 1000); first = Some Client; echo = Some false; client_sees = Some 1000; server_sees = Some 1005; outcome = Complete })
-      (earlier_first greatest (Bytes Server (0x88 ∷ 0x02 ∷ []) ∷ Bytes Client (0x88 ∷ 0x80 ∷ 0x00 ∷ 0x00 ∷ 0x00 ∷ 0x00 ∷ []) ∷ Bytes Server (0x03 ∷ 0xe8 ∷ []) ∷ []) refl refl refl Client 1 refl refl refl refl)
-      refl refl refl refl refl refl;
+returns c = record {
+  clean = record {
+    entries = Bytes Client (0x88 ∷ 0x82 ∷ 0x00 ∷ 0x00 ∷ 0x00 ∷ 0x00 ∷ 0x03 ∷ 0xe8 ∷ []) ∷ Bytes Server (0x88 ∷ 0x02 ∷ 0x03 ∷ 0xe8 ∷ []) ∷ Mark Server ∷ Mark Client ∷ [];
+    given = (given_bytes Client 56 (codes "8820000000003e8") (0x88 ∷ 0x82 ∷ 0x00 ∷ 0x00 ∷ 0x00 ∷ 0x00 ∷ 0x03 ∷ 0xe8 ∷ []) refl, (given_bytes Server 56 (codes "80203e8") (0x88 ∷ 0x02 ∷ 0x03 ∷ 0xe8 ∷ []) refl, (refl, (refl, tt))));
+    is = report_is greatest (Bytes Client (0x88 ∷ 0x82 ∷ 0x00 ∷ 0x00 ∷ 0x00 ∷ 0x00 ∷ 0x03 ∷ 0xe8 ∷ []) ∷ Bytes Server (0x88 ∷ 0x02 ∷ 0x03 ∷ 0xe8 ∷ []) ∷ Mark Server ∷ Mark Client ∷ []) refl refl refl
+        (record { client = Closed (Some 1000); server = Closed (Some 1000); first = Some Client; echo = Some true; client_sees = Some 1000; server_sees = Some 1000; outcome = Clean })
+        (earlier_first greatest (Bytes Client (0x88 ∷ 0x82 ∷ 0x00 ∷ 0x00 ∷ 0x00 ∷ 0x00 ∷ 0x03 ∷ 0xe8 ∷ []) ∷ Bytes Server (0x88 ∷ 0x02 ∷ 0x03 ∷ 0xe8 ∷ []) ∷ Mark Server ∷ Mark Client ∷ []) refl refl refl Client 0 refl refl refl refl)
+        refl refl refl refl refl refl;
+  };
+  no_end_marks = record {
+    entries = Bytes Client (0x88 ∷ 0x82 ∷ 0x00 ∷ 0x00 ∷ 0x00 ∷ 0x00 ∷ 0x03 ∷ 0xe8 ∷ []) ∷ Bytes Server (0x88 ∷ 0x02 ∷ 0x03 ∷ 0xe8 ∷ []) ∷ [];
+    given = (given_bytes Client 56 (codes "8820000000003e8") (0x88 ∷ 0x82 ∷ 0x00 ∷ 0x00 ∷ 0x00 ∷ 0x00 ∷ 0x03 ∷ 0xe8 ∷ []) refl, (given_bytes Server 56 (codes "80203e8") (0x88 ∷ 0x02 ∷ 0x03 ∷ 0xe8 ∷ []) refl, tt));
+    is = report_is greatest (Bytes Client (0x88 ∷ 0x82 ∷ 0x00 ∷ 0x00 ∷ 0x00 ∷ 0x00 ∷ 0x03 ∷ 0xe8 ∷ []) ∷ Bytes Server (0x88 ∷ 0x02 ∷ 0x03 ∷ 0xe8 ∷ []) ∷ []) refl refl refl
+        (record { client = Closed (Some 1000); server = Closed (Some 1000); first = Some Client; echo = Some true; client_sees = Some 1000; server_sees = Some 1000; outcome = Complete })
+        (earlier_first greatest (Bytes Client (0x88 ∷ 0x82 ∷ 0x00 ∷ 0x00 ∷ 0x00 ∷ 0x00 ∷ 0x03 ∷ 0xe8 ∷ []) ∷ Bytes Server (0x88 ∷ 0x02 ∷ 0x03 ∷ 0xe8 ∷ []) ∷ []) refl refl refl Client 0 refl refl refl refl)
+        refl refl refl refl refl refl;
+  };
+  other_code = record {
+    entries = Bytes Client (0x88 ∷ 0x82 ∷ 0x00 ∷ 0x00 ∷ 0x00 ∷ 0x00 ∷ 0x03 ∷ 0xe8 ∷ []) ∷ Bytes Server (0x88 ∷ 0x02 ∷ 0x03 ∷ 0xe9 ∷ []) ∷ [];
+    given = (given_bytes Client 56 (codes "8820000000003e8") (0x88 ∷ 0x82 ∷ 0x00 ∷ 0x00 ∷ 0x00 ∷ 0x00 ∷ 0x03 ∷ 0xe8 ∷ []) refl, (given_bytes Server 56 (codes "80203e9") (0x88 ∷ 0x02 ∷ 0x03 ∷ 0xe9 ∷ []) refl, tt));
+    is = report_is greatest (Bytes Client (0x88 ∷ 0x82 ∷ 0x00 ∷ 0x00 ∷ 0x00 ∷ 0x00 ∷ 0x03 ∷ 0xe8 ∷ []) ∷ Bytes Server (0x88 ∷ 0x02 ∷ 0x03 ∷ 0xe9 ∷ []) ∷ []) refl refl refl
+        (record { client = Closed (Some 1000); server = Closed (Some 1001); first = Some Client; echo = Some false; client_sees = Some 1001; server_sees = Some 1000; outcome = Complete })
+        (earlier_first greatest (Bytes Client (0x88 ∷ 0x82 ∷ 0x00 ∷ 0x00 ∷ 0x00 ∷ 0x00 ∷ 0x03 ∷ 0xe8 ∷ []) ∷ Bytes Server (0x88 ∷ 0x02 ∷ 0x03 ∷ 0xe9 ∷ []) ∷ []) refl refl refl Client 0 refl refl refl refl)
+        refl refl refl refl refl refl;
+  };
+  no_codes = record {
+    entries = Nothing ∷ Bytes Server (0x88 ∷ 0x00 ∷ []) ∷ Bytes Client (0x88 ∷ 0x80 ∷ 0x00 ∷ 0x00 ∷ 0x00 ∷ 0x00 ∷ []) ∷ Mark Client ∷ [];
+    given = (inr (codes " closed", refl), (given_bytes Server 56 (codes "800") (0x88 ∷ 0x00 ∷ []) refl, (given_bytes Client 56 (codes "88000000000") (0x88 ∷ 0x80 ∷ 0x00 ∷ 0x00 ∷ 0x00 ∷ 0x00 ∷ []) refl, (refl, tt))));
+    is = report_is greatest (Nothing ∷ Bytes Server (0x88 ∷ 0x00 ∷ []) ∷ Bytes Client (0x88 ∷ 0x80 ∷ 0x00 ∷ 0x00 ∷ 0x00 ∷ 0x00 ∷ []) ∷ Mark Client ∷ []) refl refl refl
+        (record { client = Closed None; server = Closed None; first = Some Server; echo = Some true; client_sees = Some 1005; server_sees = Some 1005; outcome = Complete })
+        (earlier_first greatest (Nothing ∷ Bytes Server (0x88 ∷ 0x00 ∷ []) ∷ Bytes Client (0x88 ∷ 0x80 ∷ 0x00 ∷ 0x00 ∷ 0x00 ∷ 0x00 ∷ []) ∷ Mark Client ∷ []) refl refl refl Server 1 refl refl refl refl)
+        refl refl refl refl refl refl;
+  };
+  in_parts = record {
+    entries = Bytes Server (0x88 ∷ 0x02 ∷ []) ∷ Bytes Client (0x88 ∷ 0x80 ∷ 0x00 ∷ 0x00 ∷ 0x00 ∷ 0x00 ∷ []) ∷ Bytes Server (0x03 ∷ 0xe8 ∷ []) ∷ [];
+    given = (given_bytes Server 56 (codes "802") (0x88 ∷ 0x02 ∷ []) refl, (given_bytes Client 56 (codes "88000000000") (0x88 ∷ 0x80 ∷ 0x00 ∷ 0x00 ∷ 0x00 ∷ 0x00 ∷ []) refl, (given_bytes Server 48 (codes "3E8") (0x03 ∷ 0xe8 ∷ []) refl, tt)));
+    is = report_is greatest (Bytes Server (0x88 ∷ 0x02 ∷ []) ∷ Bytes Client (0x88 ∷ 0x80 ∷ 0x00 ∷ 0x00 ∷ 0x00 ∷ 0x00 ∷ []) ∷ Bytes Server (0x03 ∷ 0xe8 ∷ []) ∷ []) refl refl refl
+        (record { client = Closed None; server = Closed (Some 1000); first = Some Client; echo = Some false; client_sees = Some 1000; server_sees = Some 1005; outcome = Complete })
+        (earlier_first greatest (Bytes Server (0x88 ∷ 0x02 ∷ []) ∷ Bytes Client (0x88 ∷ 0x80 ∷ 0x00 ∷ 0x00 ∷ 0x00 ∷ 0x00 ∷ []) ∷ Bytes Server (0x03 ∷ 0xe8 ∷ []) ∷ []) refl refl refl Client 1 refl refl refl refl)
+        refl refl refl refl refl refl;
+  };
 }

@@ -8,22 +8,12 @@ use Rattle.wsn_rules.specs.PlanExamples.{bare_last, bare_control, zeros, ping_an
 use Rattle.wsn_rules.proofs.PlanTheory.ComputedFaults.{decoded, is_fault, does_fit}
 use Rattle.wsn_rules.proofs.fault_examples.keys.Goals as goal
 
-pub returns-clause-server : goal.returns-clause-server
+pub returns : goal.returns
 unfolding decoded
-returns-clause-server c = is_fault Server greatest ping_and_hello (Control zeros ∷ []) 0 KeyMismatch refl refl
-
-pub returns-clause-client : goal.returns-clause-client
-unfolding decoded
-returns-clause-client c = is_fault Client greatest ping_and_hello (bare_control ∷ []) 0 KeyMismatch refl refl
-
-pub returns-clause-later : goal.returns-clause-later
-unfolding decoded
-returns-clause-later c = is_fault Client greatest ping_and_hello (Control zeros ∷ bare_last ∷ []) 1 KeyMismatch refl refl
-
-pub returns-clause-first : goal.returns-clause-first
-unfolding decoded
-returns-clause-first c = is_fault Client greatest [] (bare_last ∷ []) 0 KeyMismatch refl refl
-
-pub returns-clause-near : goal.returns-clause-near
-unfolding decoded
-returns-clause-near c = does_fit Client greatest ping_and_hello (Control zeros ∷ Last zeros Shortest ∷ []) refl refl
+returns c = record {
+  server = is_fault Server greatest ping_and_hello (Control zeros ∷ []) 0 KeyMismatch refl refl;
+  client = is_fault Client greatest ping_and_hello (bare_control ∷ []) 0 KeyMismatch refl refl;
+  later = is_fault Client greatest ping_and_hello (Control zeros ∷ bare_last ∷ []) 1 KeyMismatch refl refl;
+  first = is_fault Client greatest [] (bare_last ∷ []) 0 KeyMismatch refl refl;
+  near = does_fit Client greatest ping_and_hello (Control zeros ∷ Last zeros Shortest ∷ []) refl refl;
+}

@@ -4,11 +4,9 @@ use Rattle.wsn_rules.proofs.NormalFrames.{normal_is_plan, normal_fits, normal_re
 use Rattle.wsn_rules.proofs.NormalLaws.{one_frame}
 use Rattle.wsn_rules.proofs.laws.law_normal_form_is_a_recut.Goals as goal
 
-pub returns-clause-fits : goal.returns-clause-fits
-returns-clause-fits c = λ role limits events range. (normal_is_plan role events, normal_fits role limits events (one_frame limits range))
-
-pub returns-clause-frames : goal.returns-clause-frames
-returns-clause-frames c = normal_recut
-
-pub returns-clause-bytes : goal.returns-clause-bytes
-returns-clause-bytes c = λ role events. ap stream (normal_recut role events)
+pub returns : goal.returns
+returns c = record {
+  fits = λ role limits events range. (normal_is_plan role events, normal_fits role limits events (one_frame limits range));
+  frames = normal_recut;
+  bytes = λ role events. ap stream (normal_recut role events);
+}

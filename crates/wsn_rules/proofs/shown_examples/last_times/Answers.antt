@@ -24,49 +24,43 @@ first = (refl, seconds 49 53 (omega arith) (omega arith) (omega arith) (omega ar
 second : GivesTime (codes "# 2.5") (codes "2.5")
 second = (refl, seconds 50 53 (omega arith) (omega arith) (omega arith) (omega arith))
 
-pub returns-clause-server : goal.returns-clause-server
-returns-clause-server c = inl (record {
-  before = Nothing ∷ [];
-  last = Bytes Server (0x81 ∷ []);
-  after = Nothing ∷ Bytes Client (0x81 ∷ []) ∷ Nothing ∷ [];
-  are = refl;
-  some = λ e. cc;
-  no_more = refl;
-  held = ([], [], codes "# 1.5", refl, first, tt);
-})
-
-pub returns-clause-client : goal.returns-clause-client
-returns-clause-client c = inl (record {
-  before = Nothing ∷ Bytes Server (0x81 ∷ []) ∷ Nothing ∷ [];
-  last = Bytes Client (0x81 ∷ []);
-  after = Nothing ∷ [];
-  are = refl;
-  some = λ e. cc;
-  no_more = refl;
-  held = (codes "# 1.5" ∷ codes "S 81" ∷ [], [], codes "# 2.5", refl, second, tt);
-})
-
-pub returns-clause-last_of_two : goal.returns-clause-last_of_two
-returns-clause-last_of_two c = inl (record {
-  before = Nothing ∷ Bytes Server (0x81 ∷ []) ∷ Nothing ∷ [];
-  last = Bytes Server (0x05 ∷ []);
-  after = Mark Client ∷ [];
-  are = refl;
-  some = λ e. cc;
-  no_more = refl;
-  held = (codes "# 1.5" ∷ codes "S 81" ∷ [], [], codes "# 2.5", refl, second, tt);
-})
-
-pub returns-clause-before_a_time : goal.returns-clause-before_a_time
-returns-clause-before_a_time c = inl (record {
-  before = [];
-  last = Bytes Server (0x81 ∷ []);
-  after = Nothing ∷ [];
-  are = refl;
-  some = λ e. cc;
-  no_more = refl;
-  held = tt;
-})
-
-pub returns-clause-no_bytes : goal.returns-clause-no_bytes
-returns-clause-no_bytes c = inr (refl, refl)
+pub returns : goal.returns
+returns c = record {
+  server = inl (record {
+    before = Nothing ∷ [];
+    last = Bytes Server (0x81 ∷ []);
+    after = Nothing ∷ Bytes Client (0x81 ∷ []) ∷ Nothing ∷ [];
+    are = refl;
+    some = λ e. cc;
+    no_more = refl;
+    held = ([], [], codes "# 1.5", refl, first, tt);
+  });
+  client = inl (record {
+    before = Nothing ∷ Bytes Server (0x81 ∷ []) ∷ Nothing ∷ [];
+    last = Bytes Client (0x81 ∷ []);
+    after = Nothing ∷ [];
+    are = refl;
+    some = λ e. cc;
+    no_more = refl;
+    held = (codes "# 1.5" ∷ codes "S 81" ∷ [], [], codes "# 2.5", refl, second, tt);
+  });
+  last_of_two = inl (record {
+    before = Nothing ∷ Bytes Server (0x81 ∷ []) ∷ Nothing ∷ [];
+    last = Bytes Server (0x05 ∷ []);
+    after = Mark Client ∷ [];
+    are = refl;
+    some = λ e. cc;
+    no_more = refl;
+    held = (codes "# 1.5" ∷ codes "S 81" ∷ [], [], codes "# 2.5", refl, second, tt);
+  });
+  before_a_time = inl (record {
+    before = [];
+    last = Bytes Server (0x81 ∷ []);
+    after = Nothing ∷ [];
+    are = refl;
+    some = λ e. cc;
+    no_more = refl;
+    held = tt;
+  });
+  no_bytes = inr (refl, refl);
+}

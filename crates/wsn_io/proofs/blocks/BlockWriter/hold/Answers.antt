@@ -8,17 +8,13 @@ overflow_sub-self-inside g c = search rules
 pub same-self : goal.same-self
 same-self g c = search rules
 
-pub returns-then-bytes-self-clause-held : goal.returns-then-bytes-self-clause-held
-returns-then-bytes-self-clause-held g c = search rules
-
-pub returns-then-bytes-self-clause-full : goal.returns-then-bytes-self-clause-full
-returns-then-bytes-self-clause-full g c = search rules
-
-pub returns-then-bytes-self-clause-written : goal.returns-then-bytes-self-clause-written
-returns-then-bytes-self-clause-written g c = search rules
-
-pub returns-then-bytes-self-clause-failed : goal.returns-then-bytes-self-clause-failed
-returns-then-bytes-self-clause-failed g c = search rules
+pub returns-then-bytes-self : goal.returns-then-bytes-self
+returns-then-bytes-self g c = record {
+  held = search rules;
+  full = search rules;
+  written = search rules;
+  failed = search rules;
+}
 
 pub overflow_add-end : goal.overflow_add-end
 overflow_add-end g c = search rules
@@ -38,14 +34,10 @@ copy_from_slice-requires g c = search rules
 pub invariant_of-self : goal.invariant_of-self
 invariant_of-self g c = search rules
 
-pub returns-clause-held : goal.returns-clause-held
-returns-clause-held g c = grind (arith, common_steps)
-
-pub returns-clause-full : goal.returns-clause-full
-returns-clause-full g c = search rules
-
-pub returns-clause-written : goal.returns-clause-written
-returns-clause-written g c = search rules
-
-pub returns-clause-failed : goal.returns-clause-failed
-returns-clause-failed g c = search rules
+pub returns : goal.returns
+returns g c = record {
+  held = grind (arith, common_steps);
+  full = search rules;
+  written = search rules;
+  failed = search rules;
+}

@@ -7,16 +7,6 @@ use Rattle.wsn_text.proofs.Rests.{text-nil}
 use Rattle.wsn_text.proofs.Taking.{Shifted, answers_after, takes_end}
 use Rattle.wsn_text.proofs.utf8_check.Utf8.take_part.Goals as goal
 
-pub returns-clause-steps : goal.returns-clause-steps
-returns-clause-steps c =
-    let old = c.args.self.now in
-    let first = c.first_byte.result in
-    let front = c.split_at.result.0.now in
-    let same = subst (λ (state : Option (List Range)). (more : List ℕ) → IsText (first ∷ more) ↔ Follows state more) c.self.view_is c.first_byte.ensures in
-    let shifted : Shifted c.take_each.result c.map_err.result (length front) = search rules in
-    answers_after old (Some []) c.take_each.new.self front c.split_at.result.1.now c.args.piece.now c.take_each.result c.map_err.result c.split_at.ensures.by_index.0
-    (takes_end old first front same (c.is_text_after.ensures c.if-not-is_text_after.false)) shifted c.take_each.ensures.steps
-
 pub overflow_sub-piece : goal.overflow_sub-piece
 overflow_sub-piece c = search rules
 
@@ -29,40 +19,44 @@ same-self c = search rules
 pub take_in_steps-requires : goal.take_in_steps-requires
 take_in_steps-requires c = search rules
 
-pub returns-then-not-is_text_after-clause-within : goal.returns-then-not-is_text_after-clause-within
-returns-then-not-is_text_after-clause-within c = search rules
-
-pub returns-then-not-is_text_after-clause-steps : goal.returns-then-not-is_text_after-clause-steps
-returns-then-not-is_text_after-clause-steps c = search rules
-
 pub map_err-requires : goal.map_err-requires
 map_err-requires c = search rules
-
-pub returns-clause-within : goal.returns-clause-within
-returns-clause-within c = search rules
 
 pub take_each-requires : goal.take_each-requires
 take_each-requires c = ([], text-nil)
 
-pub returns-then-is_empty-clause-within : goal.returns-then-is_empty-clause-within
-returns-then-is_empty-clause-within c = search rules
+pub returns : goal.returns
+returns c = record {
+  steps =
+      let old = c.args.self.now in
+      let first = c.first_byte.result in
+      let front = c.split_at.result.0.now in
+      let same = subst (λ (state : Option (List Range)). (more : List ℕ) → IsText (first ∷ more) ↔ Follows state more) c.self.view_is c.first_byte.ensures in
+      let shifted : Shifted c.take_each.result c.map_err.result (length front) = search rules in
+      answers_after old (Some []) c.take_each.new.self front c.split_at.result.1.now c.args.piece.now c.take_each.result c.map_err.result c.split_at.ensures.by_index.0
+      (takes_end old first front same (c.is_text_after.ensures c.if-not-is_text_after.false)) shifted c.take_each.ensures.steps;
+  within = search rules;
+  good = search rules;
+}
 
-pub returns-then-is_empty-clause-steps : goal.returns-then-is_empty-clause-steps
-returns-then-is_empty-clause-steps c =
-    let first = c.first_byte.result in
-    let front = c.split_at.result.0.now in
-    let back = c.split_at.result.1.now in
-    let same = subst (λ (state : Option (List Range)). (more : List ℕ) → IsText (first ∷ more) ↔ Follows state more) c.self.view_is c.first_byte.ensures in
-    let none : length back ≡ 0 = eqb-true _ _ (sym c.if-is_empty.ensures) in
-    let nothing : back ≡ [] = drop_all 0 back (omega (arith, none)) in
-    let all : c.args.piece.now ≡ front = c.split_at.ensures.by_index.0 ∙ ap (λ (end : List ℕ). front ++ end) nothing ∙ append-nil front in
-    subst (Validates c.args.self.now (Some [])) (sym all) (takes_end c.args.self.now first front same (c.is_text_after.ensures c.if-not-is_text_after.false))
+pub returns-then-is_empty : goal.returns-then-is_empty
+returns-then-is_empty c = record {
+  within = search rules;
+  steps =
+      let first = c.first_byte.result in
+      let front = c.split_at.result.0.now in
+      let back = c.split_at.result.1.now in
+      let same = subst (λ (state : Option (List Range)). (more : List ℕ) → IsText (first ∷ more) ↔ Follows state more) c.self.view_is c.first_byte.ensures in
+      let none : length back ≡ 0 = eqb-true _ _ (sym c.if-is_empty.ensures) in
+      let nothing : back ≡ [] = drop_all 0 back (omega (arith, none)) in
+      let all : c.args.piece.now ≡ front = c.split_at.ensures.by_index.0 ∙ ap (λ (end : List ℕ). front ++ end) nothing ∙ append-nil front in
+      subst (Validates c.args.self.now (Some [])) (sym all) (takes_end c.args.self.now first front same (c.is_text_after.ensures c.if-not-is_text_after.false));
+  good = search rules;
+}
 
-pub returns-clause-good : goal.returns-clause-good
-returns-clause-good c = search rules
-
-pub returns-then-is_empty-clause-good : goal.returns-then-is_empty-clause-good
-returns-then-is_empty-clause-good c = search rules
-
-pub returns-then-not-is_text_after-clause-good : goal.returns-then-not-is_text_after-clause-good
-returns-then-not-is_text_after-clause-good c = search rules
+pub returns-then-not-is_text_after : goal.returns-then-not-is_text_after
+returns-then-not-is_text_after c = record {
+  within = search rules;
+  steps = search rules;
+  good = search rules;
+}
