@@ -6,7 +6,7 @@
 //! `side_commands` the commands on it.
 //!
 //! Each command has a file: `judge_command`, `frames_command`, `normal_command`, `same_command` (with a view:
-//! `same_view`), `closing_command`.
+//! `same_view`), `closing_command`; and `show` has `showing`.
 //!
 //! Hostile use: failing readers and writers in `command_stops` and `capture_stops`; failed allocations in `memory`,
 //! `memory_of_later_growths` and `memory_of_same`.
@@ -44,6 +44,8 @@ mod normal_command;
 mod same_command;
 #[cfg(test)]
 mod same_view;
+#[cfg(test)]
+mod showing;
 #[cfg(test)]
 mod side_commands;
 #[cfg(test)]

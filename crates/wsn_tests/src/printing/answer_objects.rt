@@ -1,6 +1,6 @@
 //! The objects of verdicts, frames, reports and comparisons.
 
-use crate::reading::expect_object;
+use crate::printing::reading::expect_object;
 use std::alloc::Global;
 use std::process::Abort;
 use wsn_io::Output;

@@ -2,7 +2,7 @@
 
 ghost use Rattle.wsn_command.specs.Jobs.{MayRun};
 
-use crate::expecting::{Expected, events_of, expect_job, expect_run};
+use crate::showing::expecting::{Expected, events_of, expect_job, expect_run};
 use std::alloc::Global;
 use std::io::ErrorKind;
 use std::process::Abort;

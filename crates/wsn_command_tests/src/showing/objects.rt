@@ -1,6 +1,6 @@
 //! Commands that print JSON objects, one a line.
 
-use crate::expecting::{Expected, expect_job, objects_of};
+use crate::showing::expecting::{Expected, expect_job, objects_of};
 use wsn_doubles::readers::READS;
 use wsn_doubles::vectors::greatest;
 use wsn_job::{Format, Job};

@@ -1,6 +1,6 @@
 //! Texts that are quoted and comments, compared with what is written of them character by character.
 
-use crate::reading::expect_text;
+use crate::printing::reading::expect_text;
 use std::alloc::{AllocError, Global};
 use std::process::Abort;
 use std::str;

@@ -1,6 +1,6 @@
 //! Texts that are refused for a bad character: its line after that of the refusal, and its object in the refusal's.
 
-use crate::expecting::{Expected, expect_job, formatted};
+use crate::showing::expecting::{Expected, expect_job, formatted};
 use std::alloc::Global;
 use std::process::Abort;
 use wsn_doubles::readers::READS;

@@ -1,7 +1,7 @@
 //! `show` of captures.
 
-use crate::expecting::{Expected, events_of, expect_job, expect_run, style_of};
-use crate::rows::{
+use crate::showing::expecting::{Expected, events_of, expect_job, expect_run, style_of};
+use crate::showing::rows::{
     BAD_CHARACTERS, COMMENTS, ENDS, EVENTS, FRAMES, HIDDEN, LEFT_OVER, REFUSALS, Row,
     TIMES_AT_THE_END, VIEWS,
 };

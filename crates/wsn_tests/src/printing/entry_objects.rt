@@ -1,6 +1,6 @@
 //! The objects of what is shown.
 
-use crate::reading::{expect_none, expect_object};
+use crate::printing::reading::{expect_none, expect_object};
 use std::alloc::Global;
 use std::process::Abort;
 use wsn_io::Output;

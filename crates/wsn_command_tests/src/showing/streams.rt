@@ -1,6 +1,6 @@
 //! `show --role`: of one stream.
 
-use crate::expecting::{Expected, events_of, expect_job, style_of};
+use crate::showing::expecting::{Expected, events_of, expect_job, style_of};
 use wsn_doubles::readers::READS;
 use wsn_doubles::vectors::greatest;
 use wsn_job::Job;

@@ -3,7 +3,7 @@
 
 ghost use Rattle.wsn_command.specs.Jobs.{MayRun};
 
-use crate::expecting::{events_of, objects_of, style_of};
+use crate::showing::expecting::{events_of, objects_of, style_of};
 use std::alloc::Global;
 use std::process::Abort;
 use wsn_command_runs::run_on;
