@@ -38,7 +38,7 @@ module _ (role : Role) (limits : Limits) (fs gs : List Frame) (lawful : IsLawful
       by (f ∷ group) g of_text = g.begins of_text.1
 
   -- A prefix of a head has no payload.
-  head_only : (hs : List Frame) (rest : List ℕ) (info : HeadInfo) (b : BeginsWithHead role limits hs rest info) (front after : List ℕ) → b.head ≡ front ++ after → (p : IntoPayload front) → p.wire ≡ []
+  pub head_only : (hs : List Frame) (rest : List ℕ) (info : HeadInfo) (b : BeginsWithHead role limits hs rest info) (front after : List ℕ) → b.head ≡ front ++ after → (p : IntoPayload front) → p.wire ≡ []
   head_only hs rest info b front after is p =
       let whole : head_bytes info.fin info.op info.key info.form info.len ++ [] ≡ p.first ∷ p.second ∷ (p.len ++ (p.key ++ (p.wire ++ after))) =
       append-nil (head_bytes info.fin info.op info.key info.form info.len) ∙ sym b.encoded ∙ is ∙ ap (λ (bs : List ℕ). bs ++ after) p.whole
