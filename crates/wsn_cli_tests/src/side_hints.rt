@@ -1,7 +1,7 @@
 //! Hints on captures whose lines are accepted: on refused sides, on a wrong handshake, on bytes after a Close.
 
 use std::process::Abort;
-use wsn_capture::{CaptureReport, Tails};
+use wsn_capture::{CaptureReport, RefusedLines, Tails};
 use wsn_cli::{
     Answer, Format, Hint, Job, RefusedSides, after_close_hint_of, handshake_hint_of, hint_on_run,
     sides_hint_of,
@@ -316,7 +316,15 @@ fn report_with(client: Side, server: Side, tails: Tails) -> Answer {
         server_sees: None,
         outcome: Outcome::Live,
     };
-    Answer::Report(CaptureReport { report, tails })
+    let refused = RefusedLines {
+        client: None,
+        server: None,
+    };
+    Answer::Report(CaptureReport {
+        report,
+        tails,
+        refused,
+    })
 }
 
 /// A report on these sides, without bytes after a Close.
