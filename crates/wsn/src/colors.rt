@@ -1,18 +1,26 @@
-ghost use Rattle.std.specs.Prelude.{◌≤◌};
-
 use std::env::FillError;
 use std::rt::Env;
-use wsn_cli::Terminal;
+use wsn_cli::{Layout, Terminal};
+use wsn_color::names_colors;
 
 /// The number of bytes of a variable that are read.
-const VALUE: usize = 8;
+const VALUE: usize = 64;
 
-/// Where answers are printed: on a terminal or not, under these variables of the environment.
+/// How what is printed is coloured.
+#[derive(Clone, Copy)]
+pub struct Colors {
+    /// Which lines of the answer are; `None` if it is in one colour.
+    pub answer: Option<Layout>,
+    /// Whether hints are.
+    pub hints: bool,
+}
+
+/// Where something is printed: on a terminal or not, under these variables of the environment.
 pub fn terminal_of<E: Env>(env: &E, is_terminal: bool) -> Terminal {
     Terminal {
         is_terminal,
         has_no_color: is_set(env, "NO_COLOR"),
-        is_dumb: is_value(env, "TERM", b"dumb"),
+        has_colors: names_terminal_with_colors(env),
     }
 }
 
@@ -25,11 +33,12 @@ fn is_set<E: Env>(env: &E, name: &str) -> bool {
     }
 }
 
-/// Whether a variable has this value, of at most 8 bytes.
-fn is_value<E: Env>(env: &E, name: &str, value: &[u8]) -> bool {
+/// Whether the variable `TERM` names a terminal that has colours. A longer name than is read does.
+fn names_terminal_with_colors<E: Env>(env: &E) -> bool {
     let mut bytes = [0; VALUE];
-    match env.var(name, &mut bytes) {
-        Ok(len) => &bytes[..len] == value,
-        Err(_) => false,
+    match env.var("TERM", &mut bytes) {
+        Ok(len) => names_colors(&bytes[..len]),
+        Err(FillError::TooLong) => true,
+        Err(FillError::NotPresent) => false,
     }
 }

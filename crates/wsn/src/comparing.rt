@@ -1,4 +1,5 @@
 use crate::FAULT;
+use crate::hints::print_hint;
 use crate::pipe::Pipe;
 use crate::stdio::{OneLine, diagnose_stop, finish, hold_standard_input, open};
 use std::alloc::Allocator;
@@ -6,7 +7,7 @@ use std::cell::RefCell;
 use std::io::{self, Read, Write};
 use std::rt::Runtime;
 use wsn_capture::SideReader;
-use wsn_cli::{Comparison, hint_on_sides, hint_on_streams};
+use wsn_cli::{ComparedHint, Comparison, hint_on_sides, hint_on_streams};
 use wsn_io::{BlockReader, BlockWriter, FirstBytes, Input, Output, Stop, TiedWriter};
 use wsn_job::{Ran, run_same, run_same_on_sides};
 use wsn_wire::Role;
@@ -35,6 +36,7 @@ pub fn compare<R: Runtime + AllocGlobal>(
     first: &Option<String>,
     second: &Option<String>,
     side: Option<Role>,
+    hints_in_colors: bool,
 ) -> u8 {
     let _held = hold_standard_input(rt);
     let first = match open(rt, first) {
@@ -42,7 +44,7 @@ pub fn compare<R: Runtime + AllocGlobal>(
         Err(status) => return status,
     };
     match open(rt, second) {
-        Ok(second) => compare_on(rt, comparison, first, second, side),
+        Ok(second) => compare_on(rt, comparison, first, second, side, hints_in_colors),
         Err(status) => status,
     }
 }
@@ -54,6 +56,7 @@ fn compare_on<R: Runtime + AllocGlobal, A: Read + Drop, B: Read + Drop>(
     first: A,
     second: B,
     side: Option<Role>,
+    hints_in_colors: bool,
 ) -> u8 {
     let mut first = FirstBytes::new(first);
     let mut second = FirstBytes::new(second);
@@ -74,32 +77,30 @@ fn compare_on<R: Runtime + AllocGlobal, A: Read + Drop, B: Read + Drop>(
     match ended {
         Some(ended) => {
             finish(rt, &diagnosed);
-            give_hint(rt, &comparison, first.kept(), second.kept(), side, &ended);
+            let hint = hint_on(&comparison, first.kept(), second.kept(), side, &ended);
+            if let Some(hint) = hint {
+                print_hint(rt, hint, hints_in_colors);
+            }
             ended.ran.status
         }
         None => diagnose_stop(rt, Stop::Write),
     }
 }
 
-/// Prints the hint on a comparison of inputs with these first bytes on standard error, if there is one. What can't be
-/// written is dropped.
-fn give_hint<R: Eprint>(
-    rt: &R,
+/// The hint on a comparison of inputs with these first bytes, if there is one.
+fn hint_on(
     comparison: &Comparison,
     first: &[u8],
     second: &[u8],
     side: Option<Role>,
     ended: &Ended,
-) {
-    let hint = match side {
+) -> Option<ComparedHint> {
+    match side {
         None => hint_on_streams(*comparison, first, second, ended.ran.answer),
         Some(_) => {
             let failed = if ended.first_failed { first } else { second };
             hint_on_sides(*comparison, failed, !ended.first_failed, ended.ran.answer)
         }
-    };
-    if let Some(hint) = hint {
-        let _ = eprintln!(rt; "{hint}");
     }
 }
 

@@ -4,6 +4,8 @@ ghost use Rattle.wsn_cli.specs.Requests.{IsOwnSide};
 
 use crate::FAULT;
 use crate::canvas::Canvas;
+use crate::colors::Colors;
+use crate::hints::print_hint;
 use crate::named_input::NamedInput;
 use crate::pipe::Pipe;
 use arrayvec::ArrayVec;
@@ -71,19 +73,19 @@ fn paint<W: Write + Drop>(output: W, text: &str, layout: Layout) -> io::Result<(
 }
 
 /// Does a command's work over the file with this name, or over standard input, and returns the exit status. With a side,
-/// the input is a capture, and the work is over what this endpoint sent. The answer is coloured by its layout.
+/// the input is a capture, and the work is over what this endpoint sent.
 pub fn perform<R: Runtime + AllocGlobal>(
     rt: &R,
     job: &Job,
     file: &Option<String>,
     side: Option<Role>,
-    layout: Option<Layout>,
+    colors: Colors,
 ) -> u8
     requires may_run { MayRun job.now }
     requires own { IsOwnSide job.now side }
 {
     match open(rt, file) {
-        Ok(input) => perform_on(rt, job, input, side, layout),
+        Ok(input) => perform_on(rt, job, input, side, colors),
         Err(status) => status,
     }
 }
@@ -135,7 +137,7 @@ fn perform_on<R: Runtime + AllocGlobal, S: Read + Drop>(
     job: &Job,
     input: S,
     side: Option<Role>,
-    layout: Option<Layout>,
+    colors: Colors,
 ) -> u8
     requires may_run { MayRun job.now }
     requires own { IsOwnSide job.now side }
@@ -150,7 +152,7 @@ fn perform_on<R: Runtime + AllocGlobal, S: Read + Drop>(
         side,
         &mut output,
         &mut diagnosed,
-        layout,
+        colors.answer,
     );
     if output.has_no_reader() {
         return FAULT;
@@ -158,18 +160,18 @@ fn perform_on<R: Runtime + AllocGlobal, S: Read + Drop>(
     match done {
         Some(ran) => {
             finish(rt, &diagnosed);
-            give_hint(rt, hint_on_run(job, side, first.kept(), ran.answer));
+            let hint = hint_on_run(job, side, first.kept(), ran.answer);
+            give_hint(rt, hint, colors.hints);
             ran.status
         }
         None => diagnose_stop(rt, Stop::Write),
     }
 }
 
-/// Prints the hint on standard error, if there is one. What can't be written is dropped.
-fn give_hint<R: Eprint>(rt: &R, hint: Option<Hint>) {
+/// Prints the hint on standard error, if there is one, in colours or not.
+fn give_hint<R: Eprint>(rt: &R, hint: Option<Hint>, in_colors: bool) {
     if let Some(hint) = hint {
-        let line = hint.line();
-        let _ = eprintln!(rt; "{line}");
+        print_hint(rt, hint.line(), in_colors);
     }
 }
 
@@ -235,6 +237,7 @@ pub fn recut_by<R: Runtime + AllocGlobal>(
     plan: &Option<String>,
     file: &Option<String>,
     side: Option<Role>,
+    colors: Colors,
 ) -> u8
     requires { IfSome side (λ own. own ≡ role) }
 {
@@ -259,10 +262,10 @@ pub fn recut_by<R: Runtime + AllocGlobal>(
                 &Job::Recut(role, limits, How::ByPlan(plan)),
                 input,
                 side,
-                None,
+                colors,
             )
         }
-        Err(fault) => diagnose_plan(rt, plan, &fault, hint),
+        Err(fault) => diagnose_plan(rt, plan, &fault, hint, colors.hints),
     }
 }
 
@@ -272,13 +275,14 @@ fn diagnose_plan<R: Eprint>(
     plan: &Option<String>,
     fault: &PlanFileFault,
     hint: Option<Hint>,
+    in_colors: bool,
 ) -> u8 {
     match fault {
         PlanFileFault::Unread => diagnose_unread(rt, name_of(plan), Unread::Other),
         PlanFileFault::TooLong => diagnose(rt, "plan file too long\n"),
         PlanFileFault::Faulty(fault) => {
             let _ = eprintln!(rt; "{fault}");
-            give_hint(rt, hint);
+            give_hint(rt, hint, in_colors);
             FAULT
         }
     }

@@ -6,8 +6,8 @@ use Rattle.wsn_color.specs.Choices.{paints}
 use Rattle.wsn_color.specs.declared.choice.ColorChoice.{ColorChoice}
 use Rattle.wsn_color.specs.declared.choice.ColorChoice.TheVariants.{Always, Never}
 use Rattle.wsn_color.specs.declared.choice.Terminal.{Terminal}
-use Rattle.wsn_color.specs.declared.line.Layout.{Layout}
-use Rattle.wsn_color.specs.declared.line.Layout.TheVariants as layouts
+use Rattle.wsn_color.specs.declared.layout.Layout.{Layout}
+use Rattle.wsn_color.specs.declared.layout.Layout.TheVariants as layouts
 use Rattle.wsn_print.specs.declared.format.Format.{Format}
 use Rattle.wsn_print.specs.declared.format.Format.TheVariants as formats
 use Rattle.wsn_command.specs.declared.job.Job.{Job}

@@ -30,6 +30,9 @@ use wsn_wire::Role;
 /// How clap's text begins if a command has no option `--capture`.
 const NO_CAPTURE: &str = "error: unexpected argument '--capture'";
 
+/// How clap's text begins if a command has no option `--color`.
+const NO_COLOR: &str = "error: unexpected argument '--color'";
+
 /// What clap returns instead of matches: a text that was asked for, or an error.
 fn answered(alloc: Global, words: &[String], error: &Error) -> Result<Request, Usage>
     ensures { IfOk result CanBeDone }
@@ -61,6 +64,9 @@ fn refusal(alloc: Global, words: &[String]) -> Result<Usage, AllocError> {
     let text = error.to_string(alloc)?;
     if reads_captures(words) && text.as_str().starts_with(NO_CAPTURE) {
         return Ok(Usage::Own(Mistake::CaptureAsItIs));
+    }
+    if text.as_str().starts_with(NO_COLOR) {
+        return Ok(Usage::Own(Mistake::ColorElsewhere));
     }
     Ok(Usage::Clap(text))
 }

@@ -21,6 +21,8 @@ pub enum Mistake {
     TwoStandardInputs,
     /// `--capture` for a command that reads captures alone, or without `--role`.
     CaptureAsItIs,
+    /// `--color` before the command's name, or for a command that prints nothing in colours.
+    ColorElsewhere,
     /// A word isn't UTF-8.
     NotUtf8,
     /// Any other rule.
@@ -48,6 +50,8 @@ impl Mistake {
                 "usage: two inputs are standard input (-, or no FILE): name a file for one",
             Mistake::CaptureAsItIs =>
                 "usage: show, closing and redact read a capture as it is: leave out --capture",
+            Mistake::ColorElsewhere =>
+                "usage: --color goes after show, closing, frames, judge or explain, and no other",
             Mistake::NotUtf8 =>
                 "usage: an argument isn't UTF-8: give such a file as standard input, with <",
             Mistake::Other => "usage: 'wsn help COMMAND' lists what a command accepts",

@@ -1,7 +1,7 @@
 -- A text without codes, in parts.
 use Rattle.std.proofs.Common.{◌≡◌, ◌≢◌, ℕ, ◌==◌, Bool, true, false, not, ◌&&◌, List, [], ◌∷◌, ◌++◌, refl, sym, ap, ◌∙◌, append_assoc}
 use Rattle.std.proofs.lemmas.Bool.{ne_eqb}
-use Rattle.wsn_color.specs.Codes.{HasNoEscape, IsComplete, IsInWords, added_with, begun_after, begun_with, colored_after, colored_with, has_plain_ends, without_after, without_codes}
+use Rattle.wsn_color.specs.Codes.{HasNoEscape, IsComplete, IsInWords, added_with, begun_after, begun_with, colored_after, colored_with, has_plain_ends, is_in_word, without_after, without_codes}
 
 pub without_after-append : (begun xs ys : List ℕ) →
     without_after begun (xs ++ ys) ≡ without_after begun xs ++ without_after (begun_after begun xs) ys
@@ -29,11 +29,11 @@ pub colored_after-append : (colored : Bool) (begun xs ys : List ℕ) →
 colored_after-append colored begun [] ys = refl
 colored_after-append colored begun (x ∷ xs) ys = colored_after-append (colored_with colored begun x) (begun_with begun x) xs ys
 
-both : (a b c : Bool) → a ≡ true → (b && c) ≡ true → (b ≡ true) × (c ≡ true)
+pub both : (a b c : Bool) → a ≡ true → (b && c) ≡ true → (b ≡ true) × (c ≡ true)
 both a true c e h = (refl, h)
 both a false c e h = absurd cc
 
-and_true : (a b : Bool) → a ≡ true → b ≡ true → (a && b) ≡ true
+pub and_true : (a b : Bool) → a ≡ true → b ≡ true → (a && b) ≡ true
 and_true a b p q = rw (p, q) refl
 
 pub has_plain_ends-append : (colored : Bool) (begun xs ys : List ℕ) → has_plain_ends colored begun xs ≡ true
@@ -51,6 +51,13 @@ no_escape-more [] b h other = and_true (not (b == 27)) true (ap not (ne_eqb b 27
 no_escape-more (x ∷ xs) b h other =
     let parts = both true (not (x == 27)) _ refl h in
     and_true (not (x == 27)) _ parts.0 (no_escape-more xs b parts.1 other)
+
+-- One more byte that is in words.
+pub in_words-more : (xs : List ℕ) (b : ℕ) → IsInWords xs → (b == 27) ≡ false → (b == 10) ≡ false → IsInWords (xs ++ b ∷ [])
+in_words-more [] b h escape lf = rw (escape, lf) refl
+in_words-more (x ∷ xs) b h escape lf =
+    let parts = both true (is_in_word x) _ refl h in
+    and_true (is_in_word x) _ parts.0 (in_words-more xs b parts.1 escape lf)
 
 in_word : (b : Bool) (c : Bool) (rest : Bool) → ((not b && not c) && rest) ≡ true → (b ≡ false) × (c ≡ false) × (rest ≡ true)
 in_word true c rest h = absurd cc

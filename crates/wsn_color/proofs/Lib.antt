@@ -1,2 +1,4 @@
 pub mod CodeLemmas
 pub mod PaintingLemmas
+pub mod TextLemmas
+pub mod PaintedTexts

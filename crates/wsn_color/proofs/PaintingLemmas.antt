@@ -5,6 +5,7 @@ use Rattle.std.specs.Io.KnownBytes.{Appends, Keeps, append_known}
 use Rattle.std.proofs.KnownBytes.{Appends-kept, append_known-kept}
 use Rattle.wsn_color.specs.Codes.{IsComplete, IsInWords, begun_after, colored_after, has_plain_ends, without_codes}
 use Rattle.wsn_color.specs.Painting.{HasPlainEnds, IsKnownPlain, IsPlainText, Painted, Paints, all_given, given_by, if_complete}
+use Rattle.wsn_color.specs.declared.line.Line.{Line}
 use Rattle.wsn_color.proofs.CodeLemmas.{added-plain, colored_after-append, complete-append, has_plain_ends-append, is_word, without_codes-append}
 
 -- Nothing.
@@ -174,8 +175,8 @@ given_bytes c t a t' sent q w bytes c' q' w' first none paints last =
     (given_same (append_known a (drop sent q')) t' w' last)
 
 -- A painter as it is seen.
-abbrev pub seen : Option (List ℕ) → List ℕ → ℕ → List ℕ → Bool → Painted
-seen written bytes sent word colored = record { written = written; queued = drop sent bytes; word = word; colored = colored }
+abbrev pub seen : Option (List ℕ) → List ℕ → ℕ → List ℕ → Line → Painted
+seen written bytes sent word line = record { written = written; queued = drop sent bytes; word = word; line = line }
 
 pub given_from : (start p : Painted) (after : Option (List ℕ)) (bytes : List ℕ) → p ≡ start → Appends (all_given p) after bytes → Appends (all_given start) after bytes
 given_from start p after bytes is more = subst (λ (it : Painted). Appends (all_given it) after bytes) is more

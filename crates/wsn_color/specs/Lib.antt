@@ -1,4 +1,6 @@
--- Definitions of the codes that colour a text, and of what a painter has written.
+-- Definitions of the codes that colour a text, of a text in colours, and of what a painter has written.
 pub mod Codes
 pub mod Choices
+pub mod Tones
+pub mod PaintedText
 pub mod Painting

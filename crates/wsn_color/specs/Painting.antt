@@ -2,16 +2,16 @@
 use Rattle.std.specs.Prelude.{◌≡◌, ℕ, Bool, true, false, Option, None, Some, List, [], ◌∷◌, ◌++◌, option_and_then}
 use Rattle.std.specs.Io.KnownBytes.{append_known}
 use Rattle.wsn_color.specs.Codes.{IsComplete, begun_after, colored_after, has_plain_ends, without_codes}
-use Rattle.wsn_color.specs.declared.tone.Tone.{Tone}
-use Rattle.wsn_color.specs.declared.tone.Tone.TheVariants.{Label}
+use Rattle.wsn_color.specs.PaintedText.{painted_from}
+use Rattle.wsn_color.specs.declared.line.Line.{Line}
 
 -- The bytes that the painter's writer holds, if they are known; the bytes that are to be written next, with codes; and
--- the bytes of the word that is being read. What comes next is coloured or not.
+-- the bytes of the word that is being read, and how far its line has come.
 pub record Painted : Type 0 where
   pub written : Option (List ℕ)
   pub queued : List ℕ
   pub word : List ℕ
-  pub colored : Bool
+  pub line : Line
 
 -- the text with codes: what was written, if it is known, and what is to be written
 abbrev pub text_of : Painted → Option (List ℕ)
@@ -21,6 +21,10 @@ text_of painted = append_known painted.written painted.queued
 abbrev pub if_complete : List ℕ → List ℕ → Option (List ℕ)
 if_complete [] text = Some text
 if_complete (byte ∷ begun) text = None
+
+-- All that is written of what was given, if this text is given after it, and then all is flushed.
+abbrev pub in_full : Painted → List ℕ → Option (List ℕ)
+in_full painted text = append_known (text_of painted) (painted_from painted.line painted.word text)
 
 -- what makes this text with codes and this word: the text without codes, and the word
 abbrev pub given_by : Option (List ℕ) → List ℕ → Option (List ℕ)
@@ -43,7 +47,7 @@ IsKnownPlain colored (Some text) = IsPlainText colored text
 
 -- So is a painter's text.
 abbrev pub HasPlainEnds : Painted → Type 0
-HasPlainEnds painted = IsKnownPlain painted.colored (text_of painted)
+HasPlainEnds painted = IsKnownPlain painted.line.is_toned (text_of painted)
 
 -- What is queued has grown by complete codes and by as many of the word and the bytes as aren't held now. No line end is
 -- coloured.
@@ -54,13 +58,3 @@ pub record Paints (colored : Bool) (queued word bytes : List ℕ) (colored' : Bo
   pub same : without_codes added ++ word' ≡ word ++ bytes
   pub ends : has_plain_ends colored [] added ≡ true
   pub next : colored_after colored [] added ≡ colored'
-
--- whether a tone is that of the rest of its line, and not of one word
-abbrev pub is_of_line : Tone → Bool
-is_of_line Label = false
-is_of_line tone = true
-
--- whether what comes next is coloured, after a word that begins in this tone
-abbrev pub colored_by : Bool → Option Tone → Bool
-colored_by colored None = colored
-colored_by colored (Some tone) = is_of_line tone

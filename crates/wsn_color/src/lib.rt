@@ -7,11 +7,14 @@
 
 mod brush;
 mod choice;
+pub mod laws;
+mod layout;
 mod line;
+mod opening;
 mod painter;
 mod queue;
 mod tone;
 
-pub use choice::{ColorChoice, Terminal};
-pub use line::Layout;
+pub use choice::{ColorChoice, Terminal, names_colors};
+pub use layout::Layout;
 pub use painter::Painter;

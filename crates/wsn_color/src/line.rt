@@ -1,86 +1,62 @@
-ghost use Rattle.std.specs.Prelude.{◌≡◌, false};
-ghost use Rattle.wsn_color.specs.Painting.{colored_by};
+ghost use Rattle.std.specs.Prelude.{◌≡◌, ◌==◌, ◌<◌, false};
+ghost use Rattle.wsn_color.specs.PaintedText.{begun_tone, colored_by, decides, is_open, new_line, with_byte, with_word, without_tone};
+ghost use Rattle.wsn_color.specs.Tones.{is_of_line, may_begin, separator, tone_of};
 
+use crate::layout::Layout;
+use crate::opening::{Opening, name_tone, outcome_tone};
 use crate::tone::Tone;
 
-/// Which lines are painted.
-#[derive(Clone, Copy, Debug, PartialEq, Eq)]
-pub enum Layout {
-    /// The lines of `show`, `closing`, `frames` and `judge`: words between spaces.
-    Answer,
-    /// The lines of `closing` over several captures: columns between tabs, the outcome in the second.
-    Table,
-    /// The paragraphs of `explain`, some of which begin with a name and a colon.
-    Explanation,
-}
-
-/// What a line is about, by its first word.
-#[derive(Clone, Copy, Debug, PartialEq, Eq)]
-enum Opening {
-    Client,
-    Server,
-    Refusal,
-    Outcome,
-    Comment,
-    Other,
-}
-
-impl Opening {
-    fn of(word: &[u8]) -> Self {
-        match word {
-            b"C" | b"client" | b"client-sees" => Opening::Client,
-            b"S" | b"server" | b"server-sees" => Opening::Server,
-            b"refused" => Opening::Refusal,
-            b"outcome" => Opening::Outcome,
-            [b'#', ..] => Opening::Comment,
-            _ => Opening::Other,
-        }
-    }
-
-    /// The tone with which the line begins.
-    fn tone(self) -> Option<Tone> {
-        match self {
-            Opening::Client => Some(Tone::Client),
-            Opening::Server => Some(Tone::Server),
-            Opening::Refusal => Some(Tone::Alarm),
-            Opening::Comment => Some(Tone::Dim),
-            Opening::Outcome | Opening::Other => None,
-        }
-    }
-
-    /// The tone that begins with a later word of the line.
-    fn tone_at(self, word: &[u8]) -> Option<Tone> {
-        match (self, word) {
-            (Opening::Client | Opening::Server, b"refused" | b"bad-character") => {
-                Some(Tone::Alarm)
-            }
-            (Opening::Client | Opening::Server, b"end") => Some(Tone::Dim),
-            (Opening::Outcome, b"failed") => Some(Tone::Alarm),
-            _ => None,
-        }
-    }
-}
-
 /// The number of words of an answer's line with which a tone may begin: the last is KIND, after SIDE, TIME and OFFSET.
-const TONED_WORDS: usize = 4;
+const TONED_WORDS: u8 = 4;
 
 /// How far a line has come.
 #[derive(Clone, Copy)]
 pub(crate) struct Line {
-    layout: Layout,
-    opening: Opening,
-    /// The number of words before the one that is being read.
-    place: usize,
+    pub layout: Layout,
+    pub opening: Opening,
+    /// The number of words before the one that is being read, at most `TONED_WORDS`.
+    pub place: u8,
     /// Whether the word's tone is known.
-    is_decided: bool,
+    pub is_decided: bool,
     /// Whether a tone has begun that hasn't ended.
-    is_toned: bool,
+    pub is_toned: bool,
+}
+
+impl Layout {
+    /// The byte between words.
+    fn separator(self) -> u8
+        ensures { result ≡ separator self }
+    {
+        match self {
+            Layout::Answer => b' ',
+            Layout::Table => b'\t',
+            Layout::Explanation => b':',
+        }
+    }
+
+    /// Whether a tone goes on to the end of its line, and not of its word.
+    pub(crate) fn is_of_line(self) -> bool
+        ensures { result ≡ is_of_line self }
+    {
+        matches!(self, Layout::Answer)
+    }
+
+    /// Whether a word with this many before it may begin a tone.
+    fn may_begin(self, place: u8) -> bool
+        ensures { result ≡ may_begin self place }
+    {
+        match self {
+            Layout::Answer => place < TONED_WORDS,
+            Layout::Table => place == 1,
+            Layout::Explanation => place == 0,
+        }
+    }
 }
 
 impl Line {
     /// A line of which no byte has come.
     pub fn new(layout: Layout) -> Self
-        ensures { result.is_toned ≡ false }
+        ensures { result ≡ new_line layout }
     {
         Line {
             layout,
@@ -92,43 +68,39 @@ impl Line {
     }
 
     /// Whether a word ends before this byte.
-    pub fn ends_word(&self, byte: u8) -> bool {
-        byte == match self.layout {
-            Layout::Answer => b' ',
-            Layout::Table => b'\t',
-            Layout::Explanation => b':',
-        }
+    pub fn ends_word(&self, byte: u8) -> bool
+        ensures { result ≡ (byte == separator self.now.layout) }
+    {
+        byte == self.layout.separator()
     }
 
     /// Whether a tone may begin with the word that is being read.
-    pub fn is_open(&self) -> bool {
-        !self.is_decided
-            && match self.layout {
-                Layout::Answer => self.place < TONED_WORDS,
-                Layout::Table => self.place == 1,
-                Layout::Explanation => self.place == 0,
-            }
+    pub fn is_open(&self) -> bool
+        ensures { result ≡ is_open self.now }
+    {
+        !self.is_decided && self.layout.may_begin(self.place)
     }
 
     /// The tone that begins with this word.
-    fn tone_of(&self, word: &[u8]) -> Option<Tone> {
+    fn tone_of(&self, word: &[u8]) -> Option<Tone>
+        ensures { result ≡ tone_of self.now.layout self.now.opening self.now.place word.now }
+    {
         match self.layout {
             Layout::Answer if self.place == 0 => Opening::of(word).tone(),
-            Layout::Answer => self.opening.tone_at(word),
-            Layout::Table if word == b"failed".as_slice() => Some(Tone::Alarm),
-            Layout::Table => None,
-            Layout::Explanation => match word {
-                b"Usual causes" | b"Next" => Some(Tone::Label),
-                _ => None,
-            },
+            Layout::Answer => self.opening.later_tone(word),
+            Layout::Table => outcome_tone(word),
+            Layout::Explanation => name_tone(word),
         }
     }
 
     /// Takes the word that was read, of which at most the beginning is given, and returns the tone that begins with it.
     pub fn decide(&mut self, word: &[u8]) -> Option<Tone>
-        ensures { self.new.is_toned ≡ colored_by self.old.is_toned result }
+        ensures tone { result ≡ begun_tone self.old word.now }
+        ensures line { self.new ≡ with_word self.old word.now }
+        ensures colored { self.new.is_toned ≡ colored_by self.old.layout self.old.is_toned result }
+        ensures layout { self.new.layout ≡ self.old.layout }
     {
-        if !self.is_open() {
+        if word.is_empty() || !self.is_open() {
             return None;
         }
         let tone = self.tone_of(word);
@@ -136,18 +108,21 @@ impl Line {
             self.opening = Opening::of(word);
         }
         self.is_decided = true;
-        if let Some(tone) = tone {
-            self.is_toned = tone.is_of_line();
+        if tone.is_some() {
+            self.is_toned = self.layout.is_of_line();
         }
         tone
     }
 
     /// Goes on after this byte: to the next word, if one ended before it.
     pub fn pass(&mut self, byte: u8)
-        ensures { self.new.is_toned ≡ self.old.is_toned }
+        ensures line { self.new ≡ with_byte self.old byte }
+        ensures colored { self.new.is_toned ≡ self.old.is_toned }
     {
         if self.ends_word(byte) {
-            self.place = self.place.saturating_add(1);
+            if self.place < TONED_WORDS {
+                self.place += 1;
+            }
             self.is_decided = false;
         }
     }
@@ -155,7 +130,7 @@ impl Line {
     /// Ends the tone of the line. `false` if there is none.
     pub fn take_tone(&mut self) -> bool
         ensures before { result ≡ self.old.is_toned }
-        ensures after { self.new.is_toned ≡ false }
+        ensures after { self.new ≡ without_tone self.old }
     {
         let is_toned = self.is_toned;
         self.is_toned = false;

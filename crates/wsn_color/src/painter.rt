@@ -1,11 +1,12 @@
-ghost use Rattle.std.specs.Prelude.{◌≡◌, false, [], take, IfOk, OnOk};
+ghost use Rattle.std.specs.Prelude.{◌≡◌, ℕ, List, false, [], ◌++◌, take, IfOk, OnOk, MatchResult};
 ghost use Rattle.std.specs.Io.{WritesAtMost};
-ghost use Rattle.std.specs.Io.KnownBytes.{Keeps, WriteAppends};
+ghost use Rattle.std.specs.Io.KnownBytes.{Keeps, WriteAppends, append_known};
 ghost use Rattle.wsn_color.specs.Codes.{HasNoEscape};
-ghost use Rattle.wsn_color.specs.Painting.{HasPlainEnds, IsKnownPlain, all_given};
+ghost use Rattle.wsn_color.specs.PaintedText.{painted, with_word, without_tone};
+ghost use Rattle.wsn_color.specs.Painting.{HasPlainEnds, IsKnownPlain, all_given, in_full};
 
 use crate::brush::Brush;
-use crate::line::Layout;
+use crate::layout::Layout;
 use crate::queue::Queue;
 use std::io::{self, ErrorKind, Write};
 use std::marker::Model;
@@ -32,7 +33,7 @@ impl<W: Write> Model for Painter<W> {
       written = W.contents p.writer;
       queued = drop p.queue.sent p.queue.bytes.items;
       word = p.brush.word.items;
-      colored = p.brush.line.is_toned;
+      line = p.brush.line;
     } };
 }
 
@@ -42,7 +43,8 @@ impl<W: Write> Painter<W> {
         ensures written { result.written ≡ W.contents writer }
         ensures queued { result.queued ≡ [] }
         ensures word { result.word ≡ [] }
-        ensures plain { result.colored ≡ false }
+        ensures plain { result.line.is_toned ≡ false }
+        ensures text { (text : List ℕ) → in_full result text ≡ append_known (W.contents writer) (painted layout text) }
         ensures ends { IsKnownPlain false (W.contents writer) → HasPlainEnds result }
     {
         Painter {
@@ -64,6 +66,9 @@ impl<W: Write> Write for Painter<W> {
         ensures escape { IfOk result (λ count. HasNoEscape (take count bytes.now)) }
         ensures progress { IfOk result (λ count. count ≡ 0 → bytes.now ≡ []) }
         ensures plain { HasPlainEnds self.old → HasPlainEnds self.new }
+        ensures text { MatchResult result
+            (λ count. (rest : List ℕ) → Keeps (in_full self.old (take count bytes.now ++ rest)) (in_full self.new rest))
+            (λ _. (rest : List ℕ) → Keeps (in_full self.old rest) (in_full self.new rest)) }
     {
         self.queue.write_to(&mut self.writer)?;
         let count = self.brush.take(bytes, &mut self.queue.bytes);
@@ -80,7 +85,10 @@ impl<W: Write> Write for Painter<W> {
         ensures queued { OnOk result (self.new.queued ≡ []) }
         ensures word { OnOk result (self.new.word ≡ []) }
         ensures plain { HasPlainEnds self.old → HasPlainEnds self.new }
-        ensures off { OnOk result (self.new.colored ≡ false) }
+        ensures off { OnOk result (self.new.line.is_toned ≡ false) }
+        ensures text { Keeps (in_full self.old []) (in_full self.new []) }
+        ensures all { OnOk result (Keeps (in_full self.old []) self.new.written) }
+        ensures line { OnOk result (self.new.line ≡ without_tone (with_word self.old.line self.old.word)) }
     {
         self.queue.write_to(&mut self.writer)?;
         self.brush.end_tones(&mut self.queue.bytes);

@@ -1,7 +1,7 @@
 use crate::help;
 use crate::options::{
     file, role, with_at, with_capture, with_color, with_events_view, with_file, with_files,
-    with_json, with_limits, with_role, with_view, with_wire, with_without,
+    with_json, with_limits, with_role, with_text_color, with_view, with_wire, with_without,
 };
 use crate::recut_options::with_recuts;
 use clap::{Arg, ArgAction, Command};
@@ -145,7 +145,7 @@ fn command<'a>(alloc: Global, described: &'a Described) -> Result<Command<'a>, A
         Reads::Captures => with_files(alloc, command),
         Reads::CaptureToShow => with_shown(alloc, command),
         Reads::CaptureToRedact => with_redacted(alloc, command),
-        Reads::Words => return with_color(alloc, with_words(alloc, command)?),
+        Reads::Words => return with_text_color(alloc, with_words(alloc, command)?),
     };
     let command = if described.has_json {
         with_json(alloc, command?)?

@@ -105,11 +105,23 @@ pub fn with_json<'a>(alloc: Global, command: Command<'a>) -> Result<Command<'a>,
     command.arg(json.help("Print JSON objects, one a line"))
 }
 
-/// Adds `--color`.
+/// Adds `--color` to a command that may print JSON, which has no colours.
 pub fn with_color<'a>(alloc: Global, command: Command<'a>) -> Result<Command<'a>, AllocError> {
     let help =
-        "Colour all but JSON: auto (on a terminal, unless\nNO_COLOR is set or TERM is dumb), always, never\n[default: auto]";
-    command.arg(one_of(option(alloc, "color", "WHEN", help), &COLORS))
+        "Colour all but JSON: auto (on a terminal that has\ncolours, unless NO_COLOR is set), always, never\n[default: auto]";
+    command.arg(color(alloc, help))
+}
+
+/// Adds `--color` to a command that prints an explanation.
+pub fn with_text_color<'a>(alloc: Global, command: Command<'a>) -> Result<Command<'a>, AllocError> {
+    let help =
+        "Print in colours: auto (on a terminal that has\ncolours, unless NO_COLOR is set), always, never\n[default: auto]";
+    command.arg(color(alloc, help))
+}
+
+/// The option `--color`, with this help.
+fn color<'a>(alloc: Global, help: &'a str) -> Arg<'a> {
+    one_of(option(alloc, "color", "WHEN", help), &COLORS)
 }
 
 /// Adds `--capture`.

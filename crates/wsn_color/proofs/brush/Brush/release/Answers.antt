@@ -9,9 +9,9 @@ returns-clause-paints c = elim c.match-decide.branch [
   | in-None w ↦
       paints_on _ _ _ [] _ _ _ [] _ _ _
       (paints_word _ _ _ _ _ c.args.self.now.plain (w.put.ensures ∙ ap (λ (text : List ℕ). c.args.queue.now.items ++ text) w.as_slice-in-None.ensures.value) c.clear.ensures)
-      (paints_same _ _ _ _ _ _ w.in-None.ensures (ap (λ it. it.items) w.queue-is) refl)
+      (paints_same _ _ _ _ _ _ w.in-None.ensures.colored (ap (λ it. it.items) w.queue-is) refl)
   | in-Some w ↦
       paints_on _ _ _ [] _ _ _ [] _ _ _
       (paints_held_word _ _ _ _ _ _ _ w.as_slice-in-Some.ensures.value (w.put_toned.ensures.paints c.args.self.now.line.is_toned))
-      (paints_same _ _ _ _ _ _ w.in-Some.ensures (ap (λ it. it.items) w.queue-is) c.clear.ensures)
+      (paints_same _ _ _ _ _ _ w.in-Some.ensures.colored (ap (λ it. it.items) w.queue-is) c.clear.ensures)
 ]

@@ -1,0 +1,29 @@
+use arrayvec::ArrayVec;
+use std::fmt::Display;
+use std::io::{self, Write};
+use std::str;
+use wsn_cli::Layout;
+use wsn_color::Painter;
+
+/// A hint's line with codes: at most 91 bytes, two codes and an LF.
+type PaintedLine = ArrayVec<u8, 256>;
+
+/// Prints a hint on standard error, in colours or not. What can't be written is dropped.
+pub fn print_hint<R: Eprint, D: Display + Drop>(rt: &R, hint: D, in_colors: bool) {
+    if !in_colors {
+        let _ = eprintln!(rt; "{hint}");
+        return;
+    }
+    let mut line = PaintedLine::new();
+    let _ = paint(&mut line, hint);
+    if let Ok(text) = str::from_utf8(line.as_slice()) {
+        let _ = rt.eprint(text);
+    }
+}
+
+/// Writes a hint and an LF, in colours.
+fn paint<W: Write + Drop, D: Display + Drop>(output: W, hint: D) -> io::Result<()> {
+    let mut painter = Painter::new(output, Layout::Explanation);
+    writeln!(painter, "{hint}")?;
+    painter.flush()
+}

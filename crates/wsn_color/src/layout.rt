@@ -1,0 +1,10 @@
+/// Which lines are painted.
+#[derive(Clone, Copy, Debug, PartialEq, Eq)]
+pub enum Layout {
+    /// The lines of `show`, `closing`, `frames` and `judge`: words between spaces.
+    Answer,
+    /// The lines of `closing` over several captures: columns between tabs, the outcome in the second.
+    Table,
+    /// The paragraphs of `explain` and hints, some of which begin with a name and a colon.
+    Explanation,
+}
