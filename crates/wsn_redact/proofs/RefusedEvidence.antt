@@ -87,8 +87,8 @@ module _ (role : Role) (limits : Limits) (fs : List Frame) (seen : List ℕ) (in
       let len = same.len_is in
       let most = p.within in (
         subst (λ (bs : List ℕ). EvidentByPayload (unfinished fs) reason (first_byte info.fin info.op) info.len bs) (sym payload)
-        (subst (λ (n : ℕ). EvidentByPayload (unfinished fs) reason (first_byte info.fin info.op) n (unmasked p.second p.key p.wire)) (sym same.len_is)
-        (subst (λ (f : ℕ). EvidentByPayload (unfinished fs) reason f (encoded_length (len_form_at p.second) p.len) (unmasked p.second p.key p.wire)) (sym same.first_is) row)),
+            (subst (λ (n : ℕ). EvidentByPayload (unfinished fs) reason (first_byte info.fin info.op) n (unmasked p.second p.key p.wire)) (sym same.len_is)
+            (subst (λ (f : ℕ). EvidentByPayload (unfinished fs) reason f (encoded_length (len_form_at p.second) p.len) (unmasked p.second p.key p.wire)) (sym same.first_is) row)),
         omega (arith, count, len, most),
       )
 

@@ -55,7 +55,6 @@ impl StreamView {
     ghost use Rattle.wsn_rules.specs.Verdict.{IsVerdict};
     ghost use Rattle.wsn_rules.specs.ShownStream.{Item, Shown, IsShownStream, IsLeftOver};
     ghost use Rattle.wsn_rules.specs.ShownCapture.{beyond};
-    ghost use Rattle.wsn_capture.specs.Closes.{IsClosedBy};
     ghost use Rattle.wsn_print.specs.ShownParts.{position_of};
     ghost use Rattle.wsn_print.specs.declared.style.Style.{Style};
     ghost use Rattle.wsn_show.specs.Styles.{styled_items};
@@ -104,18 +103,6 @@ impl StreamView {
             HasViewed role limits style self.now came → (fs : List Frame) × IsVerdict role limits came fs result }
     {
         self.scan.finish()
-    }
-
-    /// Whether the stream has a Close.
-    #[tactic(none)]
-    pub fn has_close(&self) -> bool
-        ensures { (role : Role) (limits : Limits) (style : Style) (came : List ℕ) →
-            HasViewed role limits style self.now came → IsClosedBy role limits came result }
-    {
-        match self.verdict() {
-            Verdict::Accepted(summary) => summary.close.is_some(),
-            Verdict::Cut(_) | Verdict::Refused(_) => false,
-        }
     }
 
     /// Consumes bytes, at most `room` of them, and prints what they complete, up to a failed write. `origin` is where
