@@ -1,26 +1,35 @@
 -- The state of a capture's lines, as lines are added.
-use Rattle.std.proofs.Common.{◌≡◌, ℕ, ◌+◌, ◌-◌, ◌<◌, true, false, Bool, Option, None, Some, Result, Ok, Err, List, [], ◌∷◌, ◌++◌, length, take, refl, sym, ap, ◌∙◌, subst, length-append, length-take, length-take-le, arith}
+use Rattle.std.proofs.Common.{◌≡◌, ℕ, ◌+◌, ◌-◌, ◌<◌, ◌≤◌, true, false, Bool, Option, None, Some, Result, Ok, Err, List, [], ◌∷◌, ◌++◌, length, take, refl, sym, ap, ◌∙◌, subst, length-append, length-take, length-take-le, arith}
+use Rattle.std.specs.Prelude.{IsSome}
+use Rattle.wsn_wire.specs.Frame.{Frame}
 use Rattle.wsn_wire.specs.declared.endpoint.Role.{Role}
 use Rattle.wsn_wire.specs.declared.endpoint.Role.TheVariants.{Client, Server}
 use Rattle.wsn_rules.specs.Limits.{Limits}
-use Rattle.wsn_rules.specs.Entries.{Entry}
+use Rattle.wsn_rules.specs.declared.verdict.Refusal.{Refusal}
+use Rattle.wsn_rules.specs.declared.verdict.Verdict.{Verdict}
+use Rattle.wsn_rules.specs.declared.verdict.Verdict.TheVariants.{Accepted, Cut, Refused}
+use Rattle.wsn_rules.specs.Verdict.{IsVerdict}
+use Rattle.wsn_rules.specs.Entries.{Entry, without_cr}
 use Rattle.wsn_rules.specs.Entries.Entry.{Nothing, Bytes, Mark}
 use Rattle.wsn_rules.specs.Sides.{bytes_in, sent}
 use Rattle.wsn_capture.specs.declared.line_fault.LineFault.{LineFault}
-use Rattle.wsn_capture.specs.declared.line_fault.LineFault.TheVariants.{InputLimit}
+use Rattle.wsn_capture.specs.declared.line_fault.LineFault.TheVariants.{TooLong, InputLimit}
+use Rattle.wsn_capture.specs.declared.refused_line.RefusedLine.{RefusedLine}
 use Rattle.wsn_capture.specs.declared.lines_before.LinesBefore.{LinesBefore}
 use Rattle.wsn_capture.specs.declared.capture_lines.CaptureLines.{CaptureLines}
 use Rattle.wsn_capture.specs.declared.capture_lines.SentBytes.{SentBytes}
-use Rattle.wsn_capture.specs.LineFaults.{IsFaultAfter}
-use Rattle.wsn_capture.specs.SideTexts.{entry_after, with_entry, lines_giving}
+use Rattle.wsn_capture.specs.LineFaults.{IsFaultAfter, IsAcceptedLine, line_most}
+use Rattle.wsn_capture.specs.RefusedLines.{IsKeptOf, IsUnrefused, IsRefusedLine}
+use Rattle.wsn_capture.specs.SideTexts.{entry_after, text_entry, with_entry, lines_giving}
 use Rattle.wsn_capture.specs.declared.line_form.LineEntry.{LineEntry}
 use Rattle.wsn_capture.specs.declared.line_form.LineEntry.TheVariants as entries
 use Rattle.wsn_capture.specs.LineEntries.{held_entry, FitsInLine}
 use Rattle.wsn_capture.specs.Closes.{IsClosedBy, IsCloseLine, noted_line}
-use Rattle.wsn_capture.specs.CaptureLines.{HasAccepted, HasNotedCloses, HasNotedUpTo, count_of, room_left, close_line_of, with_room_less, FitsRoom, ExceedsRoom}
-use Rattle.wsn_capture.proofs.AcceptedTexts.{as_many, taken_push}
+use Rattle.wsn_capture.specs.CaptureLines.{HasAccepted, HasNotedCloses, HasNotedUpTo, IsJudged, IsNotedLine, IsNotedRefusal, count_of, input_of, room_left, close_line_of, refused_line_of, with_room_less, FitsRoom, ExceedsRoom}
+use Rattle.wsn_capture.proofs.AcceptedTexts.{as_many, taken_push, accepted_last}
 use Rattle.wsn_capture.proofs.ClosingLines.{sent-push, line_stays, line_new, line_none, line_kept}
-use Rattle.wsn_capture.proofs.SideEntries.{Fits, entry_accepted, fault_first, entry_limited}
+use Rattle.wsn_capture.proofs.OffendingLines.{unrefused_by, refused_stays, refused_kept, refused_new}
+use Rattle.wsn_capture.proofs.SideEntries.{Fits, entry_accepted, fault_first, entry_limited, read_entry, short_line}
 use Rattle.wsn_capture.proofs.SideLaws.{before-push}
 
 module _ (limits : Limits) (accepted : CaptureLines) (lines : List (List ℕ)) (given : List Entry) (has : HasAccepted limits accepted lines given) where
@@ -43,11 +52,13 @@ module _ (limits : Limits) (accepted : CaptureLines) (lines : List (List ℕ)) (
 
     -- one more line
     pub accepted_push : (new : CaptureLines) (entry : Entry) → entry_after accepted.before line ≡ Ok entry → new.before ≡ with_entry accepted.before entry
+        → ((role : Role) → input_of role new ≡ input_of role accepted)
         → ((role : Role) → room_left role new + length (bytes_in role entry) ≡ room_left role accepted) → Fits limits given line entry
         → HasAccepted limits new (lines ++ line ∷ []) (given ++ entry ∷ [])
-    accepted_push new entry is before room fits = record {
+    accepted_push new entry is before inputs room fits = record {
       taken = taken_push limits [] lines given line entry has.taken (entry_accepted limits given line entry (after (Ok entry) is) fits);
       before = before ∙ ap (λ (b : LinesBefore). with_entry b entry) has.before ∙ before-push given entry;
+      input = λ role. inputs role ∙ has.input role;
       room = λ role.
           let rest = room role in
           let all = has.room role in
@@ -70,6 +81,22 @@ less_closes (entries.Bytes Client count) old Server = refl
 less_closes (entries.Bytes Server count) old Client = refl
 less_closes (entries.Bytes Server count) old Server = refl
 less_closes (entries.Mark other) old role = refl
+
+less_inputs : (entry : LineEntry) (old : CaptureLines) (role : Role) → input_of role (with_room_less entry old) ≡ input_of role old
+less_inputs entries.Nothing old role = refl
+less_inputs (entries.Bytes Client count) old Client = refl
+less_inputs (entries.Bytes Client count) old Server = refl
+less_inputs (entries.Bytes Server count) old Client = refl
+less_inputs (entries.Bytes Server count) old Server = refl
+less_inputs (entries.Mark other) old role = refl
+
+less_refused : (entry : LineEntry) (old : CaptureLines) (role : Role) → refused_line_of role (with_room_less entry old) ≡ refused_line_of role old
+less_refused entries.Nothing old role = refl
+less_refused (entries.Bytes Client count) old Client = refl
+less_refused (entries.Bytes Client count) old Server = refl
+less_refused (entries.Bytes Server count) old Client = refl
+less_refused (entries.Bytes Server count) old Server = refl
+less_refused (entries.Mark other) old role = refl
 
 -- so much less as the entry has bytes
 pub less_room : (entry : LineEntry) (old : CaptureLines) (held : List ℕ) → FitsRoom old entry → FitsInLine entry → length held ≡ 4096
@@ -95,6 +122,14 @@ pub closes_by : (old : CaptureLines) (entry : LineEntry) (less : CaptureLines) (
 closes_by old entry less before is Client = ap (λ (l : CaptureLines). l.client.close_line) is ∙ less_closes entry old Client
 closes_by old entry less before is Server = ap (λ (l : CaptureLines). l.server.close_line) is ∙ less_closes entry old Server
 
+pub inputs_by : (old : CaptureLines) (entry : LineEntry) (less : CaptureLines) (before : LinesBefore) → less ≡ with_room_less entry old → (role : Role) → input_of role (record less { before = before }) ≡ input_of role old
+inputs_by old entry less before is Client = ap (λ (l : CaptureLines). l.client.input) is ∙ less_inputs entry old Client
+inputs_by old entry less before is Server = ap (λ (l : CaptureLines). l.server.input) is ∙ less_inputs entry old Server
+
+pub refused_by : (old : CaptureLines) (entry : LineEntry) (less : CaptureLines) (before : LinesBefore) → less ≡ with_room_less entry old → (role : Role) → refused_line_of role (record less { before = before }) ≡ refused_line_of role old
+refused_by old entry less before is Client = ap (λ (l : CaptureLines). l.client.refused) is ∙ less_refused entry old Client
+refused_by old entry less before is Server = ap (λ (l : CaptureLines). l.server.refused) is ∙ less_refused entry old Server
+
 pub fits_given : (limits : Limits) (old : CaptureLines) (lines : List (List ℕ)) (given : List Entry) (line : List ℕ) (entry : LineEntry) (held : List ℕ) → HasAccepted limits old lines given → FitsRoom old entry
     → Fits limits given line (held_entry entry held)
 fits_given limits old lines given line entries.Nothing held has fits = tt
@@ -114,11 +149,15 @@ exceeds_given limits old lines given line (entries.Mark role) held has short siz
 
 -- ---- the lines in which Closes end
 
-pub noted_same : (limits : Limits) (old new : CaptureLines) (given : List Entry) → ((role : Role) → close_line_of role new ≡ close_line_of role old) → HasNotedCloses limits old given → HasNotedCloses limits new given
-noted_same limits old new given same noted role = subst (IsCloseLine role limits given) (sym (same role)) (noted role)
+pub noted_same : (limits : Limits) (old new : CaptureLines) (given : List Entry) → ((role : Role) → close_line_of role new ≡ close_line_of role old) → ((role : Role) → refused_line_of role new ≡ refused_line_of role old)
+    → HasNotedCloses limits old given → HasNotedCloses limits new given
+noted_same limits old new given same also noted role = (subst (IsCloseLine role limits given) (sym (same role)) (noted role).0, subst (IsRefusedLine role limits given) (sym (also role)) (noted role).1)
 
 pub noted_kept : (limits : Limits) (noted : CaptureLines) (given : List Entry) (entry : Entry) → ((role : Role) → bytes_in role entry ≡ []) → HasNotedCloses limits noted given → HasNotedCloses limits noted (given ++ entry ∷ [])
-noted_kept limits noted given entry none has role = line_kept role limits given entry (close_line_of role noted) (none role) (has role)
+noted_kept limits noted given entry none has role = (
+  line_kept role limits given entry (close_line_of role noted) (none role) (has role).0,
+  refused_kept role limits given entry (refused_line_of role noted) (none role) (has role).1,
+)
 
 pub no_bytes_in_nothing : (role : Role) → bytes_in role Nothing ≡ []
 no_bytes_in_nothing Client = refl
@@ -140,6 +179,11 @@ pub own_bytes : (role : Role) (bytes : List ℕ) → bytes_in role (Bytes role b
 own_bytes Client bytes = refl
 own_bytes Server bytes = refl
 
+-- the verdict on a stream with these bytes
+pub judged_push : (role : Role) (limits : Limits) (given : List Entry) (bytes : List ℕ) (verdict : Verdict) → ((fs : List Frame) × IsVerdict role limits (sent role given ++ bytes) fs verdict) → IsJudged role limits (given ++ Bytes role bytes ∷ []) verdict
+judged_push role limits given bytes verdict found =
+    (found.0, subst (λ (bs : List ℕ). IsVerdict role limits bs found.0 verdict) (sym (sent-push role given (Bytes role bytes) ∙ ap (λ (bs : List ℕ). sent role given ++ bs) (own_bytes role bytes))) found.1)
+
 -- what is noted of the endpoint whose bytes came
 pub line_noted : (role : Role) (limits : Limits) (given : List Entry) (bytes : List ℕ) (known : Option ℕ) (line : ℕ) (closed : Bool) → line ≡ length given → IsCloseLine role limits given known
     → IsClosedBy role limits (sent role given ++ bytes) closed → IsCloseLine role limits (given ++ Bytes role bytes ∷ []) (noted_line known line closed)
@@ -158,41 +202,121 @@ line_number limits accepted lines given entry has =
 
 -- ---- what is noted in one endpoint's part
 
-pub client_kept : (limits : Limits) (old : CaptureLines) (client : SentBytes) (lines : List (List ℕ)) (given : List Entry) → client.room ≡ old.client.room → HasAccepted limits old lines given → HasAccepted limits (record old { client = client }) lines given
-client_kept limits old client lines given same has = record { taken = has.taken; before = has.before; room = room }
+pub client_kept : (limits : Limits) (old : CaptureLines) (client : SentBytes) (lines : List (List ℕ)) (given : List Entry) → client.input ≡ old.client.input → client.room ≡ old.client.room → HasAccepted limits old lines given → HasAccepted limits (record old { client = client }) lines given
+client_kept limits old client lines given inputs same has = record { taken = has.taken; before = has.before; input = input; room = room }
   where
+    input : (role : Role) → input_of role (record old { client = client }) ≡ limits.input
+    input Client = inputs ∙ has.input Client
+    input Server = has.input Server
+
     room : (role : Role) → room_left role (record old { client = client }) + length (sent role given) ≡ limits.input
     room Client = ap (λ (n : ℕ). n + length (sent Client given)) same ∙ has.room Client
     room Server = has.room Server
 
-pub server_kept : (limits : Limits) (old : CaptureLines) (server : SentBytes) (lines : List (List ℕ)) (given : List Entry) → server.room ≡ old.server.room → HasAccepted limits old lines given → HasAccepted limits (record old { server = server }) lines given
-server_kept limits old server lines given same has = record { taken = has.taken; before = has.before; room = room }
+pub server_kept : (limits : Limits) (old : CaptureLines) (server : SentBytes) (lines : List (List ℕ)) (given : List Entry) → server.input ≡ old.server.input → server.room ≡ old.server.room → HasAccepted limits old lines given → HasAccepted limits (record old { server = server }) lines given
+server_kept limits old server lines given inputs same has = record { taken = has.taken; before = has.before; input = input; room = room }
   where
+    input : (role : Role) → input_of role (record old { server = server }) ≡ limits.input
+    input Client = has.input Client
+    input Server = inputs ∙ has.input Server
+
     room : (role : Role) → room_left role (record old { server = server }) + length (sent role given) ≡ limits.input
     room Client = has.room Client
     room Server = ap (λ (n : ℕ). n + length (sent Server given)) same ∙ has.room Server
 
-module _ (limits : Limits) (old : CaptureLines) (lines : List (List ℕ)) (given : List Entry) (bytes : List ℕ) (line : ℕ) (closed : Bool) where
-  pub client_noted : (role : Role) (client : SentBytes) → role ≡ Client → client.close_line ≡ noted_line old.client.close_line line closed → line ≡ count_of old - 1
-      → HasAccepted limits old lines (given ++ Bytes role bytes ∷ []) → HasNotedCloses limits old given → IsClosedBy role limits (sent role given ++ bytes) closed
-      → HasNotedCloses limits (record old { client = client }) (given ++ Bytes role bytes ∷ [])
-  client_noted Server client is same number has noted came = absurd (cc is)
-  client_noted Client client is same number has noted came = both
-    where
-      both : (role : Role) → IsCloseLine role limits (given ++ Bytes Client bytes ∷ []) (close_line_of role (record old { client = client }))
-      both Client =
-          subst (IsCloseLine Client limits (given ++ Bytes Client bytes ∷ [])) (sym same)
-          (line_noted Client limits given bytes old.client.close_line line closed (number ∙ line_number limits old lines given (Bytes Client bytes) has) (noted Client) came)
-      both Server = line_kept Server limits given (Bytes Client bytes) old.server.close_line refl (noted Server)
+-- the line with the offending byte, once the bytes of a line are judged
+module _ (role : Role) (limits : Limits) (given : List Entry) (bytes line : List ℕ) (old : SentBytes) (new : Option RefusedLine) (was : IsRefusedLine role limits given old.refused) where
+  unrefused_still : (known : Option RefusedLine) → IsRefusedLine role limits given known → IsUnrefused role limits (sent role (given ++ Bytes role bytes ∷ [])) → IsRefusedLine role limits (given ++ Bytes role bytes ∷ []) known
+  unrefused_still (Some known) kept none = refused_stays role limits given (Bytes role bytes) known kept
+  unrefused_still None kept none = none
 
-  pub server_noted : (role : Role) (server : SentBytes) → role ≡ Server → server.close_line ≡ noted_line old.server.close_line line closed → line ≡ count_of old - 1
-      → HasAccepted limits old lines (given ++ Bytes role bytes ∷ []) → HasNotedCloses limits old given → IsClosedBy role limits (sent role given ++ bytes) closed
-      → HasNotedCloses limits (record old { server = server }) (given ++ Bytes role bytes ∷ [])
-  server_noted Client server is same number has noted came = absurd (cc is)
-  server_noted Server server is same number has noted came = both
+  module _ (short : length (without_cr line) ≤ line_most) (gives : text_entry (without_cr line) ≡ Ok (Bytes role bytes)) (input : old.input ≡ limits.input)
+      (room : old.room + length (sent role (given ++ Bytes role bytes ∷ [])) ≡ limits.input) where
+    by_known : (known : Option RefusedLine) → old.refused ≡ known → IsRefusedLine role limits given known → (fs : List Frame) (refusal : Refusal) → IsVerdict role limits (sent role (given ++ Bytes role bytes ∷ [])) fs (Refused refusal)
+        → IsNotedLine old line refusal.place new → IsRefusedLine role limits (given ++ Bytes role bytes ∷ []) new
+    by_known (Some known) same kept fs refusal is noted =
+        let stays : new ≡ Some known = noted.0 (subst IsSome (sym same) refl) ∙ same in
+        subst (IsRefusedLine role limits (given ++ Bytes role bytes ∷ [])) (sym stays) (refused_stays role limits given (Bytes role bytes) known kept)
+    by_known None same none fs refusal is noted =
+        let size = ap (λ (bs : List ℕ). length bs) (sent-push role given (Bytes role bytes) ∙ ap (λ (bs : List ℕ). sent role given ++ bs) (own_bytes role bytes)) ∙ length-append (sent role given) bytes in
+        let start : old.input - old.room - length bytes ≡ length (sent role given) = omega (arith, size, input, room) in
+        refused_new role limits given bytes fs refusal none is new
+        (subst (λ (n : ℕ). IsKeptOf n bytes refusal.place new) start (noted.1 same role bytes short gives (omega (arith, size, input, room))))
+
+    pub refused_noted : (fs : List Frame) (verdict : Verdict) → IsVerdict role limits (sent role (given ++ Bytes role bytes ∷ [])) fs verdict → IsNotedRefusal old line verdict new → IsRefusedLine role limits (given ++ Bytes role bytes ∷ []) new
+    refused_noted fs (Refused refusal) is noted = by_known old.refused refl was fs refusal is noted
+    refused_noted fs (Accepted summary) is same =
+        subst (IsRefusedLine role limits (given ++ Bytes role bytes ∷ [])) (sym same)
+        (unrefused_still old.refused was (unrefused_by role limits (sent role (given ++ Bytes role bytes ∷ [])) fs (Accepted summary) is (λ refusal equal. cc equal)))
+    refused_noted fs (Cut summary) is same =
+        subst (IsRefusedLine role limits (given ++ Bytes role bytes ∷ [])) (sym same)
+        (unrefused_still old.refused was (unrefused_by role limits (sent role (given ++ Bytes role bytes ∷ [])) fs (Cut summary) is (λ refusal equal. cc equal)))
+
+module _ (limits : Limits) (old : CaptureLines) (lines : List (List ℕ)) (given : List Entry) (bytes line : List ℕ) (number : ℕ) (verdict : Verdict) where
+  module _ (role : Role) (has : HasAccepted limits old (lines ++ line ∷ []) (given ++ Bytes role bytes ∷ [])) where
+    accepted : IsAcceptedLine limits given line (Bytes role bytes)
+    accepted = accepted_last limits [] lines given line (Bytes role bytes) has.taken
+
+    pub short : length (without_cr line) ≤ line_most
+    short = short_line limits given line (accepted.none TooLong)
+
+    pub gives : text_entry (without_cr line) ≡ Ok (Bytes role bytes)
+    gives = read_entry limits given line (Bytes role bytes) accepted.gives
+
+    pub close_noted : (known now : Option ℕ) → IsCloseLine role limits given known → ((closed : Bool) × IsClosedBy role limits (sent role (given ++ Bytes role bytes ∷ [])) closed × (now ≡ noted_line known number closed))
+        → number ≡ count_of old - 1 → IsCloseLine role limits (given ++ Bytes role bytes ∷ []) now
+    close_noted known now was close count =
+        subst (IsCloseLine role limits (given ++ Bytes role bytes ∷ [])) (sym close.2)
+        (line_noted role limits given bytes known number close.0 (count ∙ line_number limits old (lines ++ line ∷ []) given (Bytes role bytes) has) was
+        (subst (λ (bs : List ℕ). IsClosedBy role limits bs close.0) (sent-push role given (Bytes role bytes) ∙ ap (λ (bs : List ℕ). sent role given ++ bs) (own_bytes role bytes)) close.1))
+
+  pub client_noted : (role : Role) (client : SentBytes) → role ≡ Client → ((closed : Bool) × IsClosedBy role limits (sent role (given ++ Bytes role bytes ∷ [])) closed × (client.close_line ≡ noted_line old.client.close_line number closed))
+      → IsNotedRefusal old.client line verdict client.refused → number ≡ count_of old - 1
+      → HasAccepted limits old (lines ++ line ∷ []) (given ++ Bytes role bytes ∷ []) → HasNotedCloses limits old given → IsJudged role limits (given ++ Bytes role bytes ∷ []) verdict
+      → HasNotedCloses limits (record old { client = client }) (given ++ Bytes role bytes ∷ [])
+  client_noted Server client is close refused count has noted judged = absurd (cc is)
+  client_noted Client client is close refused count has noted judged = both
     where
-      both : (role : Role) → IsCloseLine role limits (given ++ Bytes Server bytes ∷ []) (close_line_of role (record old { server = server }))
-      both Client = line_kept Client limits given (Bytes Server bytes) old.client.close_line refl (noted Client)
-      both Server =
-          subst (IsCloseLine Server limits (given ++ Bytes Server bytes ∷ [])) (sym same)
-          (line_noted Server limits given bytes old.server.close_line line closed (number ∙ line_number limits old lines given (Bytes Server bytes) has) (noted Server) came)
+      both : (role : Role) → IsCloseLine role limits (given ++ Bytes Client bytes ∷ []) (close_line_of role (record old { client = client })) × IsRefusedLine role limits (given ++ Bytes Client bytes ∷ []) (refused_line_of role (record old { client = client }))
+      both Client = (
+        close_noted Client has old.client.close_line client.close_line (noted Client).0 close count,
+        refused_noted Client limits given bytes line old.client client.refused (noted Client).1 (short Client has) (gives Client has) (has.input Client) (has.room Client) judged.0 verdict judged.1 refused,
+      )
+      both Server = (
+        line_kept Server limits given (Bytes Client bytes) old.server.close_line refl (noted Server).0,
+        refused_kept Server limits given (Bytes Client bytes) old.server.refused refl (noted Server).1,
+      )
+
+  pub server_noted : (role : Role) (server : SentBytes) → role ≡ Server → ((closed : Bool) × IsClosedBy role limits (sent role (given ++ Bytes role bytes ∷ [])) closed × (server.close_line ≡ noted_line old.server.close_line number closed))
+      → IsNotedRefusal old.server line verdict server.refused → number ≡ count_of old - 1
+      → HasAccepted limits old (lines ++ line ∷ []) (given ++ Bytes role bytes ∷ []) → HasNotedCloses limits old given → IsJudged role limits (given ++ Bytes role bytes ∷ []) verdict
+      → HasNotedCloses limits (record old { server = server }) (given ++ Bytes role bytes ∷ [])
+  server_noted Client server is close refused count has noted judged = absurd (cc is)
+  server_noted Server server is close refused count has noted judged = both
+    where
+      both : (role : Role) → IsCloseLine role limits (given ++ Bytes Server bytes ∷ []) (close_line_of role (record old { server = server })) × IsRefusedLine role limits (given ++ Bytes Server bytes ∷ []) (refused_line_of role (record old { server = server }))
+      both Client = (
+        line_kept Client limits given (Bytes Server bytes) old.client.close_line refl (noted Client).0,
+        refused_kept Client limits given (Bytes Server bytes) old.client.refused refl (noted Client).1,
+      )
+      both Server = (
+        close_noted Server has old.server.close_line server.close_line (noted Server).0 close count,
+        refused_noted Server limits given bytes line old.server server.refused (noted Server).1 (short Server has) (gives Server has) (has.input Server) (has.room Server) judged.0 verdict judged.1 refused,
+      )
+
+-- ---- what is kept of a line, by the verdict
+
+pub noted_from : (old mid : SentBytes) (line : List ℕ) (verdict : Verdict) (refusal : Refusal) (new : Option RefusedLine) → verdict ≡ Refused refusal → mid.input ≡ old.input → mid.room ≡ old.room → mid.refused ≡ old.refused
+    → IsNotedLine mid line refusal.place new → IsNotedRefusal old line verdict new
+noted_from old mid line verdict refusal new is input room refused noted =
+    subst (λ (v : Verdict). IsNotedRefusal old line v new) (sym is) (
+      (λ some. noted.0 (subst IsSome (sym refused) some) ∙ refused),
+      (λ none role bytes short gives fits. subst (λ (n : ℕ). IsKeptOf (n - old.room - length bytes) bytes refusal.place new) input
+          (subst (λ (n : ℕ). IsKeptOf (mid.input - n - length bytes) bytes refusal.place new) room
+          (noted.1 (refused ∙ none) role bytes short gives (omega (arith, input, room, fits))))),
+    )
+
+pub none_noted : (old : SentBytes) (line : List ℕ) (verdict : Verdict) (new : Option RefusedLine) → new ≡ old.refused → ((refusal : Refusal) → verdict ≡ Refused refusal → ⊥) → IsNotedRefusal old line verdict new
+none_noted old line (Refused refusal) new same other = absurd (other refusal refl)
+none_noted old line (Accepted summary) new same other = same
+none_noted old line (Cut summary) new same other = same

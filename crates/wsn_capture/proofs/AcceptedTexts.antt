@@ -31,3 +31,13 @@ taken_push limits before [] (e ∷ entries) line entry are is = absurd are
 taken_push limits before (l ∷ lines) [] line entry are is = absurd are
 taken_push limits before (l ∷ lines) (e ∷ entries) line entry are is =
     (are.0, taken_push limits (before ++ e ∷ []) lines entries line entry are.1 (subst (λ (es : List Entry). IsAcceptedLine limits es line entry) (sym (append_assoc before (e ∷ []) entries)) is))
+
+-- the last of the lines is accepted after those before it
+pub accepted_last : (limits : Limits) (before : List Entry) (lines : List (List ℕ)) (entries : List Entry) (line : List ℕ) (entry : Entry) → AreAcceptedAfter limits before (lines ++ line ∷ []) (entries ++ entry ∷ []) → IsAcceptedLine limits (before ++ entries) line entry
+accepted_last limits before [] [] line entry are = subst (λ (es : List Entry). IsAcceptedLine limits es line entry) (sym (append-nil before)) are.0
+accepted_last limits before [] (e ∷ []) line entry are = absurd are.1
+accepted_last limits before [] (e ∷ f ∷ entries) line entry are = absurd are.1
+accepted_last limits before (l ∷ []) [] line entry are = absurd are.1
+accepted_last limits before (l ∷ m ∷ lines) [] line entry are = absurd are.1
+accepted_last limits before (l ∷ lines) (e ∷ entries) line entry are =
+    subst (λ (es : List Entry). IsAcceptedLine limits es line entry) (append_assoc before (e ∷ []) entries) (accepted_last limits (before ++ e ∷ []) lines entries line entry are.1)

@@ -81,7 +81,7 @@ sent_bytes role (line ∷ lines) (entry ∷ entries) are =
 
 -- ---- where a Close ends
 
-nothing_closed : (role : Role) (limits : Limits) → IsUnclosed role limits []
+pub nothing_closed : (role : Role) (limits : Limits) → IsUnclosed role limits []
 nothing_closed role limits fs is closes =
     elim is.ends [
       | inl whole ↦ whole.0 closes.0 [] closes.1 closes.3 closes.2

@@ -12,6 +12,7 @@ pub mod PiecePrefixes
 pub mod JudgedCaptures
 pub mod EveryReport
 pub mod TailCounts
+pub mod OffendingLines
 pub mod OneAnswer
 pub mod SideEntries
 pub mod SideLaws

@@ -13,13 +13,16 @@ use Rattle.wsn_capture.specs.declared.capture_report.CaptureReport.{CaptureRepor
 use Rattle.wsn_rules.specs.Entries.{Entry}
 use Rattle.wsn_capture.specs.LineFaults.{IsFirstLineFault, IsAcceptedLine, AreAcceptedAfter, AreAcceptedLines, IsFaultAfter}
 use Rattle.wsn_rules.specs.Reports.{IsReport}
+use Rattle.wsn_capture.specs.declared.refused_line.RefusedLines.{RefusedLines}
 use Rattle.wsn_capture.specs.Tails.{AreTails}
+use Rattle.wsn_capture.specs.RefusedLines.{AreRefusedLines}
 use Rattle.wsn_capture.specs.CaptureAnswers.{IsReported, IsFaulty, IsCaptureAnswerOf}
 use Rattle.wsn_rules.proofs.OneEntry.{same_entries}
 use Rattle.wsn_capture.proofs.OneFault.{taken_or_faulty, one_first_fault}
 use Rattle.wsn_rules.proofs.OneReport.{one_report}
 use Rattle.wsn_capture.proofs.EveryReport.{has_report}
 use Rattle.wsn_capture.proofs.TailCounts.{has_tails, one_tails}
+use Rattle.wsn_capture.proofs.OffendingLines.{has_refused_lines, one_refused_lines}
 use Rattle.wsn_capture.proofs.AcceptedTexts.{taken_given}
 
 -- ---- some answer
@@ -74,9 +77,10 @@ has_answer limits text range =
       | inl all ↦
           let are = taken_given limits [] found.0 all.0 all.1 in
           let report = has_report limits found.0 all.0 range are in
-          let tails = has_tails limits found.0 all.0 range are in (
-            Ok (record { report = report.0; tails = tails.0 }),
-            record { lines = found.0; are = found.1; given = all.0; taken = all.1; is = report.1; tails = tails.1 },
+          let tails = has_tails limits found.0 all.0 range are in
+          let refused = has_refused_lines limits found.0 all.0 range are in (
+            Ok (record { report = report.0; tails = tails.0; refused = refused.0 }),
+            record { lines = found.0; are = found.1; given = all.0; taken = all.1; is = report.1; tails = tails.1; refused = refused.1 },
           )
       | inr faulty ↦ (
         Err (Line (length faulty.before + 1) faulty.fault),
@@ -146,7 +150,10 @@ one_answer limits text (Ok read) (Ok other) is also =
     let given : also.given ≡ is.given = same_taken limits is.lines also.given is.given (subst (λ (ls : List (List ℕ)). AreAcceptedLines limits ls also.given) same also.taken) is.taken in
     let report : read.report ≡ other.report = one_report limits is.lines read.report other.report is.is (subst (λ (ls : List (List ℕ)). IsReport limits ls other.report) same also.is) in
     let tails : read.tails ≡ other.tails = one_tails limits is.given read.tails other.tails is.tails (subst (λ (es : List Entry). AreTails limits es other.tails) given also.tails) in
-    ap (λ (r : Report). Ok (record { report = r; tails = read.tails })) report ∙ ap (λ (t : Tails). Ok (record { report = other.report; tails = t })) tails
+    let refused : read.refused ≡ other.refused = one_refused_lines limits is.given read.refused other.refused is.refused (subst (λ (es : List Entry). AreRefusedLines limits es other.refused) given also.refused) in
+    ap (λ (r : Report). Ok (record { report = r; tails = read.tails; refused = read.refused })) report
+    ∙ ap (λ (t : Tails). Ok (record { report = other.report; tails = t; refused = read.refused })) tails
+    ∙ ap (λ (l : RefusedLines). Ok (record { report = other.report; tails = other.tails; refused = l })) refused
 one_answer limits text (Ok read) (Err (Line number fault)) is also = absurd (reported_or_faulty limits text read number fault is also)
 one_answer limits text (Ok read) (Err Read) is also = absurd also
 one_answer limits text (Err (Line number fault)) (Ok read) is also = absurd (reported_or_faulty limits text read number fault also is)

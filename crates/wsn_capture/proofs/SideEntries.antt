@@ -171,7 +171,7 @@ module _ (limits : Limits) (given : List Entry) (line : List ℕ) where
   few_lines : (Has TooManyLines → ⊥) → length given < lines_most
   few_lines none = omega (arith, none)
 
-  short_line : (Has TooLong → ⊥) → length (without_cr line) ≤ line_most
+  pub short_line : (Has TooLong → ⊥) → length (without_cr line) ≤ line_most
   short_line none = omega (arith, none)
 
   by_text : (entry : Result Entry LineFault) → (Has TooManyLines → ⊥) → (Has TooLong → ⊥) → text_entry text ≡ entry → entry_after before line ≡ entry_unless_ended before entry
@@ -186,7 +186,7 @@ module _ (limits : Limits) (given : List Entry) (line : List ℕ) where
       ]
 
   -- an entry that the line gives
-  read_entry : (entry : Entry) → GivesEntry text entry → text_entry text ≡ Ok entry
+  pub read_entry : (entry : Entry) → GivesEntry text entry → text_entry text ≡ Ok entry
   read_entry Nothing is = nothing_text text is
   read_entry (Bytes role bytes) is = ap text_entry is.1 ∙ hex_text role is.0 bytes is.2
   read_entry (Mark role) is = ap text_entry is ∙ mark_text role

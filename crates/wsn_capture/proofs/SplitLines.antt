@@ -13,6 +13,7 @@ use Rattle.wsn_capture.specs.LineFaults.{fault_order, HasFault, IsFirstLineFault
 use Rattle.wsn_rules.specs.Reports.{IsReport}
 use Rattle.wsn_capture.specs.CaptureAnswers.{IsReported, IsFaulty, IsUnfaulted, IsCaptureAnswerOf}
 use Rattle.wsn_capture.specs.Tails.{AreTails}
+use Rattle.wsn_capture.specs.RefusedLines.{AreRefusedLines}
 use Rattle.wsn_capture.specs.LineSplitters.{HasPassedOn, IsStopAt, IsStopBy, IsStopWithin}
 use Rattle.wsn_rules.proofs.TextLines.{has_lines, ended-push, each_join, lines_in_front, lines_at_end, first_line}
 
@@ -154,21 +155,22 @@ module _ (limits : Limits) (lines : List (List ℕ)) (begun came : List ℕ) (sp
 
   -- ---- the end of the text
 
-  pub reported_whole : (given : List Entry) (read : CaptureReport) → begun ≡ [] → AreAcceptedLines limits lines given → IsReport limits lines read.report → AreTails limits given read.tails → IsReported limits came read
-  reported_whole given read none taken is tails = record {
+  pub reported_whole : (given : List Entry) (read : CaptureReport) → begun ≡ [] → AreAcceptedLines limits lines given → IsReport limits lines read.report → AreTails limits given read.tails → AreRefusedLines limits given read.refused → IsReported limits came read
+  reported_whole given read none taken is tails refused = record {
     lines = lines;
     are = record { each = split.each; joined = inl (split.whole ∙ ap (λ (bs : List ℕ). ended lines ++ bs) none ∙ append-nil (ended lines)) };
     given = given;
     taken = taken;
     is = is;
     tails = tails;
+    refused = refused;
   }
 
   at_end : begun ≢ [] → AreLines came (lines ++ begun ∷ [])
   at_end some = subst (λ (bs : List ℕ). AreLines bs (lines ++ begun ∷ [])) (sym split.whole) (lines_at_end lines begun split.each split.in_line some)
 
-  pub reported_last : (given : List Entry) (read : CaptureReport) → begun ≢ [] → AreAcceptedLines limits (lines ++ begun ∷ []) given → IsReport limits (lines ++ begun ∷ []) read.report → AreTails limits given read.tails → IsReported limits came read
-  reported_last given read some taken is tails = record { lines = lines ++ begun ∷ []; are = at_end some; given = given; taken = taken; is = is; tails = tails }
+  pub reported_last : (given : List Entry) (read : CaptureReport) → begun ≢ [] → AreAcceptedLines limits (lines ++ begun ∷ []) given → IsReport limits (lines ++ begun ∷ []) read.report → AreTails limits given read.tails → AreRefusedLines limits given read.refused → IsReported limits came read
+  reported_last given read some taken is tails refused = record { lines = lines ++ begun ∷ []; are = at_end some; given = given; taken = taken; is = is; tails = tails; refused = refused }
 
   pub faulty_last : (number : ℕ) (fault : LineFault) → begun ≢ [] → IsStopAt limits lines begun (Line number fault) → IsFaulty limits came number fault
   faulty_last number fault some is = record { before = lines; line = begun; after = []; are = at_end some; at = is.0; is = is.1 }

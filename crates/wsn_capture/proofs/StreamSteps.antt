@@ -22,11 +22,10 @@ use Rattle.wsn_capture.specs.declared.capture_lines.CaptureLines.{CaptureLines}
 use Rattle.wsn_capture.specs.declared.line_form.LineEntry.{LineEntry}
 use Rattle.wsn_capture.specs.declared.line_form.LineEntry.TheVariants as entries
 use Rattle.wsn_capture.specs.LineEntries.{held_entry}
-use Rattle.wsn_capture.specs.Closes.{IsClosedBy}
-use Rattle.wsn_capture.specs.CaptureLines.{HasAccepted, HasNotedCloses, HasNotedUpTo, count_of}
+use Rattle.wsn_capture.specs.CaptureLines.{HasAccepted, HasNotedCloses, HasNotedUpTo, IsJudged, count_of}
 use Rattle.wsn_capture.specs.Captures.{Captured, HasStreamed, HasAcceptedLines}
 use Rattle.wsn_capture.proofs.ClosingLines.{sent-push}
-use Rattle.wsn_capture.proofs.AcceptedLines.{own_bytes, no_bytes_in_nothing, no_bytes_in_mark}
+use Rattle.wsn_capture.proofs.AcceptedLines.{own_bytes, judged_push, no_bytes_in_nothing, no_bytes_in_mark}
 
 -- ---- one stream
 
@@ -129,6 +128,16 @@ module _ (limits : Limits) (capture : Captured) (lines : List (List ℕ)) (has :
     server = subst (HasStreamed Server limits capture.server) (sym (sent-push Server has.entries entry ∙ ap (λ (bs : List ℕ). sent Server has.entries ++ bs) (none Server) ∙ append-nil (sent Server has.entries))) has.server;
   }
 
+-- The verdict on whatever the scan has consumed.
+abbrev pub Judges : Scan → Verdict → Type 0
+Judges scan verdict = (role : Role) (limits : Limits) (bytes rest : List ℕ) (fs : List Frame) (at : Position) → HasScanned role limits scan bytes fs rest at → IsVerdict role limits bytes fs verdict
+
+-- What is noted of the endpoint's stream with the bytes of the line, given the verdict on it.
+abbrev pub Notes : CaptureLines → CaptureLines → Role → List ℕ → Verdict → Type 0
+Notes old new role line verdict =
+    (limits : Limits) (lines : List (List ℕ)) (given : List Entry) (bytes : List ℕ) → HasAccepted limits old (lines ++ line ∷ []) (given ++ Bytes role bytes ∷ []) → HasNotedCloses limits old given
+    → IsJudged role limits (given ++ Bytes role bytes ∷ []) verdict → HasNotedCloses limits new (given ++ Bytes role bytes ∷ [])
+
 -- What the lines say once they have accepted one more, before its bytes are scanned.
 module _ (capture : Captured) (line : List ℕ) (accepted : CaptureLines) (entry : LineEntry) (held : List ℕ)
     (takes : (limits : Limits) (lines : List (List ℕ)) (given : List Entry) → HasAccepted limits capture.lines lines given → HasAccepted limits accepted (lines ++ line ∷ []) (given ++ held_entry entry held ∷ []))
@@ -144,37 +153,33 @@ module _ (capture : Captured) (line : List ℕ) (accepted : CaptureLines) (entry
     pub fits_scan : (scan : Scan) → HasStreamed role limits scan (sent role has.entries) → length (take count held) ≤ room_of scan
     fits_scan scan s = room_for role limits scan accepted lines has.entries (take count held) line of_bytes s
 
-    -- the notes after these bytes
-    module _ (old scan : Scan) (noted : CaptureLines) (closed : Bool) (streams : HasStreamed role limits scan (sent role has.entries ++ take count held))
-        (judges : (role : Role) (limits : Limits) (came : List ℕ) → HasStreamed role limits scan came → IsClosedBy role limits came closed)
-        (notes : (limits : Limits) (lines : List (List ℕ)) (given : List Entry) (bytes : List ℕ) → HasAccepted limits accepted lines (given ++ Bytes role bytes ∷ []) → HasNotedCloses limits accepted given
-        → IsClosedBy role limits (sent role given ++ bytes) closed → HasNotedCloses limits noted (given ++ Bytes role bytes ∷ [])) where
-      pub notes_bytes : HasNotedCloses limits noted (has.entries ++ Bytes role (take count held) ∷ [])
-      notes_bytes = notes limits (lines ++ line ∷ []) has.entries (take count held) of_bytes before_bytes (judges role limits (sent role has.entries ++ take count held) streams)
+    -- the verdict on the stream with these bytes
+    pub judged_bytes : (scan : Scan) (verdict : Verdict) → HasStreamed role limits scan (sent role has.entries ++ take count held) → Judges scan verdict → refusal_judged verdict ≡ refusal_in scan
+        → IsJudged role limits (has.entries ++ Bytes role (take count held) ∷ []) verdict
+    judged_bytes scan verdict streams judges reported =
+        judged_push role limits has.entries (take count held) verdict (judged role limits scan (sent role has.entries ++ take count held) verdict streams judges reported)
 
-  pub client_done : (count : ℕ) → entry ≡ entries.Bytes Client count → (scan : Scan) (noted : CaptureLines) (closed : Bool)
+  pub client_done : (count : ℕ) → entry ≡ entries.Bytes Client count → (scan : Scan) (noted : CaptureLines) (verdict : Verdict)
       → ((role : Role) (limits : Limits) (came : List ℕ) → HasStreamed role limits capture.client came → HasStreamed role limits scan (came ++ take count held))
-      → ((role : Role) (limits : Limits) (came : List ℕ) → HasStreamed role limits scan came → IsClosedBy role limits came closed)
-      → ((limits : Limits) (lines : List (List ℕ)) (given : List Entry) (bytes : List ℕ) → HasAccepted limits accepted lines (given ++ Bytes Client bytes ∷ []) → HasNotedCloses limits accepted given
-      → IsClosedBy Client limits (sent Client given ++ bytes) closed → HasNotedCloses limits noted (given ++ Bytes Client bytes ∷ []))
+      → Judges scan verdict → refusal_judged verdict ≡ refusal_in scan
+      → Notes accepted noted Client line verdict
       → ((limits : Limits) (lines : List (List ℕ)) (given : List Entry) → HasAccepted limits accepted lines given → HasAccepted limits noted lines given)
       → HasAcceptedLines limits (record { lines = noted; client = scan; server = capture.server }) (lines ++ line ∷ [])
-  client_done count is scan noted closed streams judges notes keeps =
+  client_done count is scan noted verdict streams judges reported notes keeps =
       let came = streams Client limits (sent Client has.entries) has.client in
       client_line limits capture lines has noted line scan (take count held) (keeps limits (lines ++ line ∷ []) (has.entries ++ Bytes Client (take count held) ∷ []) (of_bytes Client count is))
-      (notes_bytes Client count is capture.client scan noted closed came judges notes) came
+      (notes limits lines has.entries (take count held) (of_bytes Client count is) (before_bytes Client count is) (judged_bytes Client count is scan verdict came judges reported)) came
 
-  pub server_done : (count : ℕ) → entry ≡ entries.Bytes Server count → (scan : Scan) (noted : CaptureLines) (closed : Bool)
+  pub server_done : (count : ℕ) → entry ≡ entries.Bytes Server count → (scan : Scan) (noted : CaptureLines) (verdict : Verdict)
       → ((role : Role) (limits : Limits) (came : List ℕ) → HasStreamed role limits capture.server came → HasStreamed role limits scan (came ++ take count held))
-      → ((role : Role) (limits : Limits) (came : List ℕ) → HasStreamed role limits scan came → IsClosedBy role limits came closed)
-      → ((limits : Limits) (lines : List (List ℕ)) (given : List Entry) (bytes : List ℕ) → HasAccepted limits accepted lines (given ++ Bytes Server bytes ∷ []) → HasNotedCloses limits accepted given
-      → IsClosedBy Server limits (sent Server given ++ bytes) closed → HasNotedCloses limits noted (given ++ Bytes Server bytes ∷ []))
+      → Judges scan verdict → refusal_judged verdict ≡ refusal_in scan
+      → Notes accepted noted Server line verdict
       → ((limits : Limits) (lines : List (List ℕ)) (given : List Entry) → HasAccepted limits accepted lines given → HasAccepted limits noted lines given)
       → HasAcceptedLines limits (record { lines = noted; client = capture.client; server = scan }) (lines ++ line ∷ [])
-  server_done count is scan noted closed streams judges notes keeps =
+  server_done count is scan noted verdict streams judges reported notes keeps =
       let came = streams Server limits (sent Server has.entries) has.server in
       server_line limits capture lines has noted line scan (take count held) (keeps limits (lines ++ line ∷ []) (has.entries ++ Bytes Server (take count held) ∷ []) (of_bytes Server count is))
-      (notes_bytes Server count is capture.server scan noted closed came judges notes) came
+      (notes limits lines has.entries (take count held) (of_bytes Server count is) (before_bytes Server count is) (judged_bytes Server count is scan verdict came judges reported)) came
 
   pub nothing_done : (entry ≡ entries.Nothing) ⊎ ((role : Role) × (entry ≡ entries.Mark role)) → HasAcceptedLines limits (record { lines = accepted; client = capture.client; server = capture.server }) (lines ++ line ∷ [])
   nothing_done (inl none) =

@@ -1,5 +1,5 @@
--- The answer to a capture's text: the report of its lines, with the bytes after both Closes; or its first line that isn't
--- accepted.
+-- The answer to a capture's text: the report of its lines, with the bytes after both Closes and the lines with offending
+-- bytes; or its first line that isn't accepted.
 use Rattle.std.specs.Prelude.{◌≡◌, ℕ, suc, ◌+◌, ◌*◌, ◌<◌, ◌≤◌, ◌⊎◌, false, true, Result, Ok, Err, List, ◌∷◌, ◌++◌, length}
 use Rattle.std.specs.List.{AllByRecursion}
 use Rattle.std.specs.Io.KnownBytes.{IsAtEnd}
@@ -15,10 +15,12 @@ use Rattle.wsn_rules.specs.Entries.{Entry}
 use Rattle.wsn_capture.specs.LineFaults.{AreAcceptedLines, IsFaultAfter}
 use Rattle.wsn_rules.specs.Reports.{IsReport}
 use Rattle.wsn_capture.specs.Tails.{AreTails}
+use Rattle.wsn_capture.specs.RefusedLines.{AreRefusedLines}
 
 -- ---- the answer to a text
 
--- All lines of the text are accepted, and these are their report and the numbers of bytes after both Closes.
+-- All lines of the text are accepted, and these are their report, the numbers of bytes after both Closes, and the lines
+-- with the offending bytes of refused streams.
 pub record IsReported (limits : Limits) (text : List ℕ) (read : CaptureReport) : Type 0 where
   pub lines : List (List ℕ)
   pub are : AreLines text lines
@@ -26,6 +28,7 @@ pub record IsReported (limits : Limits) (text : List ℕ) (read : CaptureReport)
   pub taken : AreAcceptedLines limits lines given
   pub is : IsReport limits lines read.report
   pub tails : AreTails limits given read.tails
+  pub refused : AreRefusedLines limits given read.refused
 
 -- The line with this number, counted from 1, is the first that isn't accepted, and this is its first fault.
 pub record IsFaulty (limits : Limits) (text : List ℕ) (number : ℕ) (fault : LineFault) : Type 0 where
@@ -42,7 +45,7 @@ IsCaptureAnswerOf limits text (Ok read) = IsReported limits text read
 IsCaptureAnswerOf limits text (Err (Line number fault)) = IsFaulty limits text number fault
 IsCaptureAnswerOf limits text (Err Read) = ⊥
 
--- the same answer, but of a report alone
+-- the same answer, but of the report alone
 abbrev pub without_tails : Result CaptureReport CaptureStop → Result Report CaptureStop
 without_tails (Ok read) = Ok read.report
 without_tails (Err stop) = Err stop

@@ -1,6 +1,7 @@
 -- The files in reading order.
 pub mod LineFaults
 pub mod Tails
+pub mod RefusedLines
 pub mod CaptureAnswers
 pub mod SplitLines
 pub mod SideTexts

@@ -15,6 +15,7 @@ pub use Rattle.wsn_rules.specs.Entries.Entry.{Bytes, Mark}
 pub use Rattle.wsn_capture.specs.LineFaults.{IsFaultAfter, IsFirstLineFault, IsAcceptedLine}
 pub use Rattle.wsn_capture.specs.LineEntries.{HasNoHex}
 pub use Rattle.wsn_capture.specs.Tails.{AreTails}
+pub use Rattle.wsn_capture.specs.RefusedLines.{AreRefusedLines}
 pub use Rattle.wsn_capture.specs.declared.capture_report.CaptureReport.{CaptureReport}
 pub use Rattle.wsn_capture.specs.LineSplitters.{HasSplit, IsStopAt, IsStopBy, IsStopWithin, bytes_left}
 pub use Rattle.wsn_rules.specs.Reports.{IsReport, SendAlike}

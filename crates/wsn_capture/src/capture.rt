@@ -3,21 +3,21 @@ ghost use Rattle.wsn_wire.specs.declared.endpoint.Role.{Role};
 ghost use Rattle.wsn_rules.specs.Limits.{Limits};
 ghost use Rattle.wsn_scan.specs.Feeding.{IsRunning};
 ghost use Rattle.wsn_scan.specs.Scans.{room_of};
-ghost use Rattle.wsn_capture.specs.Closes.{IsClosedBy};
 ghost use Rattle.wsn_capture.specs.Captures.{HasStreamed};
 
 use crate::capture_lines::CaptureLines;
 use crate::line_fault::LineFault;
 use crate::line_form::{BYTES_MAX, LineEntry};
+use crate::refused_line::RefusedLines;
 use crate::tails::Tails;
 use std::fmt::{self, Debug, Formatter};
 use std::marker::Model;
-use wsn_rules::{Limits, Report, Verdict};
+use wsn_rules::{Limits, Report};
 use wsn_scan::Scan;
 use wsn_wire::Role;
 
-/// Accepts the lines of a capture one by one and reports how the connection closed (RFC 6455 section 7.1). It keeps
-/// none of the lines.
+/// Accepts the lines of a capture one by one and reports how the connection closed (RFC 6455 section 7.1). Of the
+/// lines it keeps only those with an offending byte.
 #[derive(Drop)]
 pub struct Capture {
     lines: CaptureLines,
@@ -46,6 +46,7 @@ impl Capture {
     ghost use Rattle.wsn_capture.specs.LineFaults.{IsFaultAfter};
     ghost use Rattle.wsn_capture.specs.CaptureLines.{count_of};
     ghost use Rattle.wsn_capture.specs.Captures.{HasAcceptedLines};
+    ghost use Rattle.wsn_capture.specs.RefusedLines.{AreRefusedLines};
     ghost use Rattle.wsn_capture.specs.Tails.{AreTails};
 
     /// A capture that has accepted no line. The limits apply to each endpoint's stream separately.
@@ -79,11 +80,11 @@ impl Capture {
             LineEntry::Bytes(role, count) => match role {
                 Role::Client => {
                     scan_on(&mut self.client, &mut bytes[..count]);
-                    self.lines.note(Role::Client, has_close(&self.client));
+                    self.lines.note(Role::Client, text, &self.client.finish());
                 }
                 Role::Server => {
                     scan_on(&mut self.server, &mut bytes[..count]);
-                    self.lines.note(Role::Server, has_close(&self.server));
+                    self.lines.note(Role::Server, text, &self.server.finish());
                 }
             },
             LineEntry::Nothing | LineEntry::Mark(_) => {}
@@ -126,6 +127,15 @@ impl Capture {
     {
         Tails::of(&self.client.finish(), &self.server.finish())
     }
+
+    /// The lines with the offending bytes, among those accepted so far.
+    #[tactic(none)]
+    pub fn refused_lines(&self) -> RefusedLines
+        ensures { (limits : Limits) (lines : List (List ℕ)) (has : HasAcceptedLines limits self.now lines) →
+            AreRefusedLines limits has.entries result }
+    {
+        self.lines.refused_lines()
+    }
 }
 
 /// Scans further bytes of a stream, unless it is refused. It may unmask payload in place.
@@ -140,18 +150,6 @@ fn scan_on(scan: &mut Scan, bytes: &mut [u8])
         return;
     }
     let _refusal = scan.feed(bytes);
-}
-
-/// Whether the stream has a Close.
-#[tactic(none)]
-fn has_close(scan: &Scan) -> bool
-    ensures { (role : Role) (limits : Limits) (came : List ℕ) →
-        HasStreamed role limits scan.now came → IsClosedBy role limits came result }
-{
-    match scan.finish() {
-        Verdict::Accepted(summary) => summary.close.is_some(),
-        Verdict::Cut(_) | Verdict::Refused(_) => false,
-    }
 }
 
 /// Prints only the type's name.

@@ -1,15 +1,18 @@
-ghost use Rattle.std.specs.Prelude.{◌≡◌};
-ghost use Rattle.wsn_capture.specs.Closes.{earlier_of};
+ghost use Rattle.std.specs.Prelude.{◌≡◌, ℕ, List};
+ghost use Rattle.wsn_capture.specs.Closes.{IsClosedBy, earlier_of};
+ghost use Rattle.wsn_capture.specs.Words.{Role, Limits, Frame, IsVerdict};
 ghost use Rattle.wsn_rules.specs.Sides.{side_of, ended_as};
 
 use crate::line_fault::LineFault;
 use crate::line_form::{BYTES_MAX, LineEntry};
 use crate::lines_before::LinesBefore;
+use crate::refused_line::{RefusedLine, RefusedLines, kept_line};
 use wsn_rules::{Limits, Outcome, Report, Side, Verdict};
 use wsn_wire::Role;
 
 /// What counts of the lines that a capture has accepted: it accepts the next line, and reports how the connection closed
-/// (RFC 6455 section 7.1). It keeps none of the lines, and whoever reads the streams judges them.
+/// (RFC 6455 section 7.1). Of the lines it keeps only those with an offending byte, and whoever reads the streams judges
+/// them.
 #[derive(Drop)]
 pub struct CaptureLines {
     before: LinesBefore,
@@ -20,10 +23,14 @@ pub struct CaptureLines {
 /// What counts of the bytes that an endpoint sent.
 #[derive(Clone, Copy)]
 struct SentBytes {
+    /// How many bytes its stream accepts.
+    input: u64,
     /// How many more bytes its stream accepts.
     room: u64,
     /// The number of lines before the line with the last byte of its Close, if a Close has come.
     close_line: Option<u32>,
+    /// The line with the offending byte, if its stream is refused.
+    refused: Option<RefusedLine>,
 }
 
 impl CaptureLines {
@@ -31,12 +38,12 @@ impl CaptureLines {
     ghost use Rattle.wsn_rules.specs.Limits.{Limits};
     ghost use Rattle.wsn_rules.specs.Entries.{Entry};
     ghost use Rattle.wsn_rules.specs.Entries.Entry.{Bytes};
-    ghost use Rattle.wsn_rules.specs.Sides.{sent, has_ended};
+    ghost use Rattle.wsn_rules.specs.Sides.{has_ended};
     ghost use Rattle.wsn_rules.specs.Reports.{IsReportOf};
     ghost use Rattle.wsn_capture.specs.LineFaults.{IsFaultAfter};
     ghost use Rattle.wsn_capture.specs.declared.line_fault.LineFault.TheVariants.{InputLimit};
     ghost use Rattle.wsn_capture.specs.LineEntries.{FitsInLine, held_entry};
-    ghost use Rattle.wsn_capture.specs.Closes.{IsClosedBy};
+    ghost use Rattle.wsn_capture.specs.RefusedLines.{AreRefusedLines};
     ghost use Rattle.wsn_capture.specs.CaptureLines.{HasAccepted, HasNotedCloses, HasNotedUpTo, IsJudged, count_of, FitsRoom, ExceedsRoom, with_room_less};
 
     /// No line is accepted yet. The limits apply to each endpoint's stream separately.
@@ -45,8 +52,10 @@ impl CaptureLines {
         ensures noted { HasNotedCloses limits result [] }
     {
         let none = SentBytes {
+            input: limits.input(),
             room: limits.input(),
             close_line: None,
+            refused: None,
         };
         CaptureLines {
             before: LinesBefore::new(),
@@ -98,21 +107,35 @@ impl CaptureLines {
         }
     }
 
-    /// Notes whether the endpoint's stream has a Close, with the bytes of the line that was accepted last.
+    /// Notes what the line that was accepted last changes of the endpoint whose bytes it has, given the verdict on the
+    /// endpoint's stream: whether it has a Close now, or is refused.
     #[tactic(none)]
-    pub fn note(&mut self, role: Role, closed: bool)
+    pub fn note(&mut self, role: Role, line: &[u8], verdict: &Verdict)
         ensures noted { (limits : Limits) (lines : List (List ℕ)) (given : List Entry) (bytes : List ℕ) →
-            HasAccepted limits self.old lines (given ++ Bytes role bytes ∷ []) → HasNotedCloses limits self.old given →
-            IsClosedBy role limits (sent role given ++ bytes) closed →
+            HasAccepted limits self.old (lines ++ line.now ∷ []) (given ++ Bytes role bytes ∷ []) →
+            HasNotedCloses limits self.old given →
+            IsJudged role limits (given ++ Bytes role bytes ∷ []) verdict.now →
             HasNotedCloses limits self.new (given ++ Bytes role bytes ∷ []) }
         ensures accepted { (limits : Limits) (lines : List (List ℕ)) (given : List Entry) →
             HasAccepted limits self.old lines given → HasAccepted limits self.new lines given }
         ensures count { count_of self.new ≡ count_of self.old }
     {
-        let line = self.before.count().saturating_sub(1);
+        let number = self.before.count().saturating_sub(1);
         match role {
-            Role::Client => self.client.note(line, closed),
-            Role::Server => self.server.note(line, closed),
+            Role::Client => self.client.note(number, line, verdict),
+            Role::Server => self.server.note(number, line, verdict),
+        }
+    }
+
+    /// The lines with the offending bytes of both streams, as far as they are kept.
+    #[tactic(none)]
+    pub fn refused_lines(&self) -> RefusedLines
+        ensures { (limits : Limits) (given : List Entry) →
+            HasNotedCloses limits self.now given → AreRefusedLines limits given result }
+    {
+        RefusedLines {
+            client: self.client.refused,
+            server: self.server.refused,
         }
     }
 
@@ -160,6 +183,7 @@ impl SentBytes {
     ghost use Rattle.std.specs.Prelude.{◌≡◌, ◌-◌, ◌<◌, ◌≤◌, OnOk, IfErr};
     ghost use Rattle.wsn_capture.specs.declared.line_fault.LineFault.TheVariants.{InputLimit};
     ghost use Rattle.wsn_capture.specs.Closes.{noted_line};
+    ghost use Rattle.wsn_capture.specs.CaptureLines.{IsNotedLine, IsNotedRefusal};
 
     /// Takes room for this number of bytes. The error is `InputLimit` if there is less; nothing has changed then.
     #[tactic(none)]
@@ -175,14 +199,56 @@ impl SentBytes {
         Ok(())
     }
 
+    /// Notes the line with this number, given the verdict on its stream, if its Close ends in it, or its offending byte
+    /// came in it, and no such line is noted yet.
+    #[tactic(none)]
+    fn note(&mut self, number: u32, line: &[u8], verdict: &Verdict)
+        ensures same { (self.new.input ≡ self.old.input) × (self.new.room ≡ self.old.room) }
+        ensures close { (role : Role) (limits : Limits) (came : List ℕ) →
+            (fs : List Frame) × IsVerdict role limits came fs verdict.now →
+            (closed : _) × IsClosedBy role limits came closed
+            × (self.new.close_line ≡ noted_line self.old.close_line number closed) }
+        ensures refused { IsNotedRefusal self.old line.now verdict.now self.new.refused }
+    {
+        self.note_close(number, has_close(verdict));
+        match verdict {
+            Verdict::Refused(refusal) => self.note_refusal(line, refusal.place),
+            Verdict::Accepted(_) => {}
+            Verdict::Cut(_) => {}
+        }
+    }
+
     /// Notes the line in which its Close ends, if it has one and no line is noted yet.
     #[tactic(none)]
-    fn note(&mut self, line: u32, closed: bool)
+    fn note_close(&mut self, line: u32, closed: bool)
         ensures { self.new ≡ record self.old { close_line = noted_line self.old.close_line line closed } }
     {
         if closed && self.close_line.is_none() {
             self.close_line = Some(line);
         }
+    }
+
+    /// Keeps the line with the offending byte, whose offset is given, unless one is kept.
+    #[tactic(none)]
+    fn note_refusal(&mut self, line: &[u8], place: u64)
+        ensures same { self.new ≡ record self.old { refused = self.new.refused } }
+        ensures noted { IsNotedLine self.old line.now place self.new.refused }
+    {
+        if self.refused.is_none() {
+            self.refused = kept_line(line, self.input.saturating_sub(self.room), place);
+        }
+    }
+}
+
+/// Whether the stream has a Close, given the verdict on it.
+#[tactic(none)]
+fn has_close(verdict: &Verdict) -> bool
+    ensures { (role : Role) (limits : Limits) (came : List ℕ) →
+        (fs : List Frame) × IsVerdict role limits came fs verdict.now → IsClosedBy role limits came result }
+{
+    match verdict {
+        Verdict::Accepted(summary) => summary.close.is_some(),
+        Verdict::Cut(_) | Verdict::Refused(_) => false,
     }
 }
 

@@ -1,3 +1,4 @@
+use crate::refused_line::RefusedLines;
 use crate::tails::Tails;
 use wsn_rules::Report;
 
@@ -8,4 +9,6 @@ pub struct CaptureReport {
     pub report: Report,
     /// The number of bytes that each endpoint sent after its Close.
     pub tails: Tails,
+    /// The lines with the offending bytes of refused streams.
+    pub refused: RefusedLines,
 }

@@ -11,8 +11,7 @@ use wsn_rules::{Limits, Report};
 use wsn_scan::CHUNK;
 use wsn_wire::Input;
 
-/// Reads a capture's text to its end and returns the report of its lines, as [`read_capture`] does, without the number of
-/// bytes after each Close.
+/// Reads a capture's text to its end and returns the report of its lines, as [`read_capture`] does, and that alone.
 #[tactic(none)]
 pub fn judge_capture<R: Read>(input: &mut Input<R>, limits: Limits) -> Result<Report, CaptureStop>
     requires { input.old.failed ≡ false }
@@ -23,13 +22,13 @@ pub fn judge_capture<R: Read>(input: &mut Input<R>, limits: Limits) -> Result<Re
     ensures failed { (result ≡ Err CaptureStop.Read) ↔ (input.new.failed ≡ true) }
 {
     match read_capture(input, limits) {
-        Ok(CaptureReport { report, tails: _ }) => Ok(report),
+        Ok(CaptureReport { report, .. }) => Ok(report),
         Err(stop) => Err(stop),
     }
 }
 
-/// Reads a capture's text to its end and returns the report of its lines, and how many bytes each endpoint sent after its
-/// Close. It reads chunks of at most [`CHUNK`] bytes. The limits apply to each endpoint's stream separately.
+/// Reads a capture's text to its end and returns the report of its lines, how many bytes each endpoint sent after its
+/// Close, and the lines with the offending bytes of refused streams. It reads chunks of at most [`CHUNK`] bytes. The limits apply to each endpoint's stream separately.
 ///
 /// The error `Line` is the first line that isn't accepted. It is returned once the line has ended or is too long
 /// whatever follows, with at most 4,095 bytes read after that byte. `Read` is a read that failed; every line that was

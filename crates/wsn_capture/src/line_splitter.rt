@@ -13,7 +13,7 @@ pub struct LineSplitter {
 
 impl LineSplitter {
     ghost use Rattle.std.specs.Prelude.{◌≡◌, ◌+◌, ◌<◌, ◌≤◌, ◌≢◌, ℕ, List, [], ◌∷◌, ◌++◌, length, take, OnOk, IfOk, IfErr};
-    ghost use Rattle.wsn_capture.specs.Words.{Limits, IsLine, HasAcceptedLines, count_of, IsCaptureAnswerOf, IsReport, AreTails, HasSplit, IsStopAt, IsStopBy, IsStopWithin, bytes_left};
+    ghost use Rattle.wsn_capture.specs.Words.{Limits, IsLine, HasAcceptedLines, count_of, IsCaptureAnswerOf, IsReport, AreTails, AreRefusedLines, HasSplit, IsStopAt, IsStopBy, IsStopWithin, bytes_left};
 
     /// A splitter of a text of no bytes.
     pub fn new(limits: Limits) -> LineSplitter
@@ -107,10 +107,13 @@ impl LineSplitter {
             IsReport limits lines result.report }
         ensures tails { (limits : Limits) (lines : List (List ℕ)) (has : HasAcceptedLines limits self.now.capture lines) →
             AreTails limits has.entries result.tails }
+        ensures refused { (limits : Limits) (lines : List (List ℕ)) (has : HasAcceptedLines limits self.now.capture lines) →
+            AreRefusedLines limits has.entries result.refused }
     {
         CaptureReport {
             report: self.capture.report(),
             tails: self.capture.tails(),
+            refused: self.capture.refused_lines(),
         }
     }
 }

@@ -1,7 +1,7 @@
 //! Hints on captures in which a Close accuses the other endpoint.
 
 use std::process::Abort;
-use wsn_capture::{CaptureReport, Tails};
+use wsn_capture::{CaptureReport, RefusedLines, Tails};
 use wsn_cli::{Answer, Charge, Format, Hint, Job, accusing_hint_of, hint_on_run};
 use wsn_print::{Style, ViewLimit};
 use wsn_rules::{Detail, INPUT_MAX, Limits, MESSAGE_MAX, Outcome, Refusal, Report, Side};
@@ -135,6 +135,10 @@ fn a_report_has_a_hint_on_an_accusation(rt: HostRuntime) {
         let answer = Answer::Report(CaptureReport {
             report: report(&ROWS[0]),
             tails: Tails { client: 0, server },
+            refused: RefusedLines {
+                client: None,
+                server: None,
+            },
         });
         let first = text.as_bytes();
         assert_eq!(rt; hint_on_run(&show, None, first, answer), shown, "{text}");

@@ -13,7 +13,9 @@ use Rattle.wsn_print.specs.declared.style.Style.{Style}
 use Rattle.wsn_show.specs.Styles.{styled_line, styled_left, styled_ended_by, styled_capture, styled_report}
 use Rattle.wsn_capture.specs.declared.capture_stop.CaptureStop.TheVariants as capture
 use Rattle.wsn_capture.specs.declared.tails.Tails.{Tails}
+use Rattle.wsn_capture.specs.declared.refused_line.RefusedLines.{RefusedLines}
 use Rattle.wsn_capture.specs.Tails.{AreTails}
+use Rattle.wsn_capture.specs.RefusedLines.{AreRefusedLines}
 use Rattle.wsn_capture.proofs.SplitLines.{unfaulted, faulty_last}
 use Rattle.wsn_capture.proofs.AcceptedTexts.{taken_given}
 use Rattle.wsn_show.specs.declared.capture_view.CaptureView.{CaptureView}
@@ -89,9 +91,9 @@ module _ (limits : Limits) (style : Style) (first : Outgoing) (came : List ℕ) 
     all_before : IsWritten first after (lines_text ++ last_text)
     all_before = put_both first now after lines_text last_text has.printed (whole_part now after last_text works finishes.printed)
 
-    pub reported : (tails : Tails) → AreTails limits has.entries tails → IsWritten after out (styled_report style report)
-        → EndsShowing limits style first out came (Ok (record { report = report; tails = tails }))
-    reported tails are_tails written = (lines_text ++ last_text ++ styled_report style report, whole_text, are_tails, put_both first after out (lines_text ++ last_text) (styled_report style report) all_before written)
+    pub reported : (tails : Tails) → AreTails limits has.entries tails → (refused : RefusedLines) → AreRefusedLines limits has.entries refused → IsWritten after out (styled_report style report)
+        → EndsShowing limits style first out came (Ok (record { report = report; tails = tails; refused = refused }))
+    reported tails are_tails refused are_refused written = (lines_text ++ last_text ++ styled_report style report, whole_text, are_tails, are_refused, put_both first after out (lines_text ++ last_text) (styled_report style report) all_before written)
 
     pub stopped_in : IsPartlyWritten after out (styled_report style report) → EndsShowing limits style first out came (Err stop.Write)
     stopped_in partly =

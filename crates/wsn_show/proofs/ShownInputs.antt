@@ -87,7 +87,7 @@ module _ (limits : Limits) (style : Style) (old mid new : Incoming) (first : Out
 
   at_end : (result : Result CaptureReport ShowStop) (after : Outgoing) → IsAtEnd new.remaining → new.failed ≡ false
       → EndsShowing limits style first after read.came result → IsShowAnswer limits style new read.came first after result
-  at_end (Ok read) after ends unfailed (text, whole, tails, written) = (text, whole, tails, written, ends, unfailed)
+  at_end (Ok read) after ends unfailed (text, whole, tails, refused, written) = (text, whole, tails, refused, written, ends, unfailed)
   at_end (Err (stop.Capture (capture.Line number fault))) after ends unfailed (faulty, unfaulted_there, printed) =
       (inr (faulty, unfaulted_there, ends), unfailed, printed)
   at_end (Err (stop.Capture capture.Read)) after ends unfailed is = absurd is

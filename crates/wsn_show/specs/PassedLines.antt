@@ -12,6 +12,7 @@ use Rattle.wsn_capture.specs.LineFaults.{IsFaultAfter}
 use Rattle.wsn_capture.specs.CaptureLines.{count_of}
 use Rattle.wsn_capture.specs.LineSplitters.{HasPassedOn, IsStopWithin}
 use Rattle.wsn_capture.specs.Tails.{AreTails}
+use Rattle.wsn_capture.specs.RefusedLines.{AreRefusedLines}
 use Rattle.wsn_capture.specs.CaptureAnswers.{begun_most, IsFaulty, IsUnfaulted}
 use Rattle.wsn_show.specs.declared.capture_view.CaptureView.{CaptureView}
 use Rattle.wsn_show.specs.declared.showing.ShowStop.{ShowStop}
@@ -77,6 +78,7 @@ pub record HasPrintedLines (limits : Limits) (style : Style) (first : Outgoing) 
 abbrev pub EndsShowing : Limits → Style → Outgoing → Outgoing → List ℕ → Result CaptureReport ShowStop → Type 0
 EndsShowing limits style first now came (Ok read) =
     (text : List ℕ) × (whole : IsWholeText limits style came read.report text) × AreTails limits whole.entries read.tails
+    × AreRefusedLines limits whole.entries read.refused
     × IsWritten first now text
 EndsShowing limits style first now came (Err (Capture (capture.Line number fault))) =
     IsFaulty limits came number fault × IsUnfaulted limits came × IsPrintedBefore limits style came number first now

@@ -17,6 +17,7 @@ use Rattle.wsn_capture.specs.declared.capture_report.CaptureReport.{CaptureRepor
 use Rattle.wsn_capture.specs.declared.capture_stop.CaptureStop.TheVariants as capture
 use Rattle.wsn_capture.specs.LineFaults.{AreAcceptedLines}
 use Rattle.wsn_capture.specs.Tails.{AreTails}
+use Rattle.wsn_capture.specs.RefusedLines.{AreRefusedLines}
 use Rattle.wsn_capture.specs.CaptureAnswers.{begun_most, IsUnfaulted, IsFaultReported}
 use Rattle.wsn_show.specs.declared.showing.ShowStop.{ShowStop}
 use Rattle.wsn_show.specs.declared.showing.ShowStop.TheVariants.{Capture, Write}
@@ -96,6 +97,7 @@ IsTextOf limits style came text =
 abbrev pub IsShowAnswer : Limits → Style → Incoming → List ℕ → Outgoing → Outgoing → Result CaptureReport ShowStop → Type 0
 IsShowAnswer limits style new came before after (Ok read) =
     (text : List ℕ) × (whole : IsWholeText limits style came read.report text) × AreTails limits whole.entries read.tails
+    × AreRefusedLines limits whole.entries read.refused
     × IsWritten before after text × IsAtEnd new.remaining × (new.failed ≡ false)
 IsShowAnswer limits style new came before after (Err (Capture (capture.Line number fault))) =
     IsFaultReported limits new came number fault × (new.failed ≡ false)

@@ -15,7 +15,9 @@ use crate::last_times::LastTimes;
 use crate::stream_view::StreamView;
 use crate::times::{CurrentTime, LINE_MAX};
 use std::io::Write;
-use wsn_capture::{BYTES_MAX, CaptureLines, LineEntry, LineFault, Report, Tails, strip_cr};
+use wsn_capture::{
+    BYTES_MAX, CaptureLines, LineEntry, LineFault, RefusedLines, Report, Tails, strip_cr,
+};
 use wsn_io::{Output, put_line};
 use wsn_print::{EntryFront, Origin, Style};
 use wsn_rules::Limits;
@@ -41,6 +43,7 @@ impl CaptureView {
     ghost use Rattle.wsn_rules.specs.Reports.{IsReportOf};
     ghost use Rattle.wsn_capture.specs.CaptureLines.{HasAccepted, HasNotedCloses, count_of};
     ghost use Rattle.wsn_capture.specs.LineFaults.{IsFaultAfter};
+    ghost use Rattle.wsn_capture.specs.RefusedLines.{AreRefusedLines};
     ghost use Rattle.wsn_capture.specs.Tails.{AreTails};
     ghost use Rattle.wsn_print.specs.declared.style.Style.{Style};
     ghost use Rattle.wsn_show.specs.CaptureViews.{HasShownLines, IsShowingLines, AreViewed, CanShow, Shows, ShowsLine, LeavesAtEnd, SaysWhoEnded, Finishes};
@@ -89,7 +92,9 @@ impl CaptureView {
         self.last_times.note(entry, &self.time);
         match entry {
             LineEntry::Nothing => self.show_nothing(text, output),
-            LineEntry::Bytes(role, count) => self.show_bytes(role, &mut bytes[..count], output),
+            LineEntry::Bytes(role, count) => {
+                self.show_bytes(role, line, &mut bytes[..count], output);
+            }
             LineEntry::Mark(role) => self.show_mark(role, output),
         }
         Ok(())
@@ -133,6 +138,14 @@ impl CaptureView {
             HasShownLines limits style self.now lines entries → AreTails limits entries result }
     {
         Tails::of(&self.client.verdict(), &self.server.verdict())
+    }
+
+    /// The lines with the offending bytes of both streams.
+    pub fn refused_lines(&self) -> RefusedLines
+        ensures { (limits : Limits) (style : Style) (lines : List (List ℕ)) (entries : List Entry) →
+            HasShownLines limits style self.now lines entries → AreRefusedLines limits entries result }
+    {
+        self.lines.refused_lines()
     }
 
     /// Prints who ended the connection, if a stream ended without a Close.
@@ -187,9 +200,15 @@ impl CaptureView {
         let _stop = put_comment_as(output, format, number, text);
     }
 
-    /// Prints what these bytes of an endpoint complete, and notes whether its Close is among it. Payload is unmasked in
-    /// place.
-    fn show_bytes<W: Write>(&mut self, role: Role, bytes: &mut [u8], output: &mut Output<W>)
+    /// Prints what these bytes of an endpoint complete, which the line gives, and notes whether its Close or an offending
+    /// byte is among it. Payload is unmasked in place.
+    fn show_bytes<W: Write>(
+        &mut self,
+        role: Role,
+        line: &[u8],
+        bytes: &mut [u8],
+        output: &mut Output<W>,
+    )
         requires writable { output.old.failed ≡ false }
         requires can_show { (digits : List ℕ) × IsHex digits bytes.old × CanShow self.old (bytes_prefix role ++ digits) }
         ensures shows { (digits : List ℕ) → IsHex digits bytes.old →
@@ -197,7 +216,7 @@ impl CaptureView {
         ensures accepted { (limits : Limits) (lines : List (List ℕ)) (given : List Entry) →
             HasAccepted limits self.old.lines lines given → HasAccepted limits self.new.lines lines given }
         ensures noted { (limits : Limits) (style : Style) (lines : List (List ℕ)) (given : List Entry) →
-            HasAccepted limits self.old.lines lines (given ++ Bytes role bytes.old ∷ []) →
+            HasAccepted limits self.old.lines (lines ++ line.now ∷ []) (given ++ Bytes role bytes.old ∷ []) →
             HasNotedCloses limits self.old.lines given → AreViewed limits style self.old given →
             HasNotedCloses limits self.new.lines (given ++ Bytes role bytes.old ∷ []) }
         ensures count { count_of self.new.lines ≡ count_of self.old.lines }
@@ -208,11 +227,11 @@ impl CaptureView {
         match role {
             Role::Client => {
                 self.client.take(bytes, origin, output);
-                self.lines.note(Role::Client, self.client.has_close());
+                self.lines.note(Role::Client, line, &self.client.verdict());
             }
             Role::Server => {
                 self.server.take(bytes, origin, output);
-                self.lines.note(Role::Server, self.server.has_close());
+                self.lines.note(Role::Server, line, &self.server.verdict());
             }
         }
     }

@@ -15,6 +15,7 @@ returns-in-Ok g c limits style first came lines are has =
     reported limits style first came lines are c.args.view.now c.args.output.now has c.finish-report.new.output c.finish-report.result
     (c.finish-report.ensures limits style lines has.entries has.has_shown) c.put_report_as.new.to (search rules)
     c.tails.result (c.tails.ensures limits style lines has.entries has.has_shown)
+    c.refused_lines.result (c.refused_lines.ensures limits style lines has.entries has.has_shown)
     (subst (λ (s : Style). IsWritten c.finish-report.new.output c.put_report_as.new.to (styled_report s c.finish-report.result)) (c.style.ensures limits style lines has.entries has.has_shown) (search rules))
 
 pub returns-in-Err : goal.returns-in-Err

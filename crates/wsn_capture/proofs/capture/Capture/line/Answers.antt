@@ -49,12 +49,12 @@ pub invariant_of-self-in-Client : goal.invariant_of-self-in-Client
 invariant_of-self-in-Client c = record {
   limits = c.self.invariant.limits;
   lines = c.self.invariant.lines ++ c.args.text.now ∷ [];
-  has = client_done (record { lines = c.self.inside.lines; client = c.self.inside.client; server = c.self.inside.server }) c.args.text.now c.accept.new.self c.in_ok-entry.entry c.accept.new.bytes c.in_ok-entry.ensures.accepted c.in_ok-entry.ensures.noted c.self.invariant.limits c.self.invariant.lines c.self.invariant.has c.in-Bytes.count (c.in-Bytes.is ∙ ap (λ (r : Role). entries.Bytes r c.in-Bytes.count) c.in-Client.is) c.scan_on.new.scan c.note.new.self c.has_close.result c.scan_on.ensures c.has_close.ensures c.note.ensures.noted c.note.ensures.accepted;
+  has = client_done (record { lines = c.self.inside.lines; client = c.self.inside.client; server = c.self.inside.server }) c.args.text.now c.accept.new.self c.in_ok-entry.entry c.accept.new.bytes c.in_ok-entry.ensures.accepted c.in_ok-entry.ensures.noted c.self.invariant.limits c.self.invariant.lines c.self.invariant.has c.in-Bytes.count (c.in-Bytes.is ∙ ap (λ (r : Role). entries.Bytes r c.in-Bytes.count) c.in-Client.is) c.scan_on.new.scan c.note.new.self c.finish.result c.scan_on.ensures c.finish.ensures.verdict c.finish.ensures.reported c.note.ensures.noted c.note.ensures.accepted;
 }
 
 pub returns-in-Client-clause-taken : goal.returns-in-Client-clause-taken
 returns-in-Client-clause-taken c = λ limits lines has.
-    client_done (record { lines = c.self.inside.lines; client = c.self.inside.client; server = c.self.inside.server }) c.args.text.now c.accept.new.self c.in_ok-entry.entry c.accept.new.bytes c.in_ok-entry.ensures.accepted c.in_ok-entry.ensures.noted limits lines (subst (λ (s : Captured). HasAcceptedLines limits s lines) (sym c.self.view_is) has) c.in-Bytes.count (c.in-Bytes.is ∙ ap (λ (r : Role). entries.Bytes r c.in-Bytes.count) c.in-Client.is) c.scan_on.new.scan c.note.new.self c.has_close.result c.scan_on.ensures c.has_close.ensures c.note.ensures.noted c.note.ensures.accepted
+    client_done (record { lines = c.self.inside.lines; client = c.self.inside.client; server = c.self.inside.server }) c.args.text.now c.accept.new.self c.in_ok-entry.entry c.accept.new.bytes c.in_ok-entry.ensures.accepted c.in_ok-entry.ensures.noted limits lines (subst (λ (s : Captured). HasAcceptedLines limits s lines) (sym c.self.view_is) has) c.in-Bytes.count (c.in-Bytes.is ∙ ap (λ (r : Role). entries.Bytes r c.in-Bytes.count) c.in-Client.is) c.scan_on.new.scan c.note.new.self c.finish.result c.scan_on.ensures c.finish.ensures.verdict c.finish.ensures.reported c.note.ensures.noted c.note.ensures.accepted
 
 pub returns-in-Client-clause-count : goal.returns-in-Client-clause-count
 returns-in-Client-clause-count c =
@@ -75,12 +75,12 @@ pub invariant_of-self-in-Server : goal.invariant_of-self-in-Server
 invariant_of-self-in-Server c = record {
   limits = c.self.invariant.limits;
   lines = c.self.invariant.lines ++ c.args.text.now ∷ [];
-  has = server_done (record { lines = c.self.inside.lines; client = c.self.inside.client; server = c.self.inside.server }) c.args.text.now c.accept.new.self c.in_ok-entry.entry c.accept.new.bytes c.in_ok-entry.ensures.accepted c.in_ok-entry.ensures.noted c.self.invariant.limits c.self.invariant.lines c.self.invariant.has c.in-Bytes.count (c.in-Bytes.is ∙ ap (λ (r : Role). entries.Bytes r c.in-Bytes.count) c.in-Server.is) c.scan_on-in-Server.new.scan c.note-in-Server.new.self c.has_close-in-Server.result c.scan_on-in-Server.ensures c.has_close-in-Server.ensures c.note-in-Server.ensures.noted c.note-in-Server.ensures.accepted;
+  has = server_done (record { lines = c.self.inside.lines; client = c.self.inside.client; server = c.self.inside.server }) c.args.text.now c.accept.new.self c.in_ok-entry.entry c.accept.new.bytes c.in_ok-entry.ensures.accepted c.in_ok-entry.ensures.noted c.self.invariant.limits c.self.invariant.lines c.self.invariant.has c.in-Bytes.count (c.in-Bytes.is ∙ ap (λ (r : Role). entries.Bytes r c.in-Bytes.count) c.in-Server.is) c.scan_on-in-Server.new.scan c.note-in-Server.new.self c.finish-in-Server.result c.scan_on-in-Server.ensures c.finish-in-Server.ensures.verdict c.finish-in-Server.ensures.reported c.note-in-Server.ensures.noted c.note-in-Server.ensures.accepted;
 }
 
 pub returns-in-Server-clause-taken : goal.returns-in-Server-clause-taken
 returns-in-Server-clause-taken c = λ limits lines has.
-    server_done (record { lines = c.self.inside.lines; client = c.self.inside.client; server = c.self.inside.server }) c.args.text.now c.accept.new.self c.in_ok-entry.entry c.accept.new.bytes c.in_ok-entry.ensures.accepted c.in_ok-entry.ensures.noted limits lines (subst (λ (s : Captured). HasAcceptedLines limits s lines) (sym c.self.view_is) has) c.in-Bytes.count (c.in-Bytes.is ∙ ap (λ (r : Role). entries.Bytes r c.in-Bytes.count) c.in-Server.is) c.scan_on-in-Server.new.scan c.note-in-Server.new.self c.has_close-in-Server.result c.scan_on-in-Server.ensures c.has_close-in-Server.ensures c.note-in-Server.ensures.noted c.note-in-Server.ensures.accepted
+    server_done (record { lines = c.self.inside.lines; client = c.self.inside.client; server = c.self.inside.server }) c.args.text.now c.accept.new.self c.in_ok-entry.entry c.accept.new.bytes c.in_ok-entry.ensures.accepted c.in_ok-entry.ensures.noted limits lines (subst (λ (s : Captured). HasAcceptedLines limits s lines) (sym c.self.view_is) has) c.in-Bytes.count (c.in-Bytes.is ∙ ap (λ (r : Role). entries.Bytes r c.in-Bytes.count) c.in-Server.is) c.scan_on-in-Server.new.scan c.note-in-Server.new.self c.finish-in-Server.result c.scan_on-in-Server.ensures c.finish-in-Server.ensures.verdict c.finish-in-Server.ensures.reported c.note-in-Server.ensures.noted c.note-in-Server.ensures.accepted
 
 pub returns-in-Server-clause-count : goal.returns-in-Server-clause-count
 returns-in-Server-clause-count c =

@@ -9,7 +9,7 @@ use Rattle.wsn_capture.specs.LineEntries.{held_entry}
 use Rattle.wsn_capture.specs.SideTexts.{with_entry}
 use Rattle.wsn_capture.specs.CaptureLines.{room_left}
 use Rattle.wsn_capture.proofs.AcceptedTexts.{if_this}
-use Rattle.wsn_capture.proofs.AcceptedLines.{faulty_line, exceeds_given, accepted_push, fits_given, less_before, room_by, closes_by, noted_same, noted_up_to}
+use Rattle.wsn_capture.proofs.AcceptedLines.{faulty_line, exceeds_given, accepted_push, fits_given, less_before, room_by, closes_by, inputs_by, refused_by, noted_same, noted_up_to}
 use Rattle.wsn_capture.proofs.capture_lines.CaptureLines.accept.Goals as goal
 
 pub returns-in_err-entry-clause-accepted : goal.returns-in_err-entry-clause-accepted
@@ -71,7 +71,7 @@ returns-clause-accepted c = λ limits lines given has.
     let room : (role : Role) → room_left role (record c.take_room.new.self { before = c.add.new.self }) + length (bytes_in role (held_entry entry held)) ≡ room_left role old =
     λ role. room_by limits old entry c.take_room.new.self c.add.new.self held taken fits read.0 (omega arith) role in
     accepted_push limits old lines given has c.args.line.now (record c.take_room.new.self { before = c.add.new.self }) (held_entry entry held) read.1
-    (c.add.ensures held ∙ ap (λ (b : LinesBefore). with_entry b (held_entry entry held)) same) room (fits_given limits old lines given c.args.line.now entry held has fits)
+    (c.add.ensures held ∙ ap (λ (b : LinesBefore). with_entry b (held_entry entry held)) same) (inputs_by old entry c.take_room.new.self c.add.new.self taken) room (fits_given limits old lines given c.args.line.now entry held has fits)
 
 pub returns-clause-fits : goal.returns-clause-fits
 returns-clause-fits c = search rules
@@ -80,7 +80,8 @@ pub returns-clause-noted : goal.returns-clause-noted
 returns-clause-noted c = λ limits given noted.
     noted_up_to limits (record c.take_room.new.self { before = c.add.new.self }) given c.in_ok-entry.entry c.entry.new.bytes
     (noted_same limits c.args.self.now (record c.take_room.new.self { before = c.add.new.self }) given
-    (closes_by c.args.self.now c.in_ok-entry.entry c.take_room.new.self c.add.new.self c.in_ok-take_room.ensures.taken) noted)
+    (closes_by c.args.self.now c.in_ok-entry.entry c.take_room.new.self c.add.new.self c.in_ok-take_room.ensures.taken)
+    (refused_by c.args.self.now c.in_ok-entry.entry c.take_room.new.self c.add.new.self c.in_ok-take_room.ensures.taken) noted)
 
 pub returns-clause-count : goal.returns-clause-count
 returns-clause-count c = search rules

@@ -15,7 +15,7 @@ returns c = λ limits lines given has noted client server.
       client = (client.0, c.args.client.now, client.1, c.side_of-client.ensures ∙ ap (side_of c.args.client.now) client_over);
       server = (server.0, c.args.server.now, server.1, c.side_of-server.ensures ∙ ap (side_of c.args.server.now) server_over);
       first = subst (IsFirst limits given) (sym c.first_closed.ensures)
-          (first_by_lines limits given lines.client.close_line lines.server.close_line (noted Client) (noted Server));
+          (first_by_lines limits given lines.client.close_line lines.server.close_line (noted Client).0 (noted Server).0);
       echo = c.echo.ensures;
       client_sees = c.seen.ensures;
       server_sees = c.seen-2.ensures;

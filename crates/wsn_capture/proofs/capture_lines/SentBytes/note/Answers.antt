@@ -1,8 +1,40 @@
-use Rattle.std.proofs.Common.{rules}
+use Rattle.std.proofs.Common.{◌≡◌, sym, ap, ◌∙◌, subst, rules}
+use Rattle.wsn_rules.specs.declared.verdict.Verdict.TheVariants.{Accepted, Cut, Refused}
+use Rattle.wsn_capture.specs.declared.capture_lines.SentBytes.{SentBytes}
+use Rattle.wsn_capture.specs.CaptureLines.{IsNotedRefusal}
+use Rattle.wsn_capture.proofs.AcceptedLines.{noted_from, none_noted}
 use Rattle.wsn_capture.proofs.capture_lines.SentBytes.note.Goals as goal
 
-pub returns-then-is_none : goal.returns-then-is_none
-returns-then-is_none c = search rules
+pub returns-in-Refused-clause-same : goal.returns-in-Refused-clause-same
+returns-in-Refused-clause-same c = (
+  ap (λ (s : SentBytes). s.input) c.note_refusal.ensures.same ∙ ap (λ (s : SentBytes). s.input) c.note_close.ensures,
+  ap (λ (s : SentBytes). s.room) c.note_refusal.ensures.same ∙ ap (λ (s : SentBytes). s.room) c.note_close.ensures,
+)
 
-pub returns-else-closed : goal.returns-else-closed
-returns-else-closed c = search rules
+pub returns-in-Refused-clause-close : goal.returns-in-Refused-clause-close
+returns-in-Refused-clause-close c = λ role limits came judged. (
+  c.has_close.result,
+  c.has_close.ensures role limits came judged,
+  ap (λ (s : SentBytes). s.close_line) c.note_refusal.ensures.same ∙ ap (λ (s : SentBytes). s.close_line) c.note_close.ensures,
+)
+
+pub returns-in-Refused-clause-refused : goal.returns-in-Refused-clause-refused
+returns-in-Refused-clause-refused c =
+    noted_from c.args.self.now c.note_close.new.self c.args.line.now c.args.verdict.now c.in-Refused.refusal c.note_refusal.new.self.refused c.in-Refused.is
+    (ap (λ (s : SentBytes). s.input) c.note_close.ensures) (ap (λ (s : SentBytes). s.room) c.note_close.ensures) (ap (λ (s : SentBytes). s.refused) c.note_close.ensures) c.note_refusal.ensures.noted
+
+pub returns-in-Accepted : goal.returns-in-Accepted
+returns-in-Accepted c = record {
+  same = (ap (λ (s : SentBytes). s.input) c.note_close.ensures, ap (λ (s : SentBytes). s.room) c.note_close.ensures);
+  close = λ role limits came judged. (c.has_close.result, c.has_close.ensures role limits came judged, ap (λ (s : SentBytes). s.close_line) c.note_close.ensures);
+  refused = none_noted c.args.self.now c.args.line.now c.args.verdict.now c.note_close.new.self.refused (ap (λ (s : SentBytes). s.refused) c.note_close.ensures)
+      (λ refusal is. let both : Refused refusal ≡ Accepted c.in-Accepted.field-0 = sym is ∙ c.in-Accepted.is in cc both);
+}
+
+pub returns-in-Cut : goal.returns-in-Cut
+returns-in-Cut c = record {
+  same = (ap (λ (s : SentBytes). s.input) c.note_close.ensures, ap (λ (s : SentBytes). s.room) c.note_close.ensures);
+  close = λ role limits came judged. (c.has_close.result, c.has_close.ensures role limits came judged, ap (λ (s : SentBytes). s.close_line) c.note_close.ensures);
+  refused = none_noted c.args.self.now c.args.line.now c.args.verdict.now c.note_close.new.self.refused (ap (λ (s : SentBytes). s.refused) c.note_close.ensures)
+      (λ refusal is. let both : Refused refusal ≡ Cut c.in-Cut.field-0 = sym is ∙ c.in-Cut.is in cc both);
+}

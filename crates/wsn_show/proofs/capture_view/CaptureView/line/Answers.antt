@@ -104,7 +104,7 @@ returns-in-Bytes-clause-shown g c limits style lines entries has =
     (c.note.ensures lines entries c.args.line.now c.accept.new.bytes has.ends c.strip_cr-text.ensures)) in
     line_shown limits style c.args.self.now lines entries has c.accept.new.self c.note.new.self c.note-2.new.self c.args.line.now (Bytes c.in-Bytes.role (take c.in-Bytes.count c.accept.new.bytes)) taken c.show_bytes.new.self c.args.output.now c.show_bytes.new.output
     (c.show_bytes.ensures.accepted limits (lines ++ c.args.line.now ∷ []) (entries ++ entry ∷ []) taken)
-    (c.show_bytes.ensures.noted limits style (lines ++ c.args.line.now ∷ []) entries taken noted viewed) ended times shows
+    (c.show_bytes.ensures.noted limits style lines entries taken noted viewed) ended times shows
 
 pub returns-in-Bytes-clause-count : goal.returns-in-Bytes-clause-count
 returns-in-Bytes-clause-count g c = counted c.args.self.now.lines c.accept.new.self c.show_bytes.new.self.lines c.in_ok-entry.ensures.count c.show_bytes.ensures.count

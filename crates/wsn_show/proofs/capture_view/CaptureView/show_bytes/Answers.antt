@@ -6,6 +6,7 @@ use Rattle.wsn_rules.specs.Entries.Entry.{Bytes}
 use Rattle.wsn_rules.specs.Sides.{sent}
 use Rattle.wsn_capture.specs.CaptureLines.{HasAccepted, HasNotedCloses}
 use Rattle.wsn_print.specs.ShownParts.{Position}
+use Rattle.wsn_capture.proofs.AcceptedLines.{judged_push}
 use Rattle.wsn_show.specs.CaptureViews.{IsAcceptedText, CanShow, ShowsText}
 use Rattle.wsn_show.proofs.ShownEntries.{Takes, shows_client, shows_server, room_for_client, room_for_server}
 use Rattle.wsn_show.proofs.capture_view.CaptureView.show_bytes.Goals as goal
@@ -59,15 +60,15 @@ returns-in-Client-clause-noted g c limits style lines given has noted viewed =
     let old = c.args.self.now in
     let bytes = c.args.bytes.now in
     let came = c.take.ensures.viewed Client limits style (sent Client given) viewed.client in
-    let closed = c.has_close.ensures Client limits style (sent Client given ++ bytes) came in
-    subst (λ (r : Role). HasAccepted limits old.lines lines (given ++ Bytes r bytes ∷ []) → HasNotedCloses limits c.note.new.self (given ++ Bytes r bytes ∷ [])) (sym c.in-Client.is)
-    (λ accepted. c.note.ensures.noted limits lines given bytes accepted noted closed) has
+    let judged = judged_push Client limits given bytes c.verdict.result (c.verdict.ensures Client limits style (sent Client given ++ bytes) came) in
+    subst (λ (r : Role). HasAccepted limits old.lines (lines ++ c.args.line.now ∷ []) (given ++ Bytes r bytes ∷ []) → HasNotedCloses limits c.note.new.self (given ++ Bytes r bytes ∷ [])) (sym c.in-Client.is)
+    (λ accepted. c.note.ensures.noted limits lines given bytes accepted noted judged) has
 
 pub returns-in-Server-clause-noted : goal.returns-in-Server-clause-noted
 returns-in-Server-clause-noted g c limits style lines given has noted viewed =
     let old = c.args.self.now in
     let bytes = c.args.bytes.now in
     let came = c.take-in-Server.ensures.viewed Server limits style (sent Server given) viewed.server in
-    let closed = c.has_close-in-Server.ensures Server limits style (sent Server given ++ bytes) came in
-    subst (λ (r : Role). HasAccepted limits old.lines lines (given ++ Bytes r bytes ∷ []) → HasNotedCloses limits c.note-in-Server.new.self (given ++ Bytes r bytes ∷ [])) (sym c.in-Server.is)
-    (λ accepted. c.note-in-Server.ensures.noted limits lines given bytes accepted noted closed) has
+    let judged = judged_push Server limits given bytes c.verdict-in-Server.result (c.verdict-in-Server.ensures Server limits style (sent Server given ++ bytes) came) in
+    subst (λ (r : Role). HasAccepted limits old.lines (lines ++ c.args.line.now ∷ []) (given ++ Bytes r bytes ∷ []) → HasNotedCloses limits c.note-in-Server.new.self (given ++ Bytes r bytes ∷ [])) (sym c.in-Server.is)
+    (λ accepted. c.note-in-Server.ensures.noted limits lines given bytes accepted noted judged) has
