@@ -6,6 +6,7 @@ use Rattle.wsn_rules.specs.declared.verdict.Refusal.{Refusal}
 use Rattle.wsn_rules.specs.declared.verdict.Verdict.TheVariants.{Refused}
 use Rattle.wsn_rules.specs.declared.report.Side.{Side}
 use Rattle.wsn_rules.specs.declared.report.Side.TheVariants as sides
+use Rattle.wsn_capture.specs.declared.refused_line.RefusedLines.{RefusedLines}
 use Rattle.wsn_command.specs.declared.job.Job.{Job}
 use Rattle.wsn_command.specs.declared.job.Job.TheVariants.{Closing, Show}
 use Rattle.wsn_command.specs.declared.answered.Answer.{Answer}
@@ -34,6 +35,11 @@ refused_sides side (Report read) =
 refused_sides (Some Client) (Verdict (Refused refusal)) = record { client = Some refusal; server = None }
 refused_sides (Some Server) (Verdict (Refused refusal)) = record { client = None; server = Some refusal }
 refused_sides side answer = none_refused
+
+-- the lines with the offending bytes of the sides, which a report has
+abbrev pub refused_lines : Answer → RefusedLines
+refused_lines (Report read) = read.refused
+refused_lines answer = record { client = None; server = None }
 
 -- Where no side is refused, the hint may be that the handshake's answer is wrong.
 abbrev pub IsHandshakeHint : List ℕ → RefusedSides → Option Hint → Type 0
@@ -67,7 +73,7 @@ IsReportHint job text refused answer result = result ≡ None
 -- The hint on a capture whose lines are accepted: on its sides, or on the report.
 abbrev pub IsLinesHint : {A : Type 0} → Job A → Option Role → List ℕ → Answer → Option Hint → Type 0
 IsLinesHint job side text answer result =
-    (of_sides : Option Hint) × IsSidesHint (job_limits job) text (refused_sides side answer) of_sides
+    (of_sides : Option Hint) × IsSidesHint (job_limits job) text (refused_sides side answer) (refused_lines answer) of_sides
     × IsOrElse of_sides (IsReportHint job text (refused_sides side answer) answer) result
 
 -- The hint on a capture, by the answer: what a file with a malformed line looks like by its first 16 bytes; none after

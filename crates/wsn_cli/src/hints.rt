@@ -5,14 +5,14 @@ ghost use Rattle.wsn_command.specs.declared.answered.Answer.TheVariants.{FaultyL
 ghost use Rattle.wsn_hint.specs.Hints.{Fits};
 ghost use Rattle.wsn_command.specs.Jobs.{job_role};
 ghost use Rattle.wsn_cli.specs.Requests.{job_format, job_limits};
-ghost use Rattle.wsn_cli.specs.RunHints.{IsCaptureHint, IsCloseHint, IsHandshakeHint, IsLinesHint, IsReportHint, refused_side, refused_sides};
+ghost use Rattle.wsn_cli.specs.RunHints.{IsCaptureHint, IsCloseHint, IsHandshakeHint, IsLinesHint, IsReportHint, refused_lines, refused_side, refused_sides};
 
 use crate::compared_hint::ComparedHint;
 use std::alloc::Allocator;
 use wsn_command::{Answer, Comparison, Job};
 use wsn_hint::{
-    Hint, RefusedSides, accusing_hint_of, after_close_hint_of, capture_hint_of, handshake_hint_of,
-    hint_of, sides_hint_of,
+    Hint, RefusedLines, RefusedSides, accusing_hint_of, after_close_hint_of, capture_hint_of,
+    handshake_hint_of, hint_of, sides_hint_of,
 };
 use wsn_print::Format;
 use wsn_rules::{Limits, Refusal, Side, Verdict};
@@ -92,7 +92,7 @@ fn hint_on_lines<A: Allocator>(
     ensures { IsLinesHint job.now side first.now answer result }
 {
     let refused = refused_sides(side, answer);
-    match sides_hint_of(first, refused, limits_of(job)) {
+    match sides_hint_of(first, refused, refused_lines(answer), limits_of(job)) {
         Some(hint) => Some(hint),
         None => report_hint(job, first, refused, answer),
     }
@@ -162,6 +162,19 @@ fn refused_sides(side: Option<Role>, answer: Answer) -> RefusedSides
             server: Some(refusal),
         },
         _ => RefusedSides {
+            client: None,
+            server: None,
+        },
+    }
+}
+
+/// The lines of a capture with the offending bytes of its sides, by the answer: a report has them.
+fn refused_lines(answer: Answer) -> RefusedLines
+    ensures { result ≡ refused_lines answer }
+{
+    match answer {
+        Answer::Report(read) => read.refused,
+        _ => RefusedLines {
             client: None,
             server: None,
         },

@@ -4,8 +4,8 @@ use std::alloc::Global;
 use std::io::Read;
 use std::process::Abort;
 use wsn_cli::{
-    Answer, CaptureStart, ComparedHint, Comparison, Format, Hint, Job, RefusedSides, Without,
-    capture_hint_of, hint_of, hint_on_run, hint_on_sides, hint_on_streams, plan_hint_of,
+    Answer, CaptureStart, ComparedHint, Comparison, Format, Hint, Job, RefusedLines, RefusedSides,
+    Without, capture_hint_of, hint_of, hint_on_run, hint_on_sides, hint_on_streams, plan_hint_of,
     sides_hint_of,
 };
 use wsn_print::{Style, ViewLimit};
@@ -252,9 +252,16 @@ fn an_empty_stream_has_a_hint_and_so_has_an_empty_capture(rt: HostRuntime) {
         server: None,
     };
     let greatest = limits(&rt, MESSAGE_MAX);
-    assert_eq!(rt; sides_hint_of(&[], none, greatest), Some(Hint::Empty));
+    let lines = RefusedLines {
+        client: None,
+        server: None,
+    };
     assert_eq!(rt;
-        sides_hint_of("# no bytes\nC.\nS.\n".as_bytes(), none, greatest),
+        sides_hint_of(&[], none, lines, greatest),
+        Some(Hint::Empty)
+    );
+    assert_eq!(rt;
+        sides_hint_of("# no bytes\nC.\nS.\n".as_bytes(), none, lines, greatest),
         None
     );
 }

@@ -1,7 +1,7 @@
 //! Hints on captures whose lines are accepted: on refused sides, on a wrong handshake, on bytes after a Close.
 
 use std::process::Abort;
-use wsn_capture::{CaptureReport, RefusedLines, Tails};
+use wsn_capture::{CaptureReport, RefusedLines, Tails, read_capture};
 use wsn_cli::{
     Answer, Format, Hint, Job, RefusedSides, after_close_hint_of, handshake_hint_of, hint_on_run,
     sides_hint_of,
@@ -10,7 +10,7 @@ use wsn_print::{Style, ViewLimit};
 use wsn_rules::{
     Detail, INPUT_MAX, Limits, MESSAGE_MAX, Outcome, Refusal, Report, Side, Summary, Verdict,
 };
-use wsn_wire::{Reason, Role};
+use wsn_wire::{Input, Reason, Role};
 
 fn limits(rt: &impl Abort) -> Limits {
     Limits::new(MESSAGE_MAX, INPUT_MAX).expect(rt, "limits in range")
@@ -23,6 +23,12 @@ type Row = (
     Option<(u64, Reason)>,
     Option<Hint>,
 );
+
+/// No line is known that has an offending byte.
+const NO_LINES: RefusedLines = RefusedLines {
+    client: None,
+    server: None,
+};
 
 /// A side that is refused for reserved bits in its first byte.
 const BITS: Option<(u64, Reason)> = Some((0, Reason::ReservedBits));
@@ -246,7 +252,7 @@ fn a_refused_side_is_compressed_exchanged_unmasked_or_no_utf8(rt: HostRuntime) {
             server: refusal_of(row.2),
         };
         assert_eq!(rt;
-            sides_hint_of(row.0.as_bytes(), refused, limits(&rt)),
+            sides_hint_of(row.0.as_bytes(), refused, NO_LINES, limits(&rt)),
             row.3,
             "{}",
             row.0
@@ -269,18 +275,64 @@ fn a_side_that_is_refused_late_has_a_hint_too(rt: HostRuntime) {
     let agreed = "# extensions: permessage-deflate\nS 8900\n".as_bytes();
     let known = "# answer: HTTP/1.1 101 Switching Protocols\nS 8900\n".as_bytes();
     assert_eq!(rt;
-        sides_hint_of(plain, late(Reason::TextBad), limits(&rt)),
+        sides_hint_of(plain, late(Reason::TextBad), NO_LINES, limits(&rt)),
         Some(Hint::NotUtf8)
     );
     assert_eq!(rt;
-        sides_hint_of(agreed, late(Reason::ReservedBits), limits(&rt)),
+        sides_hint_of(agreed, late(Reason::ReservedBits), NO_LINES, limits(&rt)),
         Some(Hint::Compressed)
     );
     for text in [plain, known] {
         assert_eq!(rt;
-            sides_hint_of(text, late(Reason::ReservedBits), limits(&rt)),
+            sides_hint_of(text, late(Reason::ReservedBits), NO_LINES, limits(&rt)),
             None
         );
+    }
+}
+
+/// The last line of a long capture, and its hint by the answer: what comes before the line is beyond the first bytes.
+static LATE: [(&str, Option<Hint>); 8] = [
+    ("C 81859c01020348656c6c6f\n", Some(Hint::NeverMasked)),
+    (
+        "C 8180000000008188a10203044465204e20c3a9c3",
+        Some(Hint::NotUtf8),
+    ),
+    ("C 818200000000e963\n", Some(Hint::NotUtf8)),
+    ("C 81829c010203e963\n", Some(Hint::NotUtf8)),
+    (
+        "C 8180000000008185a1020304446520c3c3\n",
+        Some(Hint::NotUtf8),
+    ),
+    (
+        "C 818000000000c187912ec62e63660be75829c6\n",
+        Some(Hint::MaybeCompressed),
+    ),
+    ("C a187912ec62e63660be75829c6\n", None),
+    (
+        "C 89809c0102038185\nC 9c01020348656c6c6f\n",
+        Some(Hint::NotUtf8),
+    ),
+];
+
+/// The refusal is beyond the first bytes; the answer has the line with the offending byte.
+#[test]
+fn a_side_that_is_refused_late_is_judged_by_its_line(rt: HostRuntime) {
+    let closing: Job = Job::Closing(limits(&rt), Format::Text);
+    for row in LATE.iter() {
+        let mut text = Vec::new(rt.alloc());
+        for _ in 0..4_000 {
+            text.extend_from_slice("C 8185000000004848484848\n".as_bytes())
+                .expect(&rt, "memory");
+        }
+        text.extend_from_slice(row.0.as_bytes())
+            .expect(&rt, "memory");
+        let read = read_capture(&mut Input::lent(text.as_slice()), limits(&rt)).expect(
+            &rt,
+            "accepted lines",
+        );
+        let first = &text.as_slice()[..65_536];
+        let hint = hint_on_run(&closing, None, first, Answer::Report(read));
+        assert_eq!(rt; hint, row.1, "{}", row.0);
     }
 }
 
@@ -316,14 +368,10 @@ fn report_with(client: Side, server: Side, tails: Tails) -> Answer {
         server_sees: None,
         outcome: Outcome::Live,
     };
-    let refused = RefusedLines {
-        client: None,
-        server: None,
-    };
     Answer::Report(CaptureReport {
         report,
         tails,
-        refused,
+        refused: NO_LINES,
     })
 }
 

@@ -1,13 +1,15 @@
 -- Which hint a refused side has, by its reason, its offending byte and the comments.
 use Rattle.std.proofs.Common.{◌≡◌, ◌≢◌, ◌+◌, ◌↔◌, IfSome, IsTrue, is_some, ℕ, true, false, List, [], ◌∷◌, Option, None, Some, inl, inr, refl, sym, subst}
+use Rattle.wsn_wire.specs.declared.endpoint.Role.{Role}
 use Rattle.wsn_wire.specs.declared.refusal.Reason.{Reason}
 use Rattle.wsn_wire.specs.declared.refusal.Reason.TheVariants.{ReservedBits, TextBad}
+use Rattle.wsn_capture.specs.declared.refused_line.RefusedLine.{RefusedLine}
 use Rattle.wsn_hint.specs.declared.hint.Hint.{Hint}
 use Rattle.wsn_hint.specs.declared.hint.Hint.TheVariants.{Compressed, NeverMasked, NotUtf8}
 use Rattle.wsn_hint.specs.declared.comments.Said.TheVariants.{Compression}
 use Rattle.wsn_hint.specs.Comments.{IsSaid}
 use Rattle.wsn_hint.specs.Hints.{IsDataHead, IsFirstFit}
-use Rattle.wsn_hint.specs.SideHints.{FitsSide, IsCompressedHead, IsCompressedHint, side_hints}
+use Rattle.wsn_hint.specs.SideHints.{FitsSide, IsCompressedHead, IsCompressedHint, IsOffendingByte, side_hints}
 
 reserved_not_text : ReservedBits ≡ TextBad → ⊥
 reserved_not_text is = cc is
@@ -61,3 +63,16 @@ module _ (text : List ℕ) where
   pub other_reason : (reason : Reason) (byte : Option ℕ) → (reason ≡ ReservedBits → ⊥) → (reason ≡ TextBad → ⊥) → IsFirstFit (FitsSide text reason byte false) side_hints None
   other_reason reason byte not_bits not_text =
       inr (λ fits. not_bits fits.0, inr (λ fits. not_bits fits.0, inr (λ fits. not_bits fits.0, inr (λ fits. not_text fits.0, inr (λ fits. not_text fits, refl)))))
+
+-- ---- a text that isn't UTF-8, and other reasons
+
+-- the offending byte, if its line is known
+pub some_byte : (role : Role) (text : List ℕ) (line : Option RefusedLine) (place : ℕ) → (byte : Option ℕ) × IsOffendingByte role text line place byte
+some_byte role text (Some line) place = (Some line.byte, refl)
+some_byte role text None place = (None, tt)
+
+pub unmasked_fits : (text : List ℕ) (byte : Option ℕ) → IsFirstFit (FitsSide text TextBad byte true) side_hints (Some NeverMasked)
+unmasked_fits text byte = inr ((λ fits. cc (fits.0)), inr ((λ fits. cc (fits.0)), inr ((λ fits. cc (fits.0)), inl ((refl, refl), refl))))
+
+pub no_utf8_fits : (text : List ℕ) (byte : Option ℕ) → IsFirstFit (FitsSide text TextBad byte false) side_hints (Some NotUtf8)
+no_utf8_fits text byte = inr ((λ fits. cc (fits.0)), inr ((λ fits. cc (fits.0)), inr ((λ fits. cc (fits.0)), inr ((λ fits. cc (fits.1)), inl (refl, refl)))))

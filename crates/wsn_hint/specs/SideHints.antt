@@ -1,6 +1,6 @@
 -- Which hint the sides of a capture have that begins with the text, where it is known why each side that was read is
--- refused.
-use Rattle.std.specs.Prelude.{◌≡◌, ◌≢◌, ◌+◌, ◌<◌, ◌≤◌, ◌⊎◌, ℕ, Bool, IsTrue, Option, None, Some, IfSome, IsSome, List, [], ◌∷◌, ◌++◌, length, drop}
+-- refused, and, where both were, in which lines the offending bytes are.
+use Rattle.std.specs.Prelude.{◌≡◌, ◌≢◌, ◌+◌, ◌-◌, ◌<◌, ◌≤◌, ◌⊎◌, ℕ, Bool, IsTrue, Option, None, Some, IfSome, IsSome, List, [], ◌∷◌, ◌++◌, length, drop}
 use Rattle.std.specs.List.{AllByRecursion}
 use Rattle.wsn_wire.specs.declared.endpoint.Role.{Role}
 use Rattle.wsn_wire.specs.declared.endpoint.Role.TheVariants.{Client, Server}
@@ -14,6 +14,9 @@ use Rattle.wsn_rules.specs.Lawful.{IsLawful}
 use Rattle.wsn_rules.specs.Heads.{BeginsWithHead}
 use Rattle.wsn_rules.specs.BadCharacter.{payload_offset}
 use Rattle.wsn_capture.specs.declared.tails.Tails.{Tails}
+use Rattle.wsn_capture.specs.declared.refused_line.RefusedLine.{RefusedLine}
+use Rattle.wsn_capture.specs.declared.refused_line.RefusedLines.{RefusedLines}
+use Rattle.wsn_capture.specs.RefusedLines.{kept_bytes}
 use Rattle.wsn_capture.specs.SideTexts.{sent_in}
 use Rattle.wsn_hint.specs.Hints.{IsDataHead, IsFirstFit, IsTextByte}
 use Rattle.wsn_hint.specs.Comments.{IsSaid}
@@ -60,8 +63,24 @@ pub record IsSentAsText (role : Role) (limits : Limits) (sent : List ℕ) (place
 abbrev pub IsCompressedHead : ℕ → Type 0
 IsCompressedHead byte = (plain : ℕ) × (byte ≡ plain + 0x40) × IsDataHead plain
 
--- The hint fits a side that is refused for this reason. The offending byte is known if it is within the text, and
--- `as_text` says whether the payload is known to be a text as it was sent.
+-- The offending byte of a side: in its line if that is known, otherwise, if it is known, by the text's lines.
+abbrev pub IsOffendingByte : Role → List ℕ → Option RefusedLine → ℕ → Option ℕ → Type 0
+IsOffendingByte role text (Some line) place byte = byte ≡ Some line.byte
+IsOffendingByte role text None place byte = IfSome byte (IsSentAt role text place)
+
+-- The same of the first bytes of the line with the offending byte, read as a stream of their own, as if a message began
+-- with the line.
+abbrev pub IsLineAsText : Role → Limits → Option RefusedLine → ℕ → Type 0
+IsLineAsText role limits (Some line) place =
+    (line.start ≤ place) × IsSentAsText role limits (kept_bytes line) (place - line.start)
+IsLineAsText role limits None place = ⊥
+
+-- The payload of the frame with the offending byte is a text as it was sent, by the text's lines or by the byte's line.
+abbrev pub IsTextAsSent : Role → Limits → List ℕ → Option RefusedLine → ℕ → Type 0
+IsTextAsSent role limits text line place =
+    IsSentAsText role limits (sent_in role text) place ⊎ IsLineAsText role limits line place
+
+-- The hint fits a side that is refused for this reason. The offending byte is known, or may not be, and `as_text` says whether the payload is known to be a text as it was sent.
 abbrev pub FitsSide : List ℕ → Reason → Option ℕ → Bool → Hint → Type 0
 FitsSide text reason byte as_text Compressed =
     (reason ≡ ReservedBits) × IfSome byte IsCompressedHead × IsSaid Compression text
@@ -87,11 +106,11 @@ abbrev pub side_hints : List Hint
 side_hints = Compressed ∷ NotAgreed ∷ MaybeCompressed ∷ NeverMasked ∷ NotUtf8 ∷ []
 
 -- A side that is refused has the first hint that fits, or none if none does; any other side has none.
-abbrev pub IsSideHint : Role → Limits → List ℕ → Option Refusal → Option Hint → Type 0
-IsSideHint role limits text None result = result ≡ None
-IsSideHint role limits text (Some refusal) result = (byte : Option ℕ) × (as_text : Bool)
-    × IfSome byte (IsSentAt role text refusal.place)
-    × (IsTrue as_text → IsSentAsText role limits (sent_in role text) refusal.place)
+abbrev pub IsSideHint : Role → Limits → List ℕ → Option RefusedLine → Option Refusal → Option Hint → Type 0
+IsSideHint role limits text line None result = result ≡ None
+IsSideHint role limits text line (Some refusal) result = (byte : Option ℕ) × (as_text : Bool)
+    × IsOffendingByte role text line refusal.place byte
+    × (IsTrue as_text → IsTextAsSent role limits text line refusal.place)
     × IsFirstFit (FitsSide text refusal.reason byte as_text) side_hints result
 
 -- ---- both sides
@@ -106,9 +125,10 @@ IsLikelier client server result =
     (IsWeak client × IsSome server × (result ≡ server)) ⊎ (¬ (IsWeak client × IsSome server) × (result ≡ client))
 
 -- The likelier hint of both sides.
-abbrev pub IsLikelierHint : Limits → List ℕ → RefusedSides → Option Hint → Type 0
-IsLikelierHint limits text refused result = (client : Option Hint) × (server : Option Hint)
-    × IsSideHint Client limits text refused.client client × IsSideHint Server limits text refused.server server
+abbrev pub IsLikelierHint : Limits → List ℕ → RefusedSides → RefusedLines → Option Hint → Type 0
+IsLikelierHint limits text refused lines result = (client : Option Hint) × (server : Option Hint)
+    × IsSideHint Client limits text lines.client refused.client client
+    × IsSideHint Server limits text lines.server refused.server server
     × IsLikelier client server result
 
 -- The first frame is refused for its masking, which is that of the other endpoint's frames (RFC 6455 section 5.1).
@@ -140,11 +160,11 @@ AreRefusedForMasks client server = ⊥
 
 -- The hint for an empty text; that the sides are exchanged; or the likelier of both sides' hints. Sides that are both
 -- refused for the other's masking are always said to be exchanged.
-abbrev pub IsSidesHint : Limits → List ℕ → RefusedSides → Option Hint → Type 0
-IsSidesHint limits text refused result =
+abbrev pub IsSidesHint : Limits → List ℕ → RefusedSides → RefusedLines → Option Hint → Type 0
+IsSidesHint limits text refused lines result =
     ((text ≡ []) × (result ≡ Some Empty))
     ⊎ ((text ≢ []) × AreExchanged text refused × (result ≡ Some Exchanged))
-    ⊎ ((text ≢ []) × ¬ AreRefusedForMasks refused.client refused.server × IsLikelierHint limits text refused result)
+    ⊎ ((text ≢ []) × ¬ AreRefusedForMasks refused.client refused.server × IsLikelierHint limits text refused lines result)
 
 -- ---- a report on sides that aren't refused
 

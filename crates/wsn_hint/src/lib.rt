@@ -32,3 +32,4 @@ pub use plans::plan_hint_of;
 pub use refused_sides::RefusedSides;
 pub use sides::{after_close_hint_of, handshake_hint_of, sides_hint_of};
 pub use streams::hint_of;
+pub use wsn_capture::RefusedLines;

@@ -3,11 +3,11 @@ ghost use Rattle.std.specs.Io.KnownBytes.{Consumes};
 ghost use Rattle.wsn_wire.specs.Frame.{IsKey};
 ghost use Rattle.wsn_rules.specs.BadCharacter.{payload_offset};
 ghost use Rattle.wsn_capture.specs.SideTexts.{sent_in};
-ghost use Rattle.wsn_hint.specs.SideHints.{BeginsInAscii, HasHead, IsSentAsText};
+ghost use Rattle.wsn_hint.specs.SideHints.{BeginsInAscii, HasHead, IsLineAsText, IsSentAsText};
 
 use crate::streams::is_text;
 use std::io::Read;
-use wsn_capture::SideReader;
+use wsn_capture::{RefusedLine, SideReader};
 use wsn_rules::{HeadInfo, Limits};
 use wsn_scan::{FrameReader, Part};
 use wsn_wire::{Form, Input, Role};
@@ -20,29 +20,69 @@ const CHUNK: usize = 512;
 pub fn is_sent_as_text(first: &[u8], role: Role, limits: Limits, place: u64) -> bool
     ensures { result ≡ true → IsSentAsText role limits (sent_in role first.now) place }
 {
-    let Some((head, start)) = head_before(first, role, limits, place) else {
+    reads_as_text(
+        &mut Input::new(SideReader::new(first, role)),
+        &mut Input::new(SideReader::new(first, role)),
+        role,
+        limits,
+        place,
+    )
+}
+
+/// The same of a line with this offset, as far as its bytes are kept, if its first byte is the first of a message.
+pub fn is_line_as_text(line: &RefusedLine, role: Role, limits: Limits, place: u64) -> bool
+    ensures { result ≡ true → IsLineAsText role limits (Some line.now) place }
+{
+    place >= line.start
+        && reads_as_text(
+            &mut Input::lent(line.bytes()),
+            &mut Input::lent(line.bytes()),
+            role,
+            limits,
+            place - line.start,
+        )
+}
+
+/// Whether this is so of the stream that both inputs have left.
+fn reads_as_text<R: Read>(
+    heads: &mut Input<R>,
+    text: &mut Input<R>,
+    role: Role,
+    limits: Limits,
+    place: u64,
+) -> bool
+    requires { heads.old.failed ≡ false }
+    ensures { result ≡ true → (sent : List ℕ) → heads.old.remaining ≡ Some sent → text.old.remaining ≡ Some sent →
+        IsSentAsText role limits sent place }
+{
+    let Some((head, start)) = head_before(heads, role, limits, place) else {
         return false;
     };
     match head.key {
         Some(key) if key != [0; 4] => {
-            let len = text_len(first, role, start, head.len);
+            let len = text_len(text, start, head.len);
             start <= place && place - start < len
         }
         _ => false,
     }
 }
 
-/// The head of the frame that isn't whole and has this offset in its payload, by the lines of these bytes, and the offset
-/// at which its payload begins.
-fn head_before(first: &[u8], role: Role, limits: Limits, place: u64) -> Option<(HeadInfo, u64)>
-    ensures head { IfSome result (λ found. HasHead role limits (sent_in role first.now) found.0) }
-    ensures start { IfSome result (λ found. found.1 ≡ payload_offset found.0) }
+/// The head of the frame that isn't whole and has this offset in its payload, and the offset at which its payload begins.
+fn head_before<R: Read>(
+    side: &mut Input<R>,
+    role: Role,
+    limits: Limits,
+    place: u64,
+) -> Option<(HeadInfo, u64)>
+    requires { side.old.failed ≡ false }
+    ensures head { IfSome result (λ found. (sent : List ℕ) → side.old.remaining ≡ Some sent →
+        HasHead role limits sent found.0) }
+    ensures start { IfSome result (λ found. IfSome found.0.key IsKey → found.1 ≡ payload_offset found.0) }
 {
-    let mut side = Input::new(SideReader::new(first, role));
     let mut reader = FrameReader::new(role, limits);
     let mut part = Part::new();
     loop {
-        match reader.next(&mut side, &mut part) {
+        match reader.next(side, &mut part) {
             Ok(None) => {
                 if let Some(start) = start_before(&part, place) {
                     return Some((part.head, start));
@@ -81,16 +121,15 @@ fn payload_start(head: &HeadInfo) -> Option<u64>
     head.place.checked_add(2 + length + key)
 }
 
-/// The number of bytes, at most this many, that the endpoint sent from this offset on, by the lines of these bytes, if all
-/// of them are of a text in ASCII; otherwise 0.
-fn text_len(first: &[u8], role: Role, start: u64, most: u64) -> u64
-    ensures { BeginsInAscii most result (drop start (sent_in role first.now)) }
+/// The number of bytes, at most this many, that the input has left from this offset on, if all of them are of a text in
+/// ASCII; otherwise 0.
+fn text_len<R: Read>(side: &mut Input<R>, start: u64, most: u64) -> u64
+    ensures { (sent : List ℕ) → side.old.remaining ≡ Some sent → BeginsInAscii most result (drop start sent) }
 {
-    let mut side = Input::new(SideReader::new(first, role));
-    if !skip(&mut side, start) {
+    if !skip(side, start) {
         return 0;
     }
-    match read_text(&mut side, most) {
+    match read_text(side, most) {
         Some(len) => len,
         None => 0,
     }

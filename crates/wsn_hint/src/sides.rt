@@ -2,14 +2,14 @@ ghost use Rattle.std.specs.Prelude.{◌≡◌, ◌↔◌, ◌≢◌, [], ◌∷�
 ghost use Rattle.wsn_wire.specs.declared.refusal.Reason.TheVariants.{ReservedBits};
 ghost use Rattle.wsn_hint.specs.declared.hint.Hint.TheVariants.{WrongHandshake};
 ghost use Rattle.wsn_hint.specs.Hints.{IsFirstFit};
-ghost use Rattle.wsn_hint.specs.SideHints.{AreExchanged, AreRefusedForMasks, FitsHandshake, FitsSide, FitsTail, HasOthersMask, IsCompressedHead, IsCompressedHint, IsForMask, IsOthersMask, IsSentAt, IsLikelier, IsSideHint, IsSidesHint, IsWeak, side_hints, tail_hints};
+ghost use Rattle.wsn_hint.specs.SideHints.{AreExchanged, AreRefusedForMasks, FitsHandshake, FitsSide, FitsTail, HasOthersMask, IsCompressedHead, IsCompressedHint, IsForMask, IsLikelier, IsOffendingByte, IsOthersMask, IsSentAt, IsSideHint, IsSidesHint, IsTextAsSent, IsWeak, side_hints, tail_hints};
 
 use crate::comments::{Said, is_said};
 use crate::hint::Hint;
 use crate::refused_sides::RefusedSides;
-use crate::sent_text::is_sent_as_text;
+use crate::sent_text::{is_line_as_text, is_sent_as_text};
 use crate::streams::without_compression;
-use wsn_capture::{SideReader, Tails};
+use wsn_capture::{RefusedLine, RefusedLines, SideReader, Tails};
 use wsn_rules::{Limits, Refusal};
 use wsn_wire::{Input, Reason, Role};
 
@@ -20,10 +20,16 @@ const CHUNK: usize = 512;
 /// are accepted, and of which these sides are refused.
 ///
 /// `None` unless the capture is empty or one of the sides is refused: then the first hint of `side_hints`
-/// (specs/SideHints.antt) that fits a refused side, or that the sides are exchanged. The offending byte is looked at if
-/// it is within these bytes, with the payload of its frame if that is a text, and comments are.
-pub fn sides_hint_of(first: &[u8], refused: RefusedSides, limits: Limits) -> Option<Hint>
-    ensures { IsSidesHint limits first.now refused result }
+/// (specs/SideHints.antt) that fits a refused side, or that the sides are exchanged. The offending byte is looked at, with
+/// the payload of its frame if that is a text, if the line with it is given in `lines` or it is within these bytes, and
+/// comments are.
+pub fn sides_hint_of(
+    first: &[u8],
+    refused: RefusedSides,
+    lines: RefusedLines,
+    limits: Limits,
+) -> Option<Hint>
+    ensures { IsSidesHint limits first.now refused lines result }
 {
     if first.is_empty() {
         return Some(Hint::Empty);
@@ -31,8 +37,8 @@ pub fn sides_hint_of(first: &[u8], refused: RefusedSides, limits: Limits) -> Opt
     if are_exchanged(first, refused) {
         return Some(Hint::Exchanged);
     }
-    let client = side_hint(first, Role::Client, limits, refused.client);
-    let server = side_hint(first, Role::Server, limits, refused.server);
+    let client = side_hint(first, Role::Client, limits, lines.client, refused.client);
+    let server = side_hint(first, Role::Server, limits, lines.server, refused.server);
     likelier(client, server)
 }
 
@@ -126,19 +132,55 @@ fn is_others_mask(byte: u8, role: Role) -> bool
 }
 
 /// The hint for the side of one endpoint, if it is refused.
-fn side_hint(first: &[u8], role: Role, limits: Limits, refusal: Option<Refusal>) -> Option<Hint>
-    ensures { IsSideHint role limits first.now refusal result }
+fn side_hint(
+    first: &[u8],
+    role: Role,
+    limits: Limits,
+    line: Option<RefusedLine>,
+    refusal: Option<Refusal>,
+) -> Option<Hint>
+    ensures { IsSideHint role limits first.now line refusal result }
 {
     let Some(refusal) = refusal else {
         return None;
     };
     match refusal.reason {
-        Reason::ReservedBits => bits_hint(first, byte_at(first, role, refusal.place)),
-        Reason::TextBad if is_sent_as_text(first, role, limits, refusal.place) => {
+        Reason::ReservedBits => {
+            bits_hint(first, offending_byte(first, role, line, refusal.place))
+        }
+        Reason::TextBad if is_text_as_sent(first, role, limits, line, refusal.place) => {
             Some(Hint::NeverMasked)
         }
         Reason::TextBad => Some(Hint::NotUtf8),
         _ => None,
+    }
+}
+
+/// The offending byte of a side, which has this offset: in its line if that is given, otherwise by the lines of the first
+/// bytes.
+fn offending_byte(first: &[u8], role: Role, line: Option<RefusedLine>, place: u64) -> Option<u8>
+    ensures { IsOffendingByte role first.now line place result }
+{
+    match line {
+        Some(line) => Some(line.byte),
+        None => byte_at(first, role, place),
+    }
+}
+
+/// Whether the frame with the offending byte, which has this offset, was perhaps never masked, by its line or by the lines
+/// of the first bytes.
+fn is_text_as_sent(
+    first: &[u8],
+    role: Role,
+    limits: Limits,
+    line: Option<RefusedLine>,
+    place: u64,
+) -> bool
+    ensures { result ≡ true → IsTextAsSent role limits first.now line place }
+{
+    match line {
+        Some(line) if is_line_as_text(&line, role, limits, place) => true,
+        _ => is_sent_as_text(first, role, limits, place),
     }
 }
 
