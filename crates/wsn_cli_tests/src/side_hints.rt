@@ -330,7 +330,7 @@ fn a_side_that_is_refused_late_is_judged_by_its_line(rt: HostRuntime) {
             &rt,
             "accepted lines",
         );
-        let first = &text.as_slice()[..65_536];
+        let first = text.as_slice().get(..65_536).expect(&rt, "a long capture");
         let hint = hint_on_run(&closing, None, first, Answer::Report(read));
         assert_eq!(rt; hint, row.1, "{}", row.0);
     }

@@ -108,14 +108,14 @@ pub fn with_json<'a>(alloc: Global, command: Command<'a>) -> Result<Command<'a>,
 /// Adds `--color` to a command that may print JSON, which has no colours.
 pub fn with_color<'a>(alloc: Global, command: Command<'a>) -> Result<Command<'a>, AllocError> {
     let help =
-        "Colour all but JSON: auto (on a terminal that has\ncolours, unless NO_COLOR is set), always, never\n[default: auto]";
+        "Colour all but JSON: auto (on a terminal with\ncolours, unless NO_COLOR is set), always, never\n[default: auto]";
     command.arg(color(alloc, help))
 }
 
 /// Adds `--color` to a command that prints an explanation.
 pub fn with_text_color<'a>(alloc: Global, command: Command<'a>) -> Result<Command<'a>, AllocError> {
     let help =
-        "Print in colours: auto (on a terminal that has\ncolours, unless NO_COLOR is set), always, never\n[default: auto]";
+        "Print in colours: auto (on a terminal with\ncolours, unless NO_COLOR is set), always, never\n[default: auto]";
     command.arg(color(alloc, help))
 }
 
