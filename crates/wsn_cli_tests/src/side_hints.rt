@@ -298,7 +298,7 @@ static LATE: [(&str, Option<Hint>); 8] = [
         Some(Hint::NotUtf8),
     ),
     ("C 818200000000e963\n", Some(Hint::NotUtf8)),
-    ("C 81829c010203e963\n", Some(Hint::NotUtf8)),
+    ("C 81839c010203d5e861\n", Some(Hint::NotUtf8)),
     (
         "C 8180000000008185a1020304446520c3c3\n",
         Some(Hint::NotUtf8),
