@@ -110,6 +110,7 @@ impl CaptureLines {
     /// Notes what the line that was accepted last changes of the endpoint whose bytes it has, given the verdict on the
     /// endpoint's stream: whether it has a Close now, or is refused.
     #[tactic(none)]
+    #[inline(always)]
     pub fn note(&mut self, role: Role, line: &[u8], verdict: &Verdict)
         ensures noted { (limits : Limits) (lines : List (List ℕ)) (given : List Entry) (bytes : List ℕ) →
             HasAccepted limits self.old (lines ++ line.now ∷ []) (given ++ Bytes role bytes ∷ []) →
@@ -202,6 +203,7 @@ impl SentBytes {
     /// Notes the line with this number, given the verdict on its stream, if its Close ends in it, or its offending byte
     /// came in it, and no such line is noted yet.
     #[tactic(none)]
+    #[inline(always)]
     fn note(&mut self, number: u32, line: &[u8], verdict: &Verdict)
         ensures same { (self.new.input ≡ self.old.input) × (self.new.room ≡ self.old.room) }
         ensures close { (role : Role) (limits : Limits) (came : List ℕ) →
@@ -220,6 +222,7 @@ impl SentBytes {
 
     /// Notes the line in which its Close ends, if it has one and no line is noted yet.
     #[tactic(none)]
+    #[inline(always)]
     fn note_close(&mut self, line: u32, closed: bool)
         ensures { self.new ≡ record self.old { close_line = noted_line self.old.close_line line closed } }
     {
@@ -242,6 +245,7 @@ impl SentBytes {
 
 /// Whether the stream has a Close, given the verdict on it.
 #[tactic(none)]
+#[inline(always)]
 fn has_close(verdict: &Verdict) -> bool
     ensures { (role : Role) (limits : Limits) (came : List ℕ) →
         (fs : List Frame) × IsVerdict role limits came fs verdict.now → IsClosedBy role limits came result }

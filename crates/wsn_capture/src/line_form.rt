@@ -50,6 +50,7 @@ pub fn strip_cr(line: &[u8]) -> &[u8]
 /// What a line without its CR gives; its bytes are then at the start of `bytes`. The error is the first of the faults that
 /// the line has by itself, `BadForm` or `BadHex`. The contents of the other bytes, and of all after an error, are
 /// unspecified.
+#[inline(always)]
 pub(crate) fn entry_of(text: &[u8], bytes: &mut [u8; BYTES_MAX]) -> Result<LineEntry, LineFault>
     requires { length text.now ≤ LINE_MAX }
     ensures { MatchResult result

@@ -72,6 +72,7 @@ fn first_of(bytes: &[u8]) -> [u8; KEPT]
 
 /// What is kept of a line with bytes, the last of which ends the first `end` bytes of its stream. `None` if the byte at
 /// `place` isn't one of them.
+#[inline(never)]
 pub(crate) fn kept_line(line: &[u8], end: u64, place: u64) -> Option<RefusedLine>
     ensures { (role : Role) (bytes : List ℕ) → length (without_cr line.now) ≤ line_most →
         text_entry (without_cr line.now) ≡ Ok (Bytes role bytes) → length bytes ≤ end →

@@ -22,6 +22,7 @@ const CHUNK_DIGITS: usize = 64;
 const CODE_MAX: usize = 20;
 
 /// Writes a view in a line; a dash if it has 0 bytes, and there is more.
+#[inline(always)]
 pub(crate) fn put_view<W: Write>(
     to: &mut Output<W>,
     limit: ViewLimit,

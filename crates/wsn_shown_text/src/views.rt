@@ -45,6 +45,7 @@ pub(crate) struct Ending<'a> {
 }
 
 /// What is shown of a complete event's payload.
+#[inline(always)]
 pub(crate) fn view_of_event<'a>(view: ViewLimit, event: &ShownEvent<'a>) -> View<'a>
     ensures { (e : MeantEvent) → Represents view event.now e → HasText e → view_in result ≡ view_of_event view e }
 {
@@ -68,6 +69,7 @@ pub(crate) fn view_of_unfinished<'a>(view: ViewLimit, event: &ShownEvent<'a>) ->
 }
 
 /// The payload of an event, as far as it is held.
+#[inline(always)]
 fn payload_of<'a>(event: &ShownEvent<'a>) -> HeldBytes<'a>
     ensures bytes { result.bytes ≡ event.now.bytes }
     ensures held { result.held.now ≡ event.now.held.now }
@@ -79,6 +81,7 @@ fn payload_of<'a>(event: &ShownEvent<'a>) -> HeldBytes<'a>
 }
 
 /// A text's first bytes.
+#[inline(always)]
 fn view_of_text<'a>(view: ViewLimit, text: &HeldBytes<'a>) -> View<'a>
     ensures { (all : List ℕ) → IsFrontOf view all text.now → BeginsText all → view_in result ≡ view_of_text view all }
 {
