@@ -40,8 +40,7 @@ pub fn parse(bytes: &[u8], context: &FrameContext) -> Parsed
     }
 }
 
-// Reads a head as `parse` does; `byte` is the frame's first, and `following` are those after it. Where the first byte
-// is known, the compiler leaves out what is for other bytes.
+// Reads a head as `parse` does; `byte` is the frame's first, and `following` are those after it.
 #[inline(always)]
 #[tactic(none)]
 fn parse_after(byte: u8, following: &[u8], context: &FrameContext) -> Parsed
@@ -62,8 +61,9 @@ fn parse_after(byte: u8, following: &[u8], context: &FrameContext) -> Parsed
     }
 }
 
-/// Reads a complete head at the start of `piece`, with its length in bytes, if its bytes are evidence for no refusal and
-/// `piece` has at least 14 bytes. The compiler then leaves out each test whether a byte is there.
+/// Reads a complete head at the start of `piece`, with its length in bytes, if its bytes are evidence for no refusal, at
+/// most two length bytes follow the second byte, and `piece` has at least 14 bytes. The compiler then leaves out each
+/// test whether a byte is there. `None` says nothing of `piece`.
 #[inline(always)]
 pub fn whole_head(piece: &[u8], context: &FrameContext) -> Option<(usize, Head)>
     ensures { IfSome result
@@ -75,7 +75,8 @@ pub fn whole_head(piece: &[u8], context: &FrameContext) -> Option<(usize, Head)>
     whole_head_after(piece[0], piece, context)
 }
 
-/// Reads a complete head as [`whole_head`] does, of any number of bytes; `byte` is the piece's first.
+/// Reads a complete head as [`whole_head`] does; `byte` is the piece's first. Where it is known, the compiler leaves out
+/// what is for other bytes.
 #[inline(always)]
 #[tactic(none)]
 pub fn whole_head_after(byte: u8, piece: &[u8], context: &FrameContext) -> Option<(usize, Head)>
@@ -83,9 +84,16 @@ pub fn whole_head_after(byte: u8, piece: &[u8], context: &FrameContext) -> Optio
     ensures { IfSome result
         (λ found. IsHeadPrefix context.now.role context.now.limits context.now.message piece.now found.0 found.1) }
 {
-    match parse_after(byte, &piece[1..], context) {
-        Parsed::Whole(size, head) => Some((size, head)),
-        Parsed::Incomplete | Parsed::Refused(_, _) => None,
+    if piece.len() < HEAD_MAX {
+        return None;
+    }
+    let Parsed::Whole(size, head) = parse_after(byte, &piece[1..], context) else {
+        return None;
+    };
+    // (so that the compiler leaves out all that is for eight length bytes)
+    match head.encoded {
+        LenForm::Short(_) | LenForm::Two => Some((size, head)),
+        LenForm::Eight => None,
     }
 }
 
