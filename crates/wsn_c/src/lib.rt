@@ -15,8 +15,6 @@ mod over_streams;
 mod recutting;
 mod running;
 mod sides;
-#[cfg(test)]
-mod tests;
 mod text;
 
 pub use answer::Answer;

@@ -1,7 +1,7 @@
 //! Assertions on plans, recuts and runs, and plans and texts that must exist. The context of a failure is its last
 //! argument.
+ghost use Rattle.std.specs.Prelude.{◌≡◌, true};
 
-use crate::expecting::{expect_bytes_of, expect_line_of, expect_of};
 use std::alloc::{Allocator, Global};
 use std::fmt::Debug;
 use std::process::Abort;
@@ -11,6 +11,33 @@ use wsn_doubles::answer_lines::{compared_line, recut_line};
 use wsn_plan::{Plan, PlanFault, RecutAnswer, read_plan, write_plan};
 use wsn_scan::Stop;
 use wsn_wire::Output;
+
+/// Fails unless this holds.
+pub fn expect(rt: &impl Abort, holds: bool)
+    ensures { holds ≡ true }
+{
+    assert!(rt; holds);
+}
+
+/// Fails unless this holds, and prints the context.
+pub fn expect_of(rt: &impl Abort, holds: bool, of: &impl Debug) {
+    assert!(rt; holds, "{of:?}");
+}
+
+/// Fails unless this is the expected line or text, and prints the context.
+pub fn expect_line_of(rt: &impl Abort, line: &str, expected: &str, of: &impl Debug) {
+    assert_eq!(rt; line, expected, "{of:?}");
+}
+
+/// Fails unless these are the expected bytes, and prints the context.
+pub fn expect_bytes_of(rt: &impl Abort, bytes: &[u8], expected: &[u8], of: &impl Debug) {
+    assert_eq!(rt; bytes, expected, "{of:?}");
+}
+
+/// Fails unless this is the expected count.
+pub fn expect_count(rt: &impl Abort, count: usize, expected: usize) {
+    assert_eq!(rt; count, expected);
+}
 
 /// Fails unless this is the expected value, and prints the context.
 pub fn expect_equal_of<T: PartialEq + Debug>(

@@ -9,16 +9,31 @@
 //!
 //! Hostile use: failing readers and writers in `recut_stops`, failed allocations in `recut_memory`. `peer` is another
 //! implementation, the kit's `tungstenite`. `expecting` has the assertions.
+#![tactic(auto)]
+
+#[cfg(test)]
 mod expecting;
+#[cfg(test)]
 mod long_plans;
+#[cfg(test)]
 mod peer;
+#[cfg(test)]
 mod plan_commands;
+#[cfg(test)]
 mod plan_files;
+#[cfg(test)]
 mod plan_text;
+#[cfg(test)]
 mod plans;
+#[cfg(test)]
 mod recut_faults;
+#[cfg(test)]
 mod recut_memory;
+#[cfg(test)]
 mod recut_size_commands;
+#[cfg(test)]
 mod recut_stops;
+#[cfg(test)]
 mod recuts;
+#[cfg(test)]
 mod sized_recuts;

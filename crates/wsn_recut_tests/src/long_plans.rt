@@ -1,8 +1,7 @@
 //! Plans of a million steps, and streams of a million frames. Work that grows with their square would pass the time
 //! limit of a test.
 
-use crate::expecting::{expect_count, expect_of};
-use crate::recutting::expecting::{expect_answer, plan_read, plan_written};
+use crate::expecting::{expect_answer, expect_count, expect_of, plan_read, plan_written};
 use std::alloc::Global;
 use std::process::Abort;
 use wsn_doubles::engines::{Sizes, planned, recut_by, recut_uniformly};

@@ -1,7 +1,6 @@
 //! An independent peer, the kit's `tungstenite`: its server reads our output, and we read its output.
 
-use crate::expecting::{expect_line_of, expect_of};
-use crate::recutting::expecting::{expect_answer, expect_equal};
+use crate::expecting::{expect_answer, expect_equal, expect_line_of, expect_of};
 use std::alloc::Global;
 use std::process::Abort;
 use tungstenite::{CloseCode, CloseFrame, Duplex, Message, NoMask, Utf8Bytes, WebSocket};

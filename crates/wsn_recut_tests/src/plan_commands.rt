@@ -1,12 +1,11 @@
 //! `wsn plan` and `wsn recut`: the plan or the recut on standard output, or one line on standard error that says why
 //! there is none, and the exit status.
 
-use crate::expecting::expect_of;
-use crate::recutting::expecting::expect_run;
-use crate::recutting::plans::{self, PLANNED, Planned};
-use crate::recutting::recut_faults::{FAULTS, STOPS};
-use crate::recutting::recut_memory;
-use crate::recutting::recuts::{FITS, RecutRow};
+use crate::expecting::{expect_of, expect_run};
+use crate::plans::{self, PLANNED, Planned};
+use crate::recut_faults::{FAULTS, STOPS};
+use crate::recut_memory;
+use crate::recuts::{FITS, RecutRow};
 use std::alloc::{Allocator, Global};
 use std::process::Abort;
 use wsn_command_runs::{CommandRun, run_on};

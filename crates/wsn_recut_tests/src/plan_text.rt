@@ -1,8 +1,10 @@
 //! Plan text: the steps that are read, the text that is written, and failures of memory or of a write.
 
-use crate::expecting::{expect, expect_bytes_of, expect_count, expect_line_of, expect_of};
-use crate::recutting::expecting::{expect_equal_of, plan_read, plan_written, recut_fault_line};
-use crate::recutting::recuts::NINE_PLAN;
+use crate::expecting::{
+    expect, expect_bytes_of, expect_count, expect_equal_of, expect_line_of, expect_of, plan_read,
+    plan_written, recut_fault_line,
+};
+use crate::recuts::NINE_PLAN;
 use std::alloc::{Allocator, Global};
 use std::process::Abort;
 use wsn_doubles::heaps::heap_of;

@@ -1,8 +1,7 @@
 //! The plan of a stream's own frames, and that the recut of its normal form by that plan is the stream again.
 
-use crate::expecting::{expect_bytes_of, expect_line_of, expect_of};
-use crate::recutting::expecting::{expect_recut, plan_written};
-use crate::recutting::recuts::{NINE_MESSAGES, NINE_PLAN};
+use crate::expecting::{expect_bytes_of, expect_line_of, expect_of, expect_recut, plan_written};
+use crate::recuts::{NINE_MESSAGES, NINE_PLAN};
 use std::alloc::{Allocator, Global};
 use std::fmt::Debug;
 use std::process::Abort;

@@ -1,7 +1,7 @@
 //! Recuts that write nothing: plans that do not fit, with their first wrong step and its fault, and streams that have
 //! no recut, whatever the plan.
 
-use crate::recutting::recuts::{PING_HELLO, RecutRow, expect_recut_row};
+use crate::recuts::{PING_HELLO, RecutRow, expect_recut_row};
 use wsn_doubles::vectors::stream_limits::{INPUT_OF_4, ONE_FRAME, TWO_FRAMES};
 use wsn_wire::Role;
 

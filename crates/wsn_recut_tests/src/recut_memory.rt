@@ -1,11 +1,12 @@
 //! Plans and recuts where each allocation fails in turn: the answer is `out of memory`, nothing is written, and a
 //! plan is unchanged.
 
-use crate::expecting::{expect_bytes_of, expect_count, expect_line_of, expect_of};
-use crate::recutting::expecting::{push_event, recut_fault_line};
-use crate::recutting::recut_faults::{FAULTS, STOPS};
-use crate::recutting::recuts::{FITS, RecutRow};
-use crate::recutting::sized_recuts::{SIZED_RECUTS, SizedRow};
+use crate::expecting::{
+    expect_bytes_of, expect_count, expect_line_of, expect_of, push_event, recut_fault_line,
+};
+use crate::recut_faults::{FAULTS, STOPS};
+use crate::recuts::{FITS, RecutRow};
+use crate::sized_recuts::{SIZED_RECUTS, SizedRow};
 use std::alloc::{Allocator, Global};
 use std::fmt::Debug;
 use std::process::Abort;

@@ -2,9 +2,9 @@
 //! is none, and the exit status.
 
 use crate::expecting::expect_of;
-use crate::recutting::plan_commands::{diagnostic, expect_end, is_served, line_of_prefix};
-use crate::recutting::recut_memory;
-use crate::recutting::sized_recuts::{SIZED_RECUTS, SizedRow};
+use crate::plan_commands::{diagnostic, expect_end, is_served, line_of_prefix};
+use crate::recut_memory;
+use crate::sized_recuts::{SIZED_RECUTS, SizedRow};
 use std::alloc::{Allocator, Global};
 use std::process::Abort;
 use wsn_command_runs::{CommandRun, run_on};

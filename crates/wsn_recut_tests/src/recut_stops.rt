@@ -1,8 +1,8 @@
 //! Recuts whose reader or writer fails: nothing is written before the whole input and the plan are checked.
 
-use crate::recutting::expecting::{expect_recut, expect_recut_at, plan_read};
-use crate::recutting::recuts::{FITS, RecutRow};
-use crate::recutting::sized_recuts::{SIZED_RECUTS, SizedRow};
+use crate::expecting::{expect_recut, expect_recut_at, plan_read};
+use crate::recuts::{FITS, RecutRow};
+use crate::sized_recuts::{SIZED_RECUTS, SizedRow};
 use std::alloc::Global;
 use std::fmt::Debug;
 use std::process::Abort;

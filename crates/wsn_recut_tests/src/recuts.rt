@@ -1,7 +1,6 @@
 //! Recuts by a plan that fits: their output.
 
-use crate::expecting::expect_of;
-use crate::recutting::expecting::{expect_answer, expect_recut, expect_recut_at, plan_read};
+use crate::expecting::{expect_answer, expect_of, expect_recut, expect_recut_at, plan_read};
 use std::alloc::Global;
 use std::process::Abort;
 use wsn_doubles::engines::recut_by;

@@ -1,11 +1,10 @@
 //! Recuts in frames of one size: the plans of given events, the output, and that it has the same events as the
 //! stream.
 
-use crate::expecting::expect_bytes_of;
-use crate::recutting::expecting::{
-    expect_answer, expect_equal, expect_recut_at, plan_written, push_event,
+use crate::expecting::{
+    expect_answer, expect_bytes_of, expect_equal, expect_recut_at, plan_written, push_event,
 };
-use crate::recutting::recuts::NINE_MESSAGES;
+use crate::recuts::NINE_MESSAGES;
 use std::alloc::Global;
 use std::process::Abort;
 use wsn_canon::Event;

@@ -1,5 +1,5 @@
-//! Tests of streams; of plans and recuts, in `recutting`; and of printed lines, in `printing`. The readers, writers, heaps
-//! and vectors are those of `wsn_doubles`. (Captures and commands: `wsn_command_tests`.)
+//! Tests of streams, and of printed lines, in `printing`. The readers, writers, heaps and vectors are those of
+//! `wsn_doubles`. (Plans and recuts: `wsn_recut_tests`. Captures and commands: `wsn_command_tests`.)
 //!
 //! A rule's test is found by its printed word: reasons of refusals (`text-bad`) in `head_bytes`, `refusal_reasons` and
 //! the names of vectors, `close_code` in `close_codes`.
@@ -38,8 +38,6 @@ mod limit_ranges;
 mod masking;
 #[cfg(test)]
 mod printing;
-#[cfg(test)]
-mod recutting;
 #[cfg(test)]
 mod refusal_reasons;
 #[cfg(test)]
