@@ -225,7 +225,7 @@ def capture_of(reading: Reading, session: Recorded) -> pathlib.Path:
 
 
 def put_rows(reading: Reading, found: List[Recorded], paths: List[pathlib.Path]) -> None:
-    """Prints the list, without outcomes if the program isn't there: it takes half an hour to build."""
+    """Prints the list, without outcomes if the program isn't there: it takes a quarter of an hour to build."""
     path = ""
     if any(session.lines is not None for session in found):
         try:

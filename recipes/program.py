@@ -17,7 +17,7 @@ class NoProgram(Exception):
 def program() -> str:
     """The path of the program: $WSN, the repository's or the installed one, or the one in PATH.
 
-    No recipe builds it, since its proof takes half an hour: NoProgram, if there is none.
+    No recipe builds it, since its proof takes a quarter of an hour: NoProgram, if there is none.
     """
     if os.environ.get("WSN"):
         return named(os.path.abspath(os.environ["WSN"]))
