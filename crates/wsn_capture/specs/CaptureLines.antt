@@ -74,7 +74,7 @@ abbrev pub HasNotedCloses : Limits → CaptureLines → List Entry → Type 0
 HasNotedCloses limits noted given = (role : Role) →
     IsCloseLine role limits given (close_line_of role noted) × IsRefusedLine role limits given (refused_line_of role noted)
 
--- The same after one more entry; but if it has bytes, then before them.
+-- After `accept` and before `note`: the same of these entries and one more, whose line isn't noted yet if it has bytes.
 abbrev pub HasNotedUpTo : Limits → CaptureLines → List Entry → Entry → Type 0
 HasNotedUpTo limits noted given (Bytes role bytes) = HasNotedCloses limits noted given
 HasNotedUpTo limits noted given entry = HasNotedCloses limits noted (given ++ entry ∷ [])

@@ -28,7 +28,8 @@ pub fn judge_capture<R: Read>(input: &mut Input<R>, limits: Limits) -> Result<Re
 }
 
 /// Reads a capture's text to its end and returns the report of its lines, how many bytes each endpoint sent after its
-/// Close, and the lines with the offending bytes of refused streams. It reads chunks of at most [`CHUNK`] bytes. The limits apply to each endpoint's stream separately.
+/// Close, and the lines with the offending bytes of refused streams. It reads chunks of at most [`CHUNK`] bytes. The
+/// limits apply to each endpoint's stream separately.
 ///
 /// The error `Line` is the first line that isn't accepted. It is returned once the line has ended or is too long
 /// whatever follows, with at most 4,095 bytes read after that byte. `Read` is a read that failed; every line that was

@@ -50,8 +50,8 @@ pub fn law_every_capture_is_shown()
         × IsShownCapture detail limits lines shown client server report }
 {}
 
-/// A text has exactly one correct answer: the report of its lines and the bytes after both Closes, or its first line that isn't accepted with that
-/// line's first fault.
+/// A text has exactly one correct answer: the report of its lines, the number of bytes after each Close and the lines
+/// with the offending bytes of refused streams; or its first line that isn't accepted, with that line's first fault.
 pub fn law_one_capture_answer()
     ensures some { (limits : Limits) (text : List ℕ) → InRange limits →
         (answer : Result CaptureReport CaptureStop) × IsCaptureAnswerOf limits text answer }

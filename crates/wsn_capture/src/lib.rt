@@ -14,18 +14,20 @@
 //! became of that stream.
 //!
 //! [`judge_capture`] reads a text and returns the [`Report`] of its lines, or the first line that isn't accepted;
-//! [`read_capture`] also says how many bytes each endpoint sent after its Close ([`Tails`]), and what is kept of the lines
-//! with the offending bytes of refused streams ([`RefusedLines`]). A [`Capture`] accepts lines one by one and reports on those that it has accepted. It is [`CaptureLines`], which finds
-//! each line's first fault and keeps what counts of those accepted, with a scan of each endpoint's stream; whoever reads
-//! the streams in another way has `CaptureLines` alone. A [`SideReader`] is one endpoint's stream as a reader: an engine
-//! reads it as it reads any stream. [`Lines`] splits the chunks of a text into lines. [`put_report`] prints a report.
-//! None of them allocates memory, and at most one line is held.
+//! [`read_capture`] also says how many bytes each endpoint sent after its Close ([`Tails`]), and what is kept of the
+//! lines with the offending bytes of refused streams ([`RefusedLines`]). A [`Capture`] accepts lines one by one and
+//! reports on those that it has accepted. It is [`CaptureLines`], which finds each line's first fault and keeps what
+//! counts of those accepted, with a scan of each endpoint's stream; whoever reads the streams in another way has
+//! `CaptureLines` alone. A [`SideReader`] is one endpoint's stream as a reader: an engine reads it as it reads any
+//! stream. [`Lines`] splits the chunks of a text into lines. [`put_report`] prints a report. None of them allocates
+//! memory, and at most one line is held.
 //!
 //! In `wsn_rules`, `specs/TextLines.antt` defines the lines of a text, `specs/Entries.antt` what a line gives,
 //! `specs/Sides.antt` what became of each stream and `specs/Reports.antt` the report; in `wsn_print`,
 //! `specs/ReportText.antt` defines how a report is printed. Here, `specs/LineFaults.antt` defines which lines aren't
-//! accepted, `specs/Tails.antt` what comes after a Close, `specs/RefusedLines.antt` the lines with offending bytes, `specs/CaptureAnswers.antt` the answer to a text, `specs/SideTexts.antt` one endpoint's stream as a function
-//! of a text, `specs/SplitLines.antt` how a chunk goes on with a line or ends it, and `specs/CaptureLines.antt` and
+//! accepted, `specs/Tails.antt` what comes after a Close, `specs/RefusedLines.antt` the lines with offending bytes,
+//! `specs/CaptureAnswers.antt` the answer to a text, `specs/SideTexts.antt` one endpoint's stream as a function of a
+//! text, `specs/SplitLines.antt` how a chunk goes on with a line or ends it, and `specs/CaptureLines.antt` and
 //! `specs/Captures.antt` what the state says of the lines that were accepted. [`laws`] has what follows from these
 //! definitions, and [`line_fault_examples`] lines with their first faults.
 #![tactic(auto)]

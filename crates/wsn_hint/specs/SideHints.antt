@@ -80,7 +80,8 @@ abbrev pub IsTextAsSent : Role → Limits → List ℕ → Option RefusedLine �
 IsTextAsSent role limits text line place =
     IsSentAsText role limits (sent_in role text) place ⊎ IsLineAsText role limits line place
 
--- The hint fits a side that is refused for this reason. The offending byte is known, or may not be, and `as_text` says whether the payload is known to be a text as it was sent.
+-- The hint fits a side that is refused for this reason. The offending byte is known, or may not be, and `as_text` says
+-- whether the payload is known to be a text as it was sent.
 abbrev pub FitsSide : List ℕ → Reason → Option ℕ → Bool → Hint → Type 0
 FitsSide text reason byte as_text Compressed =
     (reason ≡ ReservedBits) × IfSome byte IsCompressedHead × IsSaid Compression text

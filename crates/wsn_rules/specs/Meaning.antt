@@ -22,6 +22,7 @@ events_after before [] = []
 events_after before (f ∷ fs) =
     (if f.fin then event_at before f ∷ [] else []) ++ events_after (before ++ f ∷ []) fs
 
--- The meaning of frames: the events of their final frames, in order.
+-- The meaning of frames: the events of their final frames, in order. Two accepted streams of one role mean the
+-- same if the meanings of their frames are equal.
 abbrev pub meaning : List Frame → List MeantEvent
 meaning fs = events_after [] fs

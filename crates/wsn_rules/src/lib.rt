@@ -1,14 +1,14 @@
 //! The rules: what the bytes mean that one endpoint of a WebSocket connection sends after the opening handshake (RFC
 //! 6455 sections 5, 7 and 8). This crate has the definitions in `specs/`, the laws that follow from them, and the types
-//! of the answers; the engines are in other crates.
+//! of most answers; the engines are in other crates.
 //!
 //! `specs/Lib.antt` lists the definitions in reading order. [`laws`] has the main laws, [`lists`] how lists of frames
 //! continue, [`recuts`] how recuts continue, [`faults`] the faults of plans, [`uniform_plans`] where those plans fit,
 //! [`shown`] what is shown of a stream and of a capture, and [`bad_characters`] the character with which a text goes
-//! wrong. The examples are computed from the definitions: verdicts
-//! and meanings in [`examples`], normal forms in [`normal_forms`], plans of inputs and recuts in [`plan_examples`],
-//! plans and their faults in [`fault_examples`], captures and their reports in [`capture_examples`], what is shown of
-//! frames in [`shown_examples`], where it is in [`place_examples`], and bad characters in [`bad_character_examples`].
+//! wrong. The examples are computed from the definitions: verdicts and meanings in [`examples`], normal forms in
+//! [`normal_forms`], plans of inputs and recuts in [`plan_examples`], plans and their faults in [`fault_examples`],
+//! captures and their reports in [`capture_examples`], what is shown of frames in [`shown_examples`], where it is in
+//! [`place_examples`], and bad characters in [`bad_character_examples`].
 #![tactic(auto)]
 
 pub mod bad_character_examples;

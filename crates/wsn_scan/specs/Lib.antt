@@ -1,3 +1,5 @@
+-- Names such as `IsRunning` and `IsReading`, here and in the crates above, say that some input leads to such a state.
+
 -- for callers: a scan, its engines, and a reader of frames
 pub mod Positions
 pub mod Parts

@@ -76,7 +76,8 @@ impl Scan {
     /// consumes at least a byte of it, unless the stream was refused before.
     ///
     /// A refusal is reported by the call that consumes the offending byte, and again by each later call, which consumes
-    /// nothing. The payload in a piece with an offending byte isn't reported; a frame's head always is.
+    /// nothing. If the offending byte is in a frame's payload, the frame's head is reported, and of its payload what came
+    /// in earlier pieces; if it is in the head, neither is.
     #[inline(always)]
     #[tactic(none)]
     pub fn next(&mut self, piece: &mut [u8], part: &mut Part) -> (usize, Taken)

@@ -153,8 +153,9 @@ impl Scan {
 }
 
 /// Writes the normal frame of an event in place of the frame that ends it, at the start of the piece, and returns that
-/// frame. It does so if no message is open, the piece has the whole frame, and the frame is valid, final and no Close,
-/// and encodes its length shortest. Otherwise it returns `None`, and nothing changes.
+/// frame. It does so if no message is open, the piece has the whole frame and at least 14 bytes, and the frame is valid,
+/// final and no Close, and encodes its length shortest, in at most two length bytes. Otherwise it returns `None`, and
+/// nothing changes.
 #[inline(always)]
 fn take_event(context: &FrameContext, piece: &mut [u8]) -> Option<EventFrame>
     requires { context.now.message ≡ None }

@@ -26,8 +26,8 @@ impl Scan {
     ghost use Rattle.std.specs.Prelude.{◌≡◌, ◌≢◌, ◌+◌, ◌-◌, ◌<◌, ◌≤◌, ◌↔◌, true, None, length, take, drop, IfSome, IfNone, IsSome, IsTrue};
     ghost use Rattle.wsn_scan.specs.Words.{AdvancesFrom, Unmasks, HasNoRest, ContinuesHead, BeginsAt, BeginsFrame, AddsPart, EndsFrame, IsCutAt, room_of, refusal_in, refusal_of, info_at};
 
-    /// Takes what the piece has of the frame at its start, if the scan is between frames, the frame's head is whole there,
-    /// it is no Close, and no byte is evidence for a refusal. Otherwise nothing changes.
+    /// Takes what the piece has of the frame at its start, if the scan is between frames, [`whole_head`] reads the frame's
+    /// head, it is no Close, and no byte is evidence for a refusal. Otherwise nothing changes.
     #[inline(always)]
     #[tactic(none)]
     pub(super) fn take_frame(&mut self, piece: &mut [u8], part: &mut Part) -> Option<usize>
@@ -117,8 +117,8 @@ impl Scan {
         self.begin(message, start, &head, piece, part)
     }
 
-    /// Does what [`next`](Scan::next) does where no frame begins, where a head isn't whole in the piece or is a Close's,
-    /// and where a byte is evidence for a refusal.
+    /// Does what [`next`](Scan::next) does where no frame begins, where the piece has fewer than 14 bytes, where a head
+    /// has eight length bytes or is a Close's, and where a byte is evidence for a refusal.
     #[inline(never)]
     #[tactic(none)]
     pub(super) fn next_slow(&mut self, piece: &mut [u8], part: &mut Part) -> (usize, Taken)
