@@ -84,16 +84,13 @@ pub fn whole_head_after(byte: u8, piece: &[u8], context: &FrameContext) -> Optio
     ensures { IfSome result
         (λ found. IsHeadPrefix context.now.role context.now.limits context.now.message piece.now found.0 found.1) }
 {
-    if piece.len() < HEAD_MAX {
+    // (with eight length bytes it is left out, so that the compiler leaves out all that is for them)
+    if piece.len() < HEAD_MAX || piece[1] & 0x7f == 127 {
         return None;
     }
-    let Parsed::Whole(size, head) = parse_after(byte, &piece[1..], context) else {
-        return None;
-    };
-    // (so that the compiler leaves out all that is for eight length bytes)
-    match head.encoded {
-        LenForm::Short(_) | LenForm::Two => Some((size, head)),
-        LenForm::Eight => None,
+    match parse_after(byte, &piece[1..], context) {
+        Parsed::Whole(size, head) => Some((size, head)),
+        Parsed::Incomplete | Parsed::Refused(_, _) => None,
     }
 }
 

@@ -7,8 +7,8 @@ use Rattle.wsn_frame.proofs.parsing.whole_head_after.Goals as goal
 pub slice_bounds-parse_after-count : goal.slice_bounds-parse_after-count
 slice_bounds-parse_after-count c = let one : length (take 1 c.args.piece.now) ≡ 1 = ap length c.requires in omega (arith, one, length-take 1 c.args.piece.now)
 
-pub returns-in-Short : goal.returns-in-Short
-returns-in-Short c =
+pub returns-in-Whole : goal.returns-in-Whole
+returns-in-Whole c =
     let piece = c.args.piece.now in
     let following = take (length piece - 1) (drop 1 piece) in
     let rest : following ≡ drop 1 piece = take_rest piece 1 in
@@ -18,8 +18,14 @@ returns-in-Short c =
     head_prefix c.args.context.now.role c.args.context.now.limits c.args.context.now.message (c.args.byte ∷ following) piece (1 + length following) c.parse_after.result c.in-Whole.size c.in-Whole.head same
     (omega (arith, one, size, length-take 1 piece)) c.parse_after.ensures.within c.parse_after.ensures.parsed c.in-Whole.is
 
+pub returns-in-Incomplete : goal.returns-in-Incomplete
+returns-in-Incomplete c = search rules
+
 pub slice_bounds-parse_after-start : goal.slice_bounds-parse_after-start
 slice_bounds-parse_after-start c = search rules
 
 pub slice_bounds-parse_after-end : goal.slice_bounds-parse_after-end
 slice_bounds-parse_after-end c = search rules
+
+pub bounds-piece-1 : goal.bounds-piece-1
+bounds-piece-1 c = search rules
