@@ -8,10 +8,10 @@ ghost use Rattle.wsn_events.specs.EventsMeant.{meant, close_body};
 use arrayvec::ArrayVec;
 use std::alloc::{Allocator, Global};
 use wsn_text::{Utf8, code_allowed};
-use wsn_wire::{Kind, Op};
+use wsn_wire::{CONTROL_MAX, Kind, Op};
 
 /// The body of a control frame, or a Close's reason, in bytes (RFC 6455 section 5.5).
-pub type Small = ArrayVec<u8, 125>;
+pub type Small = ArrayVec<u8, CONTROL_MAX>;
 
 /// What a final frame ends: a message, a ping, a pong, or the close (RFC 6455 sections 5.4 to 5.6).
 #[derive(Debug, Drop)]
@@ -83,7 +83,7 @@ fn may_echo(body: &[u8]) -> bool
     ensures ping { IsTrue result ↔ IsLawfulControl Op.Ping body.now }
     ensures pong { IsTrue result ↔ IsLawfulControl Op.Pong body.now }
 {
-    body.len() <= 125
+    body.len() <= CONTROL_MAX
 }
 
 /// Whether a Close may have this code and this reason.

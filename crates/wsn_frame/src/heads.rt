@@ -39,8 +39,8 @@ impl Head {
         ensures { result ≡ encoded_form self.now.encoded self.now.len }
     {
         match self.encoded {
-            LenForm::Two if self.len <= 125 => Form::Two,
-            LenForm::Eight if self.len <= 65_535 => Form::Eight,
+            LenForm::Two if Form::Two.fits(self.len) => Form::Two,
+            LenForm::Eight if Form::Eight.fits(self.len) => Form::Eight,
             _ => Form::Shortest,
         }
     }

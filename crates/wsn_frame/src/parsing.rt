@@ -85,7 +85,7 @@ pub fn whole_head_after(byte: u8, piece: &[u8], context: &FrameContext) -> Optio
         (λ found. IsHeadPrefix context.now.role context.now.limits context.now.message piece.now found.0 found.1) }
 {
     // (with eight length bytes it is left out, so that the compiler leaves out all that is for them)
-    if piece.len() < HEAD_MAX || piece[1] & 0x7f == 127 {
+    if piece.len() < HEAD_MAX || matches!(LenForm::at(piece[1]), LenForm::Eight) {
         return None;
     }
     match parse_after(byte, &piece[1..], context) {
@@ -130,7 +130,7 @@ fn parse_after_two(
         IsParsed context.now.role context.now.limits group
         (first_byte first.fin first.op ∷ second ∷ following.now) result }
 {
-    let count = length_count(encoded);
+    let count = encoded.count();
     let Some(read) = length_in(encoded, following, context.limits.lengths()) else {
         return Parsed::Incomplete;
     };
@@ -157,18 +157,6 @@ fn parse_after_two(
             key,
         },
     )
-}
-
-// The number of length bytes.
-#[inline(always)]
-fn length_count(encoded: LenForm) -> usize
-    ensures { result ≡ length_count encoded }
-{
-    match encoded {
-        LenForm::Short(_) => 0,
-        LenForm::Two => 2,
-        LenForm::Eight => 8,
-    }
 }
 
 // Reads the length at the start of the bytes after the second one, if all of its bytes are there.

@@ -10,7 +10,7 @@ use std::io::Read;
 use wsn_capture::{RefusedLine, SideReader};
 use wsn_rules::{HeadInfo, Limits};
 use wsn_scan::{FrameReader, Part};
-use wsn_wire::{Form, Input, Role};
+use wsn_wire::{Input, Role};
 
 /// The number of bytes of a side that are read at once.
 const CHUNK: usize = 512;
@@ -99,26 +99,11 @@ fn start_before(part: &Part, place: u64) -> Option<u64>
     ensures unfinished { IfSome result (λ _. part.now.ends ≡ false) }
     ensures start { IfSome part.now.head.key IsKey → IfSome result (λ start. start ≡ payload_offset part.now.head) }
 {
-    let start = payload_start(&part.head)?;
+    let start = part.head.place.checked_add(part.head.size())?;
     if part.ends || place < start || place - start >= part.head.len {
         return None;
     }
     Some(start)
-}
-
-/// The offset of the first byte after a head.
-fn payload_start(head: &HeadInfo) -> Option<u64>
-    ensures { IfSome head.now.key IsKey → IfSome result (λ start. start ≡ payload_offset head.now) }
-{
-    let length = match head.form {
-        Form::Two => 2,
-        Form::Eight => 8,
-        Form::Shortest if head.len < 126 => 0,
-        Form::Shortest if head.len < 65536 => 2,
-        Form::Shortest => 8,
-    };
-    let key = if head.key.is_some() { 4 } else { 0 };
-    head.place.checked_add(2 + length + key)
 }
 
 /// The number of bytes, at most this many, that the input has left from this offset on, if all of them are of a text in

@@ -8,7 +8,7 @@ use std::io::Write;
 use wsn_io::{Output, Stop};
 use wsn_rules::{HeadInfo, Verdict};
 use wsn_scan::Part;
-use wsn_wire::{Form, Op};
+use wsn_wire::Op;
 
 /// The event that begins at an offset, as the parts of frames come.
 #[derive(Drop)]
@@ -184,16 +184,8 @@ fn end_of(head: &HeadInfo) -> u64
     ensures { head.now.place ≤ 2 ^ 40 → head.now.len < 2 ^ 63 → IfSome head.now.key IsKey →
         result ≡ end_of_frame head.now }
 {
-    let length = match head.form {
-        Form::Two => 2,
-        Form::Eight => 8,
-        Form::Shortest if head.len < 126 => 0,
-        Form::Shortest if head.len < 65536 => 2,
-        Form::Shortest => 8,
-    };
-    let key = if head.key.is_some() { 4 } else { 0 };
     head.place
-        .saturating_add(2 + length + key)
+        .saturating_add(head.size())
         .saturating_add(head.len)
 }
 

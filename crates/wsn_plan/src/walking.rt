@@ -256,7 +256,6 @@ fn is_allowed_form(lengths: Lengths, form: Form, len: u64) -> bool
 {
     match form {
         Form::Shortest => true,
-        Form::Two => lengths == Lengths::Any && len <= 125,
-        Form::Eight => lengths == Lengths::Any && len <= 65535,
+        Form::Two | Form::Eight => lengths == Lengths::Any && form.fits(len),
     }
 }

@@ -1,12 +1,12 @@
 ghost use Rattle.std.specs.Prelude.{◌≡◌, ℕ, ◌<◌, ◌≤◌, ◌^◌, true, List, Option, IfOk, IfErr, is_some};
 ghost use Rattle.wsn_wire.specs.declared.refusal.Reason.{Reason};
-ghost use Rattle.wsn_wire.specs.Frame.{is_control, first_byte, second_byte, IsSecondByteFor, len_form_of, length_bytes, head_bytes, FormFits};
+ghost use Rattle.wsn_wire.specs.Frame.{is_control, first_byte, second_byte, IsSecondByteFor, length_bytes, head_bytes, FormFits};
 ghost use Rattle.wsn_wire.specs.Layout.{len_form_at, encoded_length};
 ghost use Rattle.wsn_wire.specs.Refusal.{IsFirstEvident};
 ghost use Rattle.wsn_wire.specs.EvidenceInHeads.{EvidentInFirst, EvidentInSecond, EvidentInLength};
 
 use crate::endpoint::Role;
-use crate::length_forms::{Form, LenForm, Lengths};
+use crate::length_forms::{Form, LenForm, Lengths, SHORT_MAX, TWO_MAX};
 use crate::opcode::Op;
 use crate::refusal::Reason;
 use arrayvec::ArrayVec;
@@ -60,22 +60,11 @@ pub fn second(f: FirstByte, role: Role, b: u8) -> Result<LenForm, Reason>
         Role::Server if masked => return Err(Reason::MaskPresent),
         _ => {}
     }
-    let form = len_form_at(b);
+    let form = LenForm::at(b);
     match form {
         LenForm::Two | LenForm::Eight if f.op.is_control() => Err(Reason::ControlTooLong),
         LenForm::Short(1) if f.op == Op::Close => Err(Reason::CloseOneByte),
         _ => Ok(form),
-    }
-}
-
-// The length form that the low seven bits of a second byte give.
-fn len_form_at(b: u8) -> LenForm
-    ensures { result ≡ len_form_at b }
-{
-    match b & 0x7f {
-        126 => LenForm::Two,
-        127 => LenForm::Eight,
-        len => LenForm::Short(len),
     }
 }
 
@@ -89,7 +78,7 @@ pub fn two(b: [u8; 2], lengths: Lengths) -> Result<u64, Reason>
     ensures refused { IfErr result (IsFirstEvident (λ reason. EvidentInLength lengths reason LenForm.Two b)) }
 {
     let len = u64::from(u16::from_be_bytes(b));
-    if lengths == Lengths::Shortest && len < 126 {
+    if lengths == Lengths::Shortest && len <= SHORT_MAX {
         return Err(Reason::LengthNotMinimal);
     }
     Ok(len)
@@ -108,7 +97,7 @@ pub fn eight(b: [u8; 8], lengths: Lengths) -> Result<u64, Reason>
     if len >= 1 << 63 {
         return Err(Reason::LengthTopBit);
     }
-    if lengths == Lengths::Shortest && len < 65536 {
+    if lengths == Lengths::Shortest && len <= TWO_MAX {
         return Err(Reason::LengthNotMinimal);
     }
     Ok(len)
@@ -133,7 +122,7 @@ pub fn head_as(fin: bool, op: Op, key: Option<[u8; 4]>, len: u64, form: Form) ->
     requires fits { FormFits form len }
     ensures { result.items ≡ head_bytes fin op key form len }
 {
-    let len_form = len_form_of(form, len);
+    let len_form = LenForm::of(form, len);
     let mut head = ArrayVec::new();
     head.push(first_byte_of(fin, op));
     head.push(second_byte_of(key.is_some(), len_form));
@@ -158,22 +147,5 @@ fn second_byte_of(masked: bool, form: LenForm) -> u8
     requires { (len : ℕ) → form ≡ LenForm.Short len → len ≤ 125 }
     ensures { (key : Option (List ℕ)) → is_some key ≡ masked → result ≡ second_byte key form }
 {
-    let field = match form {
-        LenForm::Short(len) => len,
-        LenForm::Two => 126,
-        LenForm::Eight => 127,
-    };
-    (if masked { 0x80 } else { 0 }) | field
-}
-
-fn len_form_of(form: Form, len: u64) -> LenForm
-    ensures { result ≡ len_form_of form len }
-{
-    match form {
-        Form::Shortest if len < 126 => LenForm::Short(len as u8),
-        Form::Shortest if len < 65536 => LenForm::Two,
-        Form::Shortest => LenForm::Eight,
-        Form::Two => LenForm::Two,
-        Form::Eight => LenForm::Eight,
-    }
+    (if masked { 0x80 } else { 0 }) | form.field()
 }

@@ -19,7 +19,7 @@ mod refusal;
 
 pub use endpoint::Role;
 pub use heads::{FirstByte, eight, first, head, head_as, second, two};
-pub use length_forms::{Form, LenForm, Lengths};
+pub use length_forms::{CONTROL_MAX, Form, LenForm, Lengths, SHORT_MAX, TWO_MAX};
 pub use masking::mask;
 pub use opcode::{Kind, Op};
 pub use refusal::Reason;

@@ -5,8 +5,8 @@ use Rattle.wsn_wire.proofs.heads.eight.Goals as goal
 pub returns-clause-read : goal.returns-clause-read
 returns-clause-read c = sym (be_bytes_8 c.args.b c.from_be_bytes-len.result (search rules) (search rules) c.from_be_bytes-len.ensures)
 
-pub returns-then-len-lt65536-clause-refused : goal.returns-then-len-lt65536-clause-refused
-returns-then-len-lt65536-clause-refused c = search rules
+pub returns-then-len-le-TWO_MAX-clause-refused : goal.returns-then-len-le-TWO_MAX-clause-refused
+returns-then-len-le-TWO_MAX-clause-refused c = search rules
 
 pub returns-then-len-clause-refused : goal.returns-then-len-clause-refused
 returns-then-len-clause-refused c = search rules

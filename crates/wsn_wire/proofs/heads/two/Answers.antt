@@ -5,8 +5,8 @@ use Rattle.wsn_wire.proofs.heads.two.Goals as goal
 pub returns-clause-nothing_evident : goal.returns-clause-nothing_evident
 returns-clause-nothing_evident c = search rules
 
-pub returns-then-len-lt126-clause-refused : goal.returns-then-len-lt126-clause-refused
-returns-then-len-lt126-clause-refused c = search rules
+pub returns-then-len-le-SHORT_MAX-clause-refused : goal.returns-then-len-le-SHORT_MAX-clause-refused
+returns-then-len-le-SHORT_MAX-clause-refused c = search rules
 
 pub returns-clause-read : goal.returns-clause-read
 returns-clause-read c = grind (arith, common_steps)
