@@ -1,5 +1,5 @@
 -- A scan's state, and how it relates to the bytes that the scan has consumed and doesn't keep.
-use Rattle.std.specs.Prelude.{◌≡◌, ◌≢◌, ℕ, ◌+◌, ◌-◌, ◌<◌, ◌≤◌, ◌↔◌, IfSome, IsSome, Option, None, Some, List, [], ◌∷◌, ◌++◌, length, take, drop}
+use Rattle.std.specs.Prelude.{◌≡◌, ◌≢◌, true, ℕ, ◌+◌, ◌-◌, ◌<◌, ◌≤◌, ◌↔◌, IfSome, IsSome, Option, None, Some, List, [], ◌∷◌, ◌++◌, length, take, drop}
 use Rattle.wsn_wire.specs.declared.endpoint.Role.{Role}
 use Rattle.wsn_wire.specs.Frame.{Frame, IsBytes, first_byte, stream}
 use Rattle.wsn_frame.specs.declared.open_message.OpenMessage.{OpenMessage}
@@ -164,6 +164,27 @@ AdvancesFrom stage old new piece after n taken part =
     HasScannedAt role limits old stage bytes fs rest at →
     IsReachedBy role limits new (bytes ++ take n piece) (Finds taken part (drop part.start (take n after)) fs at)
     × Consumes taken part (length piece) n
+
+-- The first `count` bytes of the piece are consumed, no more than there are, and those after them don't change.
+abbrev pub ConsumesFirst : Scan → Scan → List ℕ → List ℕ → ℕ → Type 0
+ConsumesFirst old new piece after count =
+    (count ≤ length piece) × (drop count after ≡ drop count piece) × (room_of new + count ≡ room_of old)
+
+-- They have a part of a frame. The bytes before its payload don't change, and if the frame ends, the scan has no rest.
+abbrev pub HasPart : Scan → List ℕ → List ℕ → ℕ → Part → Type 0
+HasPart new piece after count part =
+    (part.start ≤ count) × (take part.start after ≡ take part.start piece) × (part.ends ≡ true → HasNoRest new)
+
+-- A call consumes these bytes, which have a part of a frame, and refuses nothing.
+abbrev pub TakesPart : Scan → Scan → List ℕ → List ℕ → ℕ → Part → Type 0
+TakesPart old new piece after count part =
+    ConsumesFirst old new piece after count × HasPart new piece after count part × (refusal_in new ≡ None)
+
+-- A call consumes these bytes, which have a part of a frame if it says so, and it refuses if it says so.
+abbrev pub TakesFound : Scan → Scan → List ℕ → List ℕ → ℕ → Taken → Part → Type 0
+TakesFound old new piece after count found part =
+    ConsumesFirst old new piece after count × (found ≡ taken.Part → HasPart new piece after count part)
+    × (IsSome (refusal_in new) ↔ (found ≡ taken.Refused))
 
 -- A call of a scan: the scan and the piece before and after it, how many bytes it consumed, and what it found.
 pub record ScanCall : Type 0 where

@@ -20,7 +20,7 @@ pub use Rattle.wsn_scan.specs.FrameReaders.{HasTaken, IsReading, parts_left, hel
 pub use Rattle.wsn_scan.specs.ReadParts.{ReadsOn, TakesMessage}
 pub use Rattle.wsn_scan.specs.ReaderSteps.{StepsOn, Progresses, IsUsed, IsFilled}
 pub use Rattle.wsn_scan.specs.Scans.{HasScanned, refusal_in, room_of, taken_of, ScanCall, IsAdvance, IsAnswered, AdvancesFrom, BeginsFrame, ContinuesHead, BeginsAt, Unmasks, HasNoRest}
-pub use Rattle.wsn_scan.specs.Scans.{AddsPart, EndsFrame, IsCutAt, IsStageAfter, refusal_of, refusal_at, refusal_judged, summary_of}
+pub use Rattle.wsn_scan.specs.Scans.{AddsPart, EndsFrame, IsCutAt, IsStageAfter, TakesPart, TakesFound, refusal_of, refusal_at, refusal_judged, summary_of}
 pub use Rattle.wsn_scan.specs.Scans.{verdict_between}
 pub use Rattle.wsn_scan.specs.declared.part.Part.{Part}
 pub use Rattle.wsn_scan.specs.declared.part.Taken.{Taken}

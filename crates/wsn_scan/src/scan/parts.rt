@@ -24,7 +24,7 @@ use wsn_wire::{Op, Reason};
 
 impl Scan {
     ghost use Rattle.std.specs.Prelude.{◌≡◌, ◌≢◌, ◌+◌, ◌-◌, ◌<◌, ◌≤◌, ◌↔◌, true, None, length, take, drop, IfSome, IfNone, IsSome, IsTrue};
-    ghost use Rattle.wsn_scan.specs.Words.{AdvancesFrom, Unmasks, HasNoRest, ContinuesHead, BeginsAt, BeginsFrame, AddsPart, EndsFrame, IsCutAt, room_of, refusal_in, refusal_of, info_at};
+    ghost use Rattle.wsn_scan.specs.Words.{AdvancesFrom, TakesPart, TakesFound, Unmasks, HasNoRest, ContinuesHead, BeginsAt, BeginsFrame, AddsPart, EndsFrame, IsCutAt, room_of, refusal_in, refusal_of, info_at};
 
     /// Takes what the piece has of the frame at its start, if the scan is between frames, [`whole_head`] reads the frame's
     /// head, it is no Close, and no byte is evidence for a refusal. Otherwise nothing changes.
@@ -34,14 +34,8 @@ impl Scan {
         requires fits { length piece.old ≤ room_of self.old }
         ensures taken { IfSome result (λ count.
             AdvancesFrom self.old.stage self.old self.new piece.old piece.new count Taken.Part part.new) }
-        ensures within { IfSome result (λ count. (part.new.start ≤ count) × (count ≤ length piece.old)) }
-        ensures kept { IfSome result (λ count. drop count piece.new ≡ drop count piece.old) }
-        ensures head { IfSome result (λ _. take part.new.start piece.new ≡ take part.new.start piece.old) }
-        ensures room { IfSome result (λ count. room_of self.new + count ≡ room_of self.old) }
-        ensures reported { IfSome result (λ _. refusal_in self.new ≡ None) }
+        ensures part { IfSome result (λ count. TakesPart self.old self.new piece.old piece.new count part.new) }
         ensures between { IfSome result (λ _. self.old.stage ≡ Stage.Between) }
-
-        ensures whole { IfSome result (λ _. part.new.ends ≡ true → HasNoRest self.new) }
         ensures none { IfNone result ((self.new ≡ self.old) × (piece.new ≡ piece.old)) }
     {
         if !self.is_between() {
@@ -66,12 +60,7 @@ impl Scan {
         requires open { message.now ≡ self.old.context.message }
         ensures taken { IfSome result (λ count.
             AdvancesFrom Stage.Between self.old self.new piece.old piece.new count Taken.Part part.new) }
-        ensures within { IfSome result (λ count. (part.new.start ≤ count) × (count ≤ length piece.old)) }
-        ensures kept { IfSome result (λ count. drop count piece.new ≡ drop count piece.old) }
-        ensures head { IfSome result (λ _. take part.new.start piece.new ≡ take part.new.start piece.old) }
-        ensures room { IfSome result (λ count. room_of self.new + count ≡ room_of self.old) }
-        ensures reported { IfSome result (λ _. refusal_in self.new ≡ None) }
-        ensures whole { IfSome result (λ _. part.new.ends ≡ true → HasNoRest self.new) }
+        ensures part { IfSome result (λ count. TakesPart self.old self.new piece.old piece.new count part.new) }
         ensures none { IfNone result ((self.new ≡ self.old) × (piece.new ≡ piece.old)) }
     {
         self.take_frame_after(message, piece, part)
@@ -98,12 +87,7 @@ impl Scan {
         requires open { message.now ≡ self.old.context.message }
         ensures taken { IfSome result (λ count.
             AdvancesFrom Stage.Between self.old self.new piece.old piece.new count Taken.Part part.new) }
-        ensures within { IfSome result (λ count. (part.new.start ≤ count) × (count ≤ length piece.old)) }
-        ensures kept { IfSome result (λ count. drop count piece.new ≡ drop count piece.old) }
-        ensures head { IfSome result (λ _. take part.new.start piece.new ≡ take part.new.start piece.old) }
-        ensures room { IfSome result (λ count. room_of self.new + count ≡ room_of self.old) }
-        ensures reported { IfSome result (λ _. refusal_in self.new ≡ None) }
-        ensures whole { IfSome result (λ _. part.new.ends ≡ true → HasNoRest self.new) }
+        ensures part { IfSome result (λ count. TakesPart self.old self.new piece.old piece.new count part.new) }
         ensures none { IfNone result ((self.new ≡ self.old) × (piece.new ≡ piece.old)) }
     {
         let context = FrameContext {
@@ -124,15 +108,9 @@ impl Scan {
     pub(super) fn next_slow(&mut self, piece: &mut [u8], part: &mut Part) -> (usize, Taken)
         requires { length piece.old ≤ room_of self.old }
         ensures taken { AdvancesFrom self.old.stage self.old self.new piece.old piece.new result.0 result.1 part.new }
-        ensures within { result.0 ≤ length piece.old }
-        ensures kept { drop result.0 piece.new ≡ drop result.0 piece.old }
-        ensures head { result.1 ≡ Taken.Part → (part.new.start ≤ result.0)
-            × (take part.new.start piece.new ≡ take part.new.start piece.old) }
-        ensures whole { result.1 ≡ Taken.Part → part.new.ends ≡ true → HasNoRest self.new }
+        ensures found { TakesFound self.old self.new piece.old piece.new result.0 result.1 part.new }
         ensures untouched { result.1 ≢ Taken.Part → result.1 ≢ Taken.Refused → piece.new ≡ piece.old }
         ensures refused { result.1 ≡ Taken.Refused → Unmasks self.old.stage self.old piece.old piece.new result.0 }
-        ensures room { room_of self.new + result.0 ≡ room_of self.old }
-        ensures reported { IsSome (refusal_in self.new) ↔ (result.1 ≡ Taken.Refused) }
         ensures again { IfSome (refusal_in self.old) (λ _. (self.new ≡ self.old) × (piece.new ≡ piece.old)
             × (result.0 ≡ 0) × (result.1 ≡ Taken.Refused)) }
     {
@@ -165,14 +143,8 @@ impl Scan {
     ) -> (usize, Taken)
         requires { length piece.old ≤ room_of self.old }
         ensures taken { ContinuesHead self.old self.new begun.items piece.old piece.new result.0 result.1 part.new }
-        ensures within { result.0 ≤ length piece.old }
-        ensures kept { drop result.0 piece.new ≡ drop result.0 piece.old }
-        ensures head { result.1 ≡ Taken.Part → (part.new.start ≤ result.0)
-            × (take part.new.start piece.new ≡ take part.new.start piece.old) }
-        ensures whole { result.1 ≡ Taken.Part → part.new.ends ≡ true → HasNoRest self.new }
+        ensures found { TakesFound self.old self.new piece.old piece.new result.0 result.1 part.new }
         ensures untouched { result.1 ≢ Taken.Part → piece.new ≡ piece.old }
-        ensures room { room_of self.new + result.0 ≡ room_of self.old }
-        ensures reported { IsSome (refusal_in self.new) ↔ (result.1 ≡ Taken.Refused) }
     {
         let before = begun.len();
         let came = piece.len().min(begun.remaining_capacity());
@@ -203,14 +175,8 @@ impl Scan {
         requires fits { length piece.old ≤ room_of self.old }
         requires within { start ≤ length piece.old }
         ensures taken { BeginsFrame self.old self.new start head.now piece.old piece.new result.0 result.1 part.new }
-        ensures within { result.0 ≤ length piece.old }
-        ensures kept { drop result.0 piece.new ≡ drop result.0 piece.old }
-        ensures head { result.1 ≡ Taken.Part → (part.new.start ≤ result.0)
-            × (take part.new.start piece.new ≡ take part.new.start piece.old) }
-        ensures whole { result.1 ≡ Taken.Part → part.new.ends ≡ true → HasNoRest self.new }
+        ensures found { TakesFound self.old self.new piece.old piece.new result.0 result.1 part.new }
         ensures untouched { result.1 ≢ Taken.Part → piece.new ≡ piece.old }
-        ensures room { room_of self.new + result.0 ≡ room_of self.old }
-        ensures reported { IsSome (refusal_in self.new) ↔ (result.1 ≡ Taken.Refused) }
     {
         let message = self.context.message;
         if let Some(taken) = self.begin(&message, start, head, piece, part) {
@@ -242,13 +208,8 @@ impl Scan {
         requires within { start ≤ length piece.old }
         ensures taken { IfSome result (λ count.
             BeginsAt self.old self.new start head.now piece.old piece.new count part.new) }
-        ensures within { IfSome result (λ count. (start ≤ count) × (count ≤ length piece.old)) }
+        ensures part { IfSome result (λ count. TakesPart self.old self.new piece.old piece.new count part.new) }
         ensures start { IfSome result (λ _. part.new.start ≡ start) }
-        ensures kept { IfSome result (λ count. drop count piece.new ≡ drop count piece.old) }
-        ensures head { IfSome result (λ _. take start piece.new ≡ take start piece.old) }
-        ensures room { IfSome result (λ count. room_of self.new + count ≡ room_of self.old) }
-        ensures reported { IfSome result (λ _. refusal_in self.new ≡ None) }
-        ensures whole { IfSome result (λ _. part.new.ends ≡ true → HasNoRest self.new) }
         ensures none { IfNone result ((self.new ≡ self.old) × (piece.new ≡ piece.old)) }
         ensures cut { IfNone result (head.now.len ≡ 0 → IsCutAt message.now head.now) }
     {
@@ -275,15 +236,10 @@ impl Scan {
     fn next_payload(&mut self, inside: Inside, piece: &mut [u8], part: &mut Part) -> (usize, Taken)
         requires { length piece.old ≤ room_of self.old }
         ensures taken { AdvancesFrom (Stage.Payload inside) self.old self.new piece.old piece.new result.0 result.1 part.new }
-        ensures within { result.0 ≤ length piece.old }
-        ensures kept { drop result.0 piece.new ≡ drop result.0 piece.old }
-        ensures head { result.1 ≡ Taken.Part → part.new.start ≡ 0 }
-        ensures whole { result.1 ≡ Taken.Part → part.new.ends ≡ true → HasNoRest self.new }
+        ensures found { TakesFound self.old self.new piece.old piece.new result.0 result.1 part.new }
         ensures untouched { result.1 ≢ Taken.Part → result.1 ≢ Taken.Refused → piece.new ≡ piece.old }
         ensures refused { result.1 ≡ Taken.Refused →
             Unmasks (Stage.Payload inside) self.old piece.old piece.new result.0 }
-        ensures room { room_of self.new + result.0 ≡ room_of self.old }
-        ensures reported { IsSome (refusal_in self.new) ↔ (result.1 ≡ Taken.Refused) }
     {
         let Inside { head, check, done } = inside;
         let left = head.len.saturating_sub(done);

@@ -89,12 +89,6 @@ returns-clause-taken c role limits bytes rest fs in_piece has_consumed none some
       ),
     )
 
-pub returns-clause-kept : goal.returns-clause-kept
-returns-clause-kept c =
-    let start = c.args.start in
-    let end = start + c.min-count.result in
-    kept_after_frame c.args.head.now.key start end c.args.piece.now c.unmask.new.bytes (omega arith) (omega (arith, c.requires.within, c.min-count.ensures)) c.unmask.ensures
-
 pub overflow_sub-piece : goal.overflow_sub-piece
 overflow_sub-piece c = search rules
 
@@ -146,20 +140,12 @@ add_part-requires-clause-open c = search rules
 pub shape_of-piece : goal.shape_of-piece
 shape_of-piece c = search rules
 
-pub returns-clause-within : goal.returns-clause-within
-returns-clause-within c = search rules
-
 pub returns-clause-start : goal.returns-clause-start
 returns-clause-start c = search rules
 
-pub returns-clause-head : goal.returns-clause-head
-returns-clause-head c = grind (arith, common_steps)
-
-pub returns-clause-room : goal.returns-clause-room
-returns-clause-room c = search rules
-
-pub returns-clause-reported : goal.returns-clause-reported
-returns-clause-reported c = search rules
-
-pub returns-clause-whole : goal.returns-clause-whole
-returns-clause-whole c = search rules
+pub returns-clause-part : goal.returns-clause-part
+returns-clause-part c =
+    let start = c.args.start in
+    let end = start + c.min-count.result in
+    let kept = kept_after_frame c.args.head.now.key start end c.args.piece.now c.unmask.new.bytes (omega arith) (omega (arith, c.requires.within, c.min-count.ensures)) c.unmask.ensures in
+    ((search rules, kept, search rules), (search rules, grind (arith, common_steps), search rules), search rules)

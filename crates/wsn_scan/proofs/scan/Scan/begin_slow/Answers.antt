@@ -67,44 +67,14 @@ begin-requires-clause-within c = search rules
 pub returns-in-Some-clause-taken : goal.returns-in-Some-clause-taken
 returns-in-Some-clause-taken c = search rules
 
-pub returns-in-Some-clause-within : goal.returns-in-Some-clause-within
-returns-in-Some-clause-within c = search rules
-
-pub returns-in-Some-clause-kept : goal.returns-in-Some-clause-kept
-returns-in-Some-clause-kept c = search rules
-
-pub returns-in-Some-clause-head : goal.returns-in-Some-clause-head
-returns-in-Some-clause-head c = search rules
-
 pub returns-in-Some-clause-untouched : goal.returns-in-Some-clause-untouched
 returns-in-Some-clause-untouched c = search rules
-
-pub returns-in-Some-clause-room : goal.returns-in-Some-clause-room
-returns-in-Some-clause-room c = search rules
-
-pub returns-in-Some-clause-reported : goal.returns-in-Some-clause-reported
-returns-in-Some-clause-reported c = search rules
 
 pub refuse-requires : goal.refuse-requires
 refuse-requires c = search rules
 
-pub returns-then-head-eq0-clause-within : goal.returns-then-head-eq0-clause-within
-returns-then-head-eq0-clause-within c = search rules
-
-pub returns-then-head-eq0-clause-kept : goal.returns-then-head-eq0-clause-kept
-returns-then-head-eq0-clause-kept c = search rules
-
-pub returns-then-head-eq0-clause-head : goal.returns-then-head-eq0-clause-head
-returns-then-head-eq0-clause-head c = search rules
-
 pub returns-then-head-eq0-clause-untouched : goal.returns-then-head-eq0-clause-untouched
 returns-then-head-eq0-clause-untouched c = search rules
-
-pub returns-then-head-eq0-clause-room : goal.returns-then-head-eq0-clause-room
-returns-then-head-eq0-clause-room c = search rules
-
-pub returns-then-head-eq0-clause-reported : goal.returns-then-head-eq0-clause-reported
-returns-then-head-eq0-clause-reported c = search rules
 
 pub add_part-requires-clause-fits : goal.add_part-requires-clause-fits
 add_part-requires-clause-fits c = search rules
@@ -112,29 +82,14 @@ add_part-requires-clause-fits c = search rules
 pub add_part-requires-clause-open : goal.add_part-requires-clause-open
 add_part-requires-clause-open c = search rules
 
-pub returns-clause-within : goal.returns-clause-within
-returns-clause-within c = search rules
-
-pub returns-clause-kept : goal.returns-clause-kept
-returns-clause-kept c = search rules
-
-pub returns-clause-head : goal.returns-clause-head
-returns-clause-head c = search rules
-
 pub returns-clause-untouched : goal.returns-clause-untouched
 returns-clause-untouched c = search rules
 
-pub returns-clause-room : goal.returns-clause-room
-returns-clause-room c = search rules
+pub returns-in-Some-clause-found : goal.returns-in-Some-clause-found
+returns-in-Some-clause-found c = search rules
 
-pub returns-clause-reported : goal.returns-clause-reported
-returns-clause-reported c = search rules
+pub returns-then-head-eq0-clause-found : goal.returns-then-head-eq0-clause-found
+returns-then-head-eq0-clause-found c = search rules
 
-pub returns-in-Some-clause-whole : goal.returns-in-Some-clause-whole
-returns-in-Some-clause-whole c = search rules
-
-pub returns-then-head-eq0-clause-whole : goal.returns-then-head-eq0-clause-whole
-returns-then-head-eq0-clause-whole c = search rules
-
-pub returns-clause-whole : goal.returns-clause-whole
-returns-clause-whole c = search rules
+pub returns-clause-found : goal.returns-clause-found
+returns-clause-found c = search rules

@@ -95,15 +95,6 @@ refuse-requires c =
     let within = (subst (λ (p : Parsed). IsWithin (length all) p) c.in-Refused.is c.parse.ensures.within).1 in
     omega (arith, within, are.size, are.within, c.len-before.ensures.value, c.saturating_sub-in-Refused.ensures, c.requires)
 
-pub returns-in-Refused-clause-within : goal.returns-in-Refused-clause-within
-returns-in-Refused-clause-within c =
-    let piece = c.args.piece.now in
-    let begun = c.args.begun.items in
-    let all = c.deref.result.now in
-    let are = joined c.try_extend_from_slice-fits.result begun c.try_extend_from_slice-fits.new.self.items all piece c.remaining_capacity.result c.min-came.result c.remaining_capacity.ensures c.min-came.ensures c.try_extend_from_slice-fits.ensures.variant c.try_extend_from_slice-fits.ensures.ok c.deref.ensures.0 in
-    let within = (subst (λ (p : Parsed). IsWithin (length all) p) c.in-Refused.is c.parse.ensures.within).1 in
-    omega (arith, within, are.size, are.within, c.len-before.ensures.value, c.saturating_sub-in-Refused.ensures, c.refuse.ensures.reported.0)
-
 pub len-before-requires : goal.len-before-requires
 len-before-requires c = search rules
 
@@ -128,62 +119,26 @@ overflow_sub-self c = search rules
 pub begin_slow-requires-clause-fits : goal.begin_slow-requires-clause-fits
 begin_slow-requires-clause-fits c = search rules
 
-pub returns-in-Incomplete-clause-within : goal.returns-in-Incomplete-clause-within
-returns-in-Incomplete-clause-within c = search rules
-
-pub returns-in-Incomplete-clause-kept : goal.returns-in-Incomplete-clause-kept
-returns-in-Incomplete-clause-kept c = search rules
-
-pub returns-in-Incomplete-clause-head : goal.returns-in-Incomplete-clause-head
-returns-in-Incomplete-clause-head c = search rules
-
-pub returns-in-Incomplete-clause-whole : goal.returns-in-Incomplete-clause-whole
-returns-in-Incomplete-clause-whole c = search rules
-
 pub returns-in-Incomplete-clause-untouched : goal.returns-in-Incomplete-clause-untouched
 returns-in-Incomplete-clause-untouched c = search rules
-
-pub returns-in-Incomplete-clause-room : goal.returns-in-Incomplete-clause-room
-returns-in-Incomplete-clause-room c = search rules
-
-pub returns-in-Incomplete-clause-reported : goal.returns-in-Incomplete-clause-reported
-returns-in-Incomplete-clause-reported c = search rules
-
-pub returns-in-Whole-clause-within : goal.returns-in-Whole-clause-within
-returns-in-Whole-clause-within c = search rules
-
-pub returns-in-Whole-clause-kept : goal.returns-in-Whole-clause-kept
-returns-in-Whole-clause-kept c = search rules
-
-pub returns-in-Whole-clause-head : goal.returns-in-Whole-clause-head
-returns-in-Whole-clause-head c = search rules
-
-pub returns-in-Whole-clause-whole : goal.returns-in-Whole-clause-whole
-returns-in-Whole-clause-whole c = search rules
 
 pub returns-in-Whole-clause-untouched : goal.returns-in-Whole-clause-untouched
 returns-in-Whole-clause-untouched c = search rules
 
-pub returns-in-Whole-clause-room : goal.returns-in-Whole-clause-room
-returns-in-Whole-clause-room c = search rules
-
-pub returns-in-Whole-clause-reported : goal.returns-in-Whole-clause-reported
-returns-in-Whole-clause-reported c = search rules
-
-pub returns-in-Refused-clause-kept : goal.returns-in-Refused-clause-kept
-returns-in-Refused-clause-kept c = search rules
-
-pub returns-in-Refused-clause-head : goal.returns-in-Refused-clause-head
-returns-in-Refused-clause-head c = search rules
-
-pub returns-in-Refused-clause-whole : goal.returns-in-Refused-clause-whole
-returns-in-Refused-clause-whole c = search rules
-
 pub returns-in-Refused-clause-untouched : goal.returns-in-Refused-clause-untouched
 returns-in-Refused-clause-untouched c = search rules
 
-pub returns-in-Refused-clause-room : goal.returns-in-Refused-clause-room
-returns-in-Refused-clause-room c = search rules
+pub returns-in-Refused-clause-found : goal.returns-in-Refused-clause-found
+returns-in-Refused-clause-found c =
+    let piece = c.args.piece.now in
+    let begun = c.args.begun.items in
+    let all = c.deref.result.now in
+    let are = joined c.try_extend_from_slice-fits.result begun c.try_extend_from_slice-fits.new.self.items all piece c.remaining_capacity.result c.min-came.result c.remaining_capacity.ensures c.min-came.ensures c.try_extend_from_slice-fits.ensures.variant c.try_extend_from_slice-fits.ensures.ok c.deref.ensures.0 in
+    let within = (subst (λ (p : Parsed). IsWithin (length all) p) c.in-Refused.is c.parse.ensures.within).1 in
+    ((omega (arith, within, are.size, are.within, c.len-before.ensures.value, c.saturating_sub-in-Refused.ensures, c.refuse.ensures.reported.0), search rules, search rules), search rules, search rules)
 
-pub returns-in-Refused-clause-reported : goal.returns-in-Refused-clause-reported
-returns-in-Refused-clause-reported c = search rules
+pub returns-in-Incomplete-clause-found : goal.returns-in-Incomplete-clause-found
+returns-in-Incomplete-clause-found c = search rules
+
+pub returns-in-Whole-clause-found : goal.returns-in-Whole-clause-found
+returns-in-Whole-clause-found c = search rules

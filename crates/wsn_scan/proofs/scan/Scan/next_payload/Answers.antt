@@ -105,31 +105,11 @@ returns-in-Err-clause-taken c role limits bytes rest fs at in_bytes has_scanned 
     (omega (arith, is_taken, small, within, c.requires)) (bytes_take taken piece in_bytes) (omega (arith, is_taken)) is_evident begun prefix in
     rw (c.refuse.ensures.reported.0, c.refuse.ensures.reported.1, c.refuse.ensures.after) (record { frames = fs; since = rest ++ last; position = at; has_scanned = there; found = (refl, refl) }, tt)
 
-pub returns-in-Err-clause-kept : goal.returns-in-Err-clause-kept
-returns-in-Err-clause-kept c =
-    rw c.refuse.ensures.reported.0 (masked_again c.args.inside.head.key c.args.inside.done c.min-count.result c.args.piece.now c.unmask.new.bytes (omega (arith, c.min-count.ensures)) c.unmask.ensures
-    c.min-taken.result c.unmask-in-Err.new.bytes (omega (arith, c.min-taken.ensures)) c.unmask-in-Err.ensures)
-
 pub returns-then-count-eq0-clause-taken : goal.returns-then-count-eq0-clause-taken
 returns-then-count-eq0-clause-taken c = search rules
 
-pub returns-then-count-eq0-clause-within : goal.returns-then-count-eq0-clause-within
-returns-then-count-eq0-clause-within c = search rules
-
-pub returns-then-count-eq0-clause-kept : goal.returns-then-count-eq0-clause-kept
-returns-then-count-eq0-clause-kept c = search rules
-
-pub returns-then-count-eq0-clause-head : goal.returns-then-count-eq0-clause-head
-returns-then-count-eq0-clause-head c = search rules
-
 pub returns-then-count-eq0-clause-untouched : goal.returns-then-count-eq0-clause-untouched
 returns-then-count-eq0-clause-untouched c = search rules
-
-pub returns-then-count-eq0-clause-room : goal.returns-then-count-eq0-clause-room
-returns-then-count-eq0-clause-room c = search rules
-
-pub returns-then-count-eq0-clause-reported : goal.returns-then-count-eq0-clause-reported
-returns-then-count-eq0-clause-reported c = search rules
 
 pub slice_bounds-unmask-end : goal.slice_bounds-unmask-end
 slice_bounds-unmask-end c = search rules
@@ -176,38 +156,11 @@ unmask-requires-in-Err c = search rules
 pub refuse-requires : goal.refuse-requires
 refuse-requires c = search rules
 
-pub returns-in-Ok-clause-within : goal.returns-in-Ok-clause-within
-returns-in-Ok-clause-within c = search rules
-
-pub returns-in-Ok-clause-kept : goal.returns-in-Ok-clause-kept
-returns-in-Ok-clause-kept c = grind (arith, common_steps)
-
-pub returns-in-Ok-clause-head : goal.returns-in-Ok-clause-head
-returns-in-Ok-clause-head c = search rules
-
 pub returns-in-Ok-clause-untouched : goal.returns-in-Ok-clause-untouched
 returns-in-Ok-clause-untouched c = search rules
 
-pub returns-in-Ok-clause-room : goal.returns-in-Ok-clause-room
-returns-in-Ok-clause-room c = search rules
-
-pub returns-in-Ok-clause-reported : goal.returns-in-Ok-clause-reported
-returns-in-Ok-clause-reported c = search rules
-
-pub returns-in-Err-clause-within : goal.returns-in-Err-clause-within
-returns-in-Err-clause-within c = search rules
-
-pub returns-in-Err-clause-head : goal.returns-in-Err-clause-head
-returns-in-Err-clause-head c = search rules
-
 pub returns-in-Err-clause-untouched : goal.returns-in-Err-clause-untouched
 returns-in-Err-clause-untouched c = search rules
-
-pub returns-in-Err-clause-room : goal.returns-in-Err-clause-room
-returns-in-Err-clause-room c = search rules
-
-pub returns-in-Err-clause-reported : goal.returns-in-Err-clause-reported
-returns-in-Err-clause-reported c = search rules
 
 pub returns-in-Err-clause-refused : goal.returns-in-Err-clause-refused
 returns-in-Err-clause-refused c is role limits bytes rest fs at has_scanned =
@@ -221,17 +174,26 @@ returns-in-Err-clause-refused c is role limits bytes rest fs at has_scanned =
     let front = front_stays head.key c.args.inside.done count taken piece c.unmask.new.bytes (c.unmask-in-Err.new.bytes ++ post_of taken (count - taken) (c.unmask.new.bytes ++ drop count piece)) (omega (arith, c.min-taken.ensures)) (omega (arith, c.min-count.ensures)) c.unmask.ensures in
     rw c.refuse.ensures.reported.0 (front ∙ ap (λ (n : ℕ). unmasked_by head.key n (take taken piece)) size ∙ sym (ap (λ (p : Position). unmasked_at p (take taken piece)) has_scanned.is_at.1.2))
 
-pub returns-then-count-eq0-clause-whole : goal.returns-then-count-eq0-clause-whole
-returns-then-count-eq0-clause-whole c = search rules
-
 pub returns-then-count-eq0-clause-refused : goal.returns-then-count-eq0-clause-refused
 returns-then-count-eq0-clause-refused c = search rules
-
-pub returns-in-Ok-clause-whole : goal.returns-in-Ok-clause-whole
-returns-in-Ok-clause-whole c = search rules
 
 pub returns-in-Ok-clause-refused : goal.returns-in-Ok-clause-refused
 returns-in-Ok-clause-refused c = search rules
 
-pub returns-in-Err-clause-whole : goal.returns-in-Err-clause-whole
-returns-in-Err-clause-whole c = search rules
+pub returns-in-Err-clause-found : goal.returns-in-Err-clause-found
+returns-in-Err-clause-found c = (
+  (
+    search rules,
+    (rw c.refuse.ensures.reported.0 (masked_again c.args.inside.head.key c.args.inside.done c.min-count.result c.args.piece.now c.unmask.new.bytes (omega (arith, c.min-count.ensures)) c.unmask.ensures
+        c.min-taken.result c.unmask-in-Err.new.bytes (omega (arith, c.min-taken.ensures)) c.unmask-in-Err.ensures)),
+    search rules,
+  ),
+  search rules,
+  search rules,
+)
+
+pub returns-then-count-eq0-clause-found : goal.returns-then-count-eq0-clause-found
+returns-then-count-eq0-clause-found c = search rules
+
+pub returns-in-Ok-clause-found : goal.returns-in-Ok-clause-found
+returns-in-Ok-clause-found c = ((search rules, grind (arith, common_steps), search rules), search rules, search rules)

@@ -60,101 +60,26 @@ next_payload-requires c = search rules
 pub overflow_sub-self : goal.overflow_sub-self
 overflow_sub-self c = search rules
 
-pub returns-in-Between-2-clause-within : goal.returns-in-Between-2-clause-within
-returns-in-Between-2-clause-within c = search rules
-
-pub returns-in-Between-2-clause-kept : goal.returns-in-Between-2-clause-kept
-returns-in-Between-2-clause-kept c = search rules
-
-pub returns-in-Between-2-clause-head : goal.returns-in-Between-2-clause-head
-returns-in-Between-2-clause-head c = search rules
-
 pub returns-in-Between-2-clause-untouched : goal.returns-in-Between-2-clause-untouched
 returns-in-Between-2-clause-untouched c = search rules
-
-pub returns-in-Between-2-clause-room : goal.returns-in-Between-2-clause-room
-returns-in-Between-2-clause-room c = search rules
-
-pub returns-in-Between-2-clause-reported : goal.returns-in-Between-2-clause-reported
-returns-in-Between-2-clause-reported c = search rules
-
-pub returns-in-Head-clause-within : goal.returns-in-Head-clause-within
-returns-in-Head-clause-within c = search rules
-
-pub returns-in-Head-clause-kept : goal.returns-in-Head-clause-kept
-returns-in-Head-clause-kept c = search rules
-
-pub returns-in-Head-clause-head : goal.returns-in-Head-clause-head
-returns-in-Head-clause-head c = search rules
 
 pub returns-in-Head-clause-untouched : goal.returns-in-Head-clause-untouched
 returns-in-Head-clause-untouched c = search rules
 
-pub returns-in-Head-clause-room : goal.returns-in-Head-clause-room
-returns-in-Head-clause-room c = search rules
-
-pub returns-in-Head-clause-reported : goal.returns-in-Head-clause-reported
-returns-in-Head-clause-reported c = search rules
-
-pub returns-in-Payload-clause-within : goal.returns-in-Payload-clause-within
-returns-in-Payload-clause-within c = search rules
-
-pub returns-in-Payload-clause-kept : goal.returns-in-Payload-clause-kept
-returns-in-Payload-clause-kept c = search rules
-
-pub returns-in-Payload-clause-head : goal.returns-in-Payload-clause-head
-returns-in-Payload-clause-head c = search rules
-
 pub returns-in-Payload-clause-untouched : goal.returns-in-Payload-clause-untouched
 returns-in-Payload-clause-untouched c = search rules
-
-pub returns-in-Payload-clause-room : goal.returns-in-Payload-clause-room
-returns-in-Payload-clause-room c = search rules
-
-pub returns-in-Payload-clause-reported : goal.returns-in-Payload-clause-reported
-returns-in-Payload-clause-reported c = search rules
 
 pub returns-in-Closed-clause-taken : goal.returns-in-Closed-clause-taken
 returns-in-Closed-clause-taken c = grind (arith, common_steps)
 
-pub returns-in-Closed-clause-within : goal.returns-in-Closed-clause-within
-returns-in-Closed-clause-within c = search rules
-
-pub returns-in-Closed-clause-kept : goal.returns-in-Closed-clause-kept
-returns-in-Closed-clause-kept c = search rules
-
-pub returns-in-Closed-clause-head : goal.returns-in-Closed-clause-head
-returns-in-Closed-clause-head c = search rules
-
 pub returns-in-Closed-clause-untouched : goal.returns-in-Closed-clause-untouched
 returns-in-Closed-clause-untouched c = search rules
-
-pub returns-in-Closed-clause-room : goal.returns-in-Closed-clause-room
-returns-in-Closed-clause-room c = search rules
-
-pub returns-in-Closed-clause-reported : goal.returns-in-Closed-clause-reported
-returns-in-Closed-clause-reported c = search rules
 
 pub returns-in-Refused-clause-taken : goal.returns-in-Refused-clause-taken
 returns-in-Refused-clause-taken c = search rules
 
-pub returns-in-Refused-clause-within : goal.returns-in-Refused-clause-within
-returns-in-Refused-clause-within c = search rules
-
-pub returns-in-Refused-clause-kept : goal.returns-in-Refused-clause-kept
-returns-in-Refused-clause-kept c = search rules
-
-pub returns-in-Refused-clause-head : goal.returns-in-Refused-clause-head
-returns-in-Refused-clause-head c = search rules
-
 pub returns-in-Refused-clause-untouched : goal.returns-in-Refused-clause-untouched
 returns-in-Refused-clause-untouched c = search rules
-
-pub returns-in-Refused-clause-room : goal.returns-in-Refused-clause-room
-returns-in-Refused-clause-room c = search rules
-
-pub returns-in-Refused-clause-reported : goal.returns-in-Refused-clause-reported
-returns-in-Refused-clause-reported c = search rules
 
 pub returns-in-Between-2-clause-again : goal.returns-in-Between-2-clause-again
 returns-in-Between-2-clause-again c = search rules
@@ -192,41 +117,11 @@ returns-in-Payload-clause-refused c is role limits bytes rest fs at has_scanned 
 pub returns-in-Refused-clause-refused : goal.returns-in-Refused-clause-refused
 returns-in-Refused-clause-refused c is role limits bytes rest fs at has_scanned = unmasked_none at
 
-pub returns-in-Between-2-clause-whole : goal.returns-in-Between-2-clause-whole
-returns-in-Between-2-clause-whole c = search rules
-
-pub returns-in-Head-clause-whole : goal.returns-in-Head-clause-whole
-returns-in-Head-clause-whole c = search rules
-
-pub returns-in-Payload-clause-whole : goal.returns-in-Payload-clause-whole
-returns-in-Payload-clause-whole c = search rules
-
-pub returns-in-Closed-clause-whole : goal.returns-in-Closed-clause-whole
-returns-in-Closed-clause-whole c = search rules
-
 pub returns-in-Closed-clause-refused : goal.returns-in-Closed-clause-refused
 returns-in-Closed-clause-refused c = search rules
 
-pub returns-in-Refused-clause-whole : goal.returns-in-Refused-clause-whole
-returns-in-Refused-clause-whole c = search rules
-
-pub returns-in-Between-clause-within : goal.returns-in-Between-clause-within
-returns-in-Between-clause-within c = search rules
-
-pub returns-in-Between-clause-kept : goal.returns-in-Between-clause-kept
-returns-in-Between-clause-kept c = search rules
-
-pub returns-in-Between-clause-head : goal.returns-in-Between-clause-head
-returns-in-Between-clause-head c = search rules
-
 pub returns-in-Between-clause-untouched : goal.returns-in-Between-clause-untouched
 returns-in-Between-clause-untouched c = search rules
-
-pub returns-in-Between-clause-room : goal.returns-in-Between-clause-room
-returns-in-Between-clause-room c = search rules
-
-pub returns-in-Between-clause-reported : goal.returns-in-Between-clause-reported
-returns-in-Between-clause-reported c = search rules
 
 pub returns-in-Between-clause-again : goal.returns-in-Between-clause-again
 returns-in-Between-clause-again c = search rules
@@ -234,11 +129,26 @@ returns-in-Between-clause-again c = search rules
 pub returns-in-Between-clause-refused : goal.returns-in-Between-clause-refused
 returns-in-Between-clause-refused c is role limits bytes rest fs at has_scanned = unmasked_none at
 
-pub returns-in-Between-clause-whole : goal.returns-in-Between-clause-whole
-returns-in-Between-clause-whole c = search rules
-
 pub new-requires : goal.new-requires
 new-requires c = search rules
 
 pub new-requires-in-Head : goal.new-requires-in-Head
 new-requires-in-Head c = search rules
+
+pub returns-in-Between-2-clause-found : goal.returns-in-Between-2-clause-found
+returns-in-Between-2-clause-found c = search rules
+
+pub returns-in-Head-clause-found : goal.returns-in-Head-clause-found
+returns-in-Head-clause-found c = search rules
+
+pub returns-in-Payload-clause-found : goal.returns-in-Payload-clause-found
+returns-in-Payload-clause-found c = search rules
+
+pub returns-in-Closed-clause-found : goal.returns-in-Closed-clause-found
+returns-in-Closed-clause-found c = search rules
+
+pub returns-in-Refused-clause-found : goal.returns-in-Refused-clause-found
+returns-in-Refused-clause-found c = search rules
+
+pub returns-in-Between-clause-found : goal.returns-in-Between-clause-found
+returns-in-Between-clause-found c = search rules

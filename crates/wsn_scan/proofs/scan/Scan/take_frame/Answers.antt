@@ -33,38 +33,8 @@ take_frame_within-requires-clause-fits c = search rules
 pub take_frame_within-requires-clause-open : goal.take_frame_within-requires-clause-open
 take_frame_within-requires-clause-open c = search rules
 
-pub returns-in-None-clause-within : goal.returns-in-None-clause-within
-returns-in-None-clause-within c = search rules
-
-pub returns-in-None-clause-kept : goal.returns-in-None-clause-kept
-returns-in-None-clause-kept c = search rules
-
-pub returns-in-None-clause-head : goal.returns-in-None-clause-head
-returns-in-None-clause-head c = search rules
-
-pub returns-in-None-clause-room : goal.returns-in-None-clause-room
-returns-in-None-clause-room c = search rules
-
-pub returns-in-None-clause-reported : goal.returns-in-None-clause-reported
-returns-in-None-clause-reported c = search rules
-
 pub returns-in-None-clause-none : goal.returns-in-None-clause-none
 returns-in-None-clause-none c = search rules
-
-pub returns-in_default-clause-within : goal.returns-in_default-clause-within
-returns-in_default-clause-within c = search rules
-
-pub returns-in_default-clause-kept : goal.returns-in_default-clause-kept
-returns-in_default-clause-kept c = search rules
-
-pub returns-in_default-clause-head : goal.returns-in_default-clause-head
-returns-in_default-clause-head c = search rules
-
-pub returns-in_default-clause-room : goal.returns-in_default-clause-room
-returns-in_default-clause-room c = search rules
-
-pub returns-in_default-clause-reported : goal.returns-in_default-clause-reported
-returns-in_default-clause-reported c = search rules
 
 pub returns-in_default-clause-none : goal.returns-in_default-clause-none
 returns-in_default-clause-none c = search rules
@@ -78,8 +48,8 @@ returns-in-None-clause-between c = search rules
 pub returns-in_default-clause-between : goal.returns-in_default-clause-between
 returns-in_default-clause-between c = search rules
 
-pub returns-in-None-clause-whole : goal.returns-in-None-clause-whole
-returns-in-None-clause-whole c = search rules
+pub returns-in-None-clause-part : goal.returns-in-None-clause-part
+returns-in-None-clause-part c = search rules
 
-pub returns-in_default-clause-whole : goal.returns-in_default-clause-whole
-returns-in_default-clause-whole c = search rules
+pub returns-in_default-clause-part : goal.returns-in_default-clause-part
+returns-in_default-clause-part c = search rules

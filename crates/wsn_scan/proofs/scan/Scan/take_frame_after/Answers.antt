@@ -27,21 +27,6 @@ returns-clause-taken c =
 pub returns-in_err-start-clause-taken : goal.returns-in_err-start-clause-taken
 returns-in_err-start-clause-taken c = search rules
 
-pub returns-in_err-start-clause-within : goal.returns-in_err-start-clause-within
-returns-in_err-start-clause-within c = search rules
-
-pub returns-in_err-start-clause-kept : goal.returns-in_err-start-clause-kept
-returns-in_err-start-clause-kept c = search rules
-
-pub returns-in_err-start-clause-head : goal.returns-in_err-start-clause-head
-returns-in_err-start-clause-head c = search rules
-
-pub returns-in_err-start-clause-room : goal.returns-in_err-start-clause-room
-returns-in_err-start-clause-room c = search rules
-
-pub returns-in_err-start-clause-reported : goal.returns-in_err-start-clause-reported
-returns-in_err-start-clause-reported c = search rules
-
 pub returns-in_err-start-clause-none : goal.returns-in_err-start-clause-none
 returns-in_err-start-clause-none c = search rules
 
@@ -57,26 +42,11 @@ begin-requires-clause-open c = search rules
 pub begin-requires-clause-within : goal.begin-requires-clause-within
 begin-requires-clause-within c = search rules
 
-pub returns-clause-within : goal.returns-clause-within
-returns-clause-within c = search rules
-
-pub returns-clause-kept : goal.returns-clause-kept
-returns-clause-kept c = search rules
-
-pub returns-clause-head : goal.returns-clause-head
-returns-clause-head c = search rules
-
-pub returns-clause-room : goal.returns-clause-room
-returns-clause-room c = search rules
-
-pub returns-clause-reported : goal.returns-clause-reported
-returns-clause-reported c = search rules
-
 pub returns-clause-none : goal.returns-clause-none
 returns-clause-none c = search rules
 
-pub returns-in_err-start-clause-whole : goal.returns-in_err-start-clause-whole
-returns-in_err-start-clause-whole c = search rules
+pub returns-in_err-start-clause-part : goal.returns-in_err-start-clause-part
+returns-in_err-start-clause-part c = search rules
 
-pub returns-clause-whole : goal.returns-clause-whole
-returns-clause-whole c = search rules
+pub returns-clause-part : goal.returns-clause-part
+returns-clause-part c = search rules
