@@ -1,0 +1,3 @@
+mod EscapedCharacters
+mod HexDigits
+mod NegativeNumbers

@@ -47,13 +47,13 @@ fn answered(alloc: Global, words: &[String], error: &Error) -> Result<Request, U
         }
         _ => {
             let words = shown_in_errors(alloc, words)?;
-            Err(refusal(alloc, words.as_slice())?)
+            Err(broken_rule(alloc, words.as_slice())?)
         }
     }
 }
 
 /// The rule that the words break: clap's text, or `Own` if clap finds none.
-fn refusal(alloc: Global, words: &[String]) -> Result<Usage, AllocError> {
+fn broken_rule(alloc: Global, words: &[String]) -> Result<Usage, AllocError> {
     let error = match program(alloc)?.try_get_matches_from(words) {
         Ok(matches) => return Ok(mistake_in(&matches)),
         Err(error) => error,

@@ -1,13 +1,13 @@
 //! The library part of the program: what the words of a command line ask for.
 //!
 //! [`asked`] reads the words, with clap, and returns a [`Request`] and when its answer is coloured ([`Asked`]), or a
-//! [`Usage`] that says why there is none. A request to run holds a [`Job`], which [`run`] does over any reader and writers;
-//! [`run_same`] compares two streams. [`run_on_side`] and [`run_same_on_sides`] do so over one side of a capture.
-//! [`Escaped`] prints a word from outside so that a terminal isn't changed by it, and [`UnreadFile`] why a file can't be
-//! read. [`hint_on_run`] says which everyday mistake an input looks like, [`hint_on_streams`] and [`hint_on_sides`] which
-//! of two.
+//! [`Usage`] that says why there is none. A request to run holds a [`Job`], which `wsn_job` does over any reader and
+//! writers. [`Escaped`] prints a word from outside so that a terminal isn't changed by it, and [`UnreadFile`] why a file
+//! can't be read. [`hint_on_run`] says which everyday mistake an input looks like, [`hint_on_streams`] and
+//! [`hint_on_sides`] which of two.
+//!
 //! `specs/Inputs.antt` defines which input a word names, `specs/Requests.antt` which requests can be carried out,
-//! `specs/Colors.antt` which answers are coloured.
+//! `specs/Colors.antt` which answers are coloured, `specs/ErrorWords.antt` how an error shows the words.
 #![tactic(auto)]
 
 mod closings;

@@ -205,7 +205,7 @@ fn check_number(matches: &ArgMatches<'_>, option: &str) -> Result<(), Usage>
 }
 
 /// Whether all bytes are digits.
-fn are_digits(text: &[u8]) -> bool
+pub fn are_digits(text: &[u8]) -> bool
     ensures { result ≡ list_all is_ascii_digit text.now }
 {
     text.iter().all(|byte| byte.is_ascii_digit())

@@ -3,9 +3,10 @@ ghost use Rattle.wsn_rules.specs.declared.verdict.Verdict.TheVariants.{Refused};
 ghost use Rattle.wsn_scan.specs.Judging.{IsUnrefused};
 ghost use Rattle.wsn_hint.specs.Hints.{HasVerdict};
 
+use wsn_io::Input;
 use wsn_rules::{Limits, Refusal, Verdict};
 use wsn_scan::judge;
-use wsn_wire::{Input, Role};
+use wsn_wire::Role;
 
 /// The verdict on the first two bytes alone; `None` if the input limit is less.
 pub fn early_verdict(first: &[u8], role: Role, limits: Limits) -> Option<Verdict>

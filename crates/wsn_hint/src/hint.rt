@@ -177,6 +177,7 @@ impl Hint {
             }
         }
     }
+
     /// What the hint says of one of two inputs, after the input's name: at most 68 bytes, so that `hint: SECOND` and
     /// this are at most 80.
     pub fn after_name(&self) -> &'static str

@@ -8,9 +8,10 @@ ghost use Rattle.wsn_hint.specs.SideHints.{BeginsInAscii, HasHead, IsLineAsText,
 use crate::streams::is_text;
 use std::io::Read;
 use wsn_capture::{RefusedLine, SideReader};
+use wsn_io::Input;
 use wsn_rules::{HeadInfo, Limits};
 use wsn_scan::{FrameReader, Part};
-use wsn_wire::{Input, Role};
+use wsn_wire::Role;
 
 /// The number of bytes of a side that are read at once.
 const CHUNK: usize = 512;

@@ -10,8 +10,9 @@ use crate::refused_sides::RefusedSides;
 use crate::sent_text::{is_line_as_text, is_sent_as_text};
 use crate::streams::without_compression;
 use wsn_capture::{RefusedLine, RefusedLines, SideReader, Tails};
+use wsn_io::Input;
 use wsn_rules::{Limits, Refusal};
-use wsn_wire::{Input, Reason, Role};
+use wsn_wire::{Reason, Role};
 
 /// The number of bytes of a side that are read at once.
 const CHUNK: usize = 512;

@@ -1,4 +1,5 @@
 use crate::help;
+use crate::help::{captures, plans, streams};
 use crate::options::{
     file, role, with_at, with_capture, with_color, with_events_view, with_file, with_files,
     with_json, with_limits, with_role, with_text_color, with_view, with_wire, with_without,
@@ -44,80 +45,80 @@ const NO_CAPTURE: &str = "The input is no capture, but the stream that\nthis end
 static COMMANDS: [Described; 11] = [
     Described {
         name: "show",
-        about: help::SHOW,
-        details: help::SHOW_DETAILS,
+        about: captures::SHOW,
+        details: captures::SHOW_DETAILS,
         reads: Reads::CaptureToShow,
         has_json: true,
         has_color: true,
     },
     Described {
         name: "judge",
-        about: help::JUDGE,
-        details: help::JUDGE_DETAILS,
+        about: streams::JUDGE,
+        details: streams::JUDGE_DETAILS,
         reads: Reads::Stream,
         has_json: true,
         has_color: true,
     },
     Described {
         name: "frames",
-        about: help::FRAMES,
-        details: help::FRAMES_DETAILS,
+        about: streams::FRAMES,
+        details: streams::FRAMES_DETAILS,
         reads: Reads::Stream,
         has_json: true,
         has_color: true,
     },
     Described {
         name: "payload",
-        about: help::PAYLOAD,
-        details: help::PAYLOAD_DETAILS,
+        about: streams::PAYLOAD,
+        details: streams::PAYLOAD_DETAILS,
         reads: Reads::StreamAt,
         has_json: false,
         has_color: false,
     },
     Described {
         name: "normal",
-        about: help::NORMAL,
-        details: help::NORMAL_DETAILS,
+        about: streams::NORMAL,
+        details: streams::NORMAL_DETAILS,
         reads: Reads::Stream,
         has_json: false,
         has_color: false,
     },
     Described {
         name: "same",
-        about: help::SAME,
-        details: help::SAME_DETAILS,
+        about: streams::SAME,
+        details: streams::SAME_DETAILS,
         reads: Reads::Streams,
         has_json: true,
         has_color: false,
     },
     Described {
         name: "plan",
-        about: help::PLAN,
-        details: help::PLAN_DETAILS,
+        about: plans::PLAN,
+        details: plans::PLAN_DETAILS,
         reads: Reads::Stream,
         has_json: false,
         has_color: false,
     },
     Described {
         name: "recut",
-        about: help::RECUT,
-        details: help::RECUT_DETAILS,
+        about: plans::RECUT,
+        details: plans::RECUT_DETAILS,
         reads: Reads::StreamToCut,
         has_json: false,
         has_color: false,
     },
     Described {
         name: "redact",
-        about: help::REDACT,
-        details: help::REDACT_DETAILS,
+        about: captures::REDACT,
+        details: captures::REDACT_DETAILS,
         reads: Reads::CaptureToRedact,
         has_json: false,
         has_color: false,
     },
     Described {
         name: "closing",
-        about: help::CLOSING,
-        details: help::CLOSING_DETAILS,
+        about: captures::CLOSING,
+        details: captures::CLOSING_DETAILS,
         reads: Reads::Captures,
         has_json: true,
         has_color: true,
@@ -198,7 +199,7 @@ fn with_words<'a>(alloc: Global, command: Command<'a>) -> Result<Command<'a>, Al
     command.arg(words)
 }
 
-/// All commands, as clap is told of them.
+/// All commands, described for clap.
 pub fn program<'a>(alloc: Global) -> Result<Command<'a>, AllocError> {
     let mut program = Command::new(alloc, "wsn")
         .about(help::PROGRAM)

@@ -1,4 +1,4 @@
-//! The commands and options of the program, as clap is told of them, and the help texts.
+//! The commands and options of the program, described for clap, and the help texts.
 //!
 //! [`program`] describes all commands. [`SHARED`] follows the help of each. What words of a command line ask for is in
 //! `wsn_cli`.
