@@ -20,8 +20,7 @@ use Rattle.wsn_scan.specs.Scans.{refusal_in, refusal_judged}
 use Rattle.wsn_scan.specs.Feeding.{HasFed}
 use Rattle.wsn_scan.specs.declared.chunk_reader.ChunkReader.{ChunkReader}
 use Rattle.wsn_scan.specs.ChunkReaders.{HasCome, IsEndOf, IsHaltOf}
-use Rattle.wsn_scan.specs.Refill.{chunk_size}
-use Rattle.wsn_scan.specs.Judging.{HasVerdictAndHeads, IsJudgedOf, IsReached}
+use Rattle.wsn_scan.specs.Judging.{HasVerdictAndHeads, IsJudgedOf, IsReached, chunk_size}
 use Rattle.wsn_print.specs.declared.format.Format.{Format}
 use Rattle.wsn_print.specs.Formats.{heads_text, verdict_text}
 use Rattle.wsn_list.specs.Listing.{listing, IsReadUpToRefusal, IsEnded, IsListedChunk, IsListedButChunk, IsListedAs}

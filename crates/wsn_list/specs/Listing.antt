@@ -17,8 +17,7 @@ use Rattle.wsn_print.specs.declared.format.Format.{Format}
 use Rattle.wsn_print.specs.declared.format.Format.TheVariants.{Text}
 use Rattle.wsn_print.specs.Formats.{heads_text, verdict_text}
 use Rattle.wsn_scan.specs.Feeding.{HasFed}
-use Rattle.wsn_scan.specs.Refill.{chunk_size}
-use Rattle.wsn_scan.specs.Judging.{HasVerdictAndHeads, IsJudgeAnswer, IsUnrefused, IsWithinLimit}
+use Rattle.wsn_scan.specs.Judging.{HasVerdictAndHeads, IsJudgeAnswer, IsUnrefused, IsWithinLimit, chunk_size}
 
 -- the lines of the heads, and then the verdict's line
 abbrev pub listing : Format → List HeadInfo → Verdict → List ℕ

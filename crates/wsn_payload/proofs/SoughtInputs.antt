@@ -18,9 +18,8 @@ use Rattle.wsn_rules.proofs.StaysRefused.{place_within}
 use Rattle.wsn_scan.specs.declared.chunk_reader.ChunkReader.{ChunkReader}
 use Rattle.wsn_scan.specs.declared.scan.Scan.{Scan}
 use Rattle.wsn_scan.specs.ChunkReaders.{HasCome, IsEndOf, IsHaltOf}
-use Rattle.wsn_scan.specs.Judging.{IsReached, IsUnrefused, IsWithinLimit}
+use Rattle.wsn_scan.specs.Judging.{IsReached, IsUnrefused, IsWithinLimit, chunk_size}
 use Rattle.wsn_scan.specs.Positions.{Position, BetweenFrames}
-use Rattle.wsn_scan.specs.Refill.{chunk_size}
 use Rattle.wsn_scan.specs.Scans.{HasScanned}
 use Rattle.wsn_scan.proofs.ChunksSoFar.{received}
 use Rattle.wsn_scan.proofs.JudgedInputs.{stopped_unrefused}

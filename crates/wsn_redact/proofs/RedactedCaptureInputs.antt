@@ -6,7 +6,7 @@ use Rattle.wsn_io.proofs.Received.{consumed_none, consumed_on, consumed_end, con
 use Rattle.wsn_io.proofs.PutTexts.{prints_nothing}
 use Rattle.wsn_rules.specs.Limits.{Limits}
 use Rattle.wsn_rules.specs.TextLines.{ended}
-use Rattle.wsn_scan.specs.Refill.{chunk_size}
+use Rattle.wsn_scan.specs.Judging.{chunk_size}
 use Rattle.wsn_capture.specs.declared.line_fault.LineFault.{LineFault}
 use Rattle.wsn_capture.specs.declared.capture_stop.CaptureStop.TheVariants as capture
 use Rattle.wsn_capture.specs.CaptureLines.{count_of}

@@ -1,13 +1,12 @@
 -- An input that is redacted: the answer is right for the bytes that came, and their redaction was written.
-use Rattle.std.proofs.Common.{◌≡◌, ℕ, ◌+◌, ◌≤◌, true, false, Option, None, Some, Result, Ok, Err, List, [], ◌++◌, length, take, inl, inr, refl, sym, ap, ◌∙◌, subst, append-nil, length-append, arith}
+use Rattle.std.proofs.Common.{◌≡◌, ℕ, ◌+◌, ◌≤◌, false, Option, None, Some, Result, Ok, Err, List, [], ◌++◌, length, take, inl, inr, refl, sym, ap, ◌∙◌, subst, append_assoc, append-nil, length-append, arith}
 use Rattle.std.proofs.KnownBytes.{Appends-nil, Appends-trans}
-use Rattle.std.proofs.lemmas.List.{length-take-le, take_all, take-append-le}
+use Rattle.std.proofs.lemmas.List.{take_all, take-append-le}
 use Rattle.std.specs.Io.KnownBytes.{Consumes, IsAtEnd}
-use Rattle.wsn_io.specs.Transfer.{Incoming, Outgoing, IsConsumed, IsKept, IsReceived, IsWritten, IsPartlyWritten}
+use Rattle.wsn_io.specs.Transfer.{Incoming, Outgoing, IsWritten, IsPartlyWritten}
 use Rattle.wsn_io.specs.declared.stop.Stop.{Stop}
 use Rattle.wsn_io.specs.declared.stop.Stop.TheVariants as stop
 use Rattle.wsn_io.proofs.PutTexts.{put_both, put_front}
-use Rattle.wsn_io.proofs.Received.{consumed_none, consumed_on, consumed_end, consumed_kept, received_of}
 use Rattle.wsn_wire.specs.declared.endpoint.Role.{Role}
 use Rattle.wsn_wire.specs.Frame.{Frame}
 use Rattle.wsn_rules.specs.declared.verdict.Verdict.{Verdict}
@@ -15,12 +14,13 @@ use Rattle.wsn_rules.specs.declared.verdict.Verdict.TheVariants.{Refused}
 use Rattle.wsn_rules.specs.Limits.{Limits}
 use Rattle.wsn_rules.specs.Verdict.{IsVerdict}
 use Rattle.wsn_rules.proofs.LawfulLists.{no_close_nil}
-use Rattle.wsn_scan.specs.declared.refill.ReadChunk.{ReadChunk}
+use Rattle.wsn_scan.specs.declared.chunk_reader.ChunkReader.{ChunkReader}
 use Rattle.wsn_scan.specs.declared.scan.Scan.{Scan}
 use Rattle.wsn_scan.specs.Positions.{Position, BetweenFrames}
-use Rattle.wsn_scan.specs.Refill.{IsChunk, chunk_size, count_of}
+use Rattle.wsn_scan.specs.ChunkReaders.{HasCome, IsEndOf, IsHaltOf}
+use Rattle.wsn_scan.specs.Judging.{chunk_size}
 use Rattle.wsn_scan.specs.Scans.{HasScanned, refusal_in, refusal_judged}
-use Rattle.wsn_scan.proofs.Chunks.{one_past, none_past, most_of, chunk_within}
+use Rattle.wsn_scan.proofs.ChunksSoFar.{received, within_limit}
 use Rattle.wsn_scan.proofs.FollowedScans.{judged_so_far}
 use Rattle.wsn_scan.proofs.ReaderCalls.{refused_as}
 use Rattle.wsn_scan.proofs.Unrefused.{unrefused_first}
@@ -52,19 +52,17 @@ module _ (role : Role) (limits : Limits) where
       (subst (λ (bs : List ℕ). IsRedactionWith role limits bs (Refused h.refusal) written) (sym h.came_is)
       (h.frames, h.refused h.later, subst (IsRedactionAt role limits (h.seen ++ h.later) h.frames (Refused h.refusal)) (sym h.written_is) (h.is_redaction h.later)))
 
-  -- All bytes that came are redacted, and this room is left.
-  pub record HasRedactedInput (old mid : Incoming) (first now : Outgoing) (scan : Scan) (kept : Redactor) (room : ℕ) (came : List ℕ) : Type 0 where
-    pub consumed : IsConsumed old mid came
+  -- All bytes that came are redacted.
+  pub record HasRedactedInput (old mid : Incoming) (chunks : ChunkReader) (first now : Outgoing) (scan : Scan) (kept : Redactor) (came : List ℕ) : Type 0 where
+    pub come : HasCome limits old mid chunks came
     pub text : List ℕ
     pub has_redacted : HasRedacted role limits scan kept came text
     pub written : IsWritten first now text
-    pub room_is : room + length came ≡ limits.input
-    pub unfailed : mid.failed ≡ false
 
-  pub begins : (input : Incoming) (output : Outgoing) (scan : Scan) (kept : Redactor) → HasScanned role limits scan [] [] [] BetweenFrames → KeepsAt kept [] BetweenFrames → kept.done ≡ 0 → input.failed ≡ false → output.failed ≡ false
-      → HasRedactedInput input input output output scan kept limits.input []
-  begins input output scan kept has_scanned keeps none unfailed works = record {
-    consumed = consumed_none input;
+  pub begins : (input : Incoming) (chunks : ChunkReader) (output : Outgoing) (scan : Scan) (kept : Redactor) → HasCome limits input input chunks [] → HasScanned role limits scan [] [] [] BetweenFrames → KeepsAt kept [] BetweenFrames → kept.done ≡ 0 → output.failed ≡ false
+      → HasRedactedInput input input chunks output output scan kept []
+  begins input chunks output scan kept come has_scanned keeps none works = record {
+    come = come;
     text = [];
     has_redacted = inl (record {
       frames = [];
@@ -78,99 +76,66 @@ module _ (role : Role) (limits : Limits) where
       few = omega (arith, none);
     });
     written = (works, Appends-nil output.written);
-    room_is = omega arith;
-    unfailed = unfailed;
   }
 
-  module _ (old mid : Incoming) (first now : Outgoing) (scan : Scan) (kept : Redactor) (room : ℕ) (came : List ℕ) (read : HasRedactedInput old mid first now scan kept room came) where
-    fits : length came ≤ limits.input
-    fits = let all = read.room_is in omega (arith, all)
+  module _ (old mid : Incoming) (chunks : ChunkReader) (first now : Outgoing) (scan : Scan) (kept : Redactor) (came : List ℕ) (read : HasRedactedInput old mid chunks first now scan kept came) where
+    -- no more is read
+    pub stopped : (new : Incoming) (halted : Stop) → IsHaltOf limits old new came halted → IsRedactedInput role limits old new first now (Err halted)
+    stopped new halted halt = by halted halt
+      where
+        redaction : IsRedaction role limits came read.text
+        redaction = some_redaction scan kept came read.text read.has_redacted
 
-    -- a read failed
-    pub stopped : (new : Incoming) → IsKept mid new → new.failed ≡ true → IsRedactedInput role limits old new first now (Err stop.Read)
-    stopped new keeps failed = record {
-      came = came;
-      received = received_of (limits.input + 1) old new came (consumed_kept old mid new came read.consumed keeps) (omega (arith, fits));
-      answer = ((read.text, some_redaction scan kept came read.text read.has_redacted, read.written), fits, failed);
-      at_once = λ is. cc;
-    }
+        by : (s : Stop) → IsHaltOf limits old new came s → IsRedactedInput role limits old new first now (Err s)
+        by stop.InputLimit it = record {
+          came = it.all;
+          received = it.received;
+          answer = ((read.text, subst (λ (bs : List ℕ). IsRedaction role limits bs read.text) (sym it.within) redaction, read.written), it.stops.0, it.stops.1);
+          at_once = λ is. cc;
+        }
+        by stop.Read it =
+            let all : it.all ≡ came = sym (take_all limits.input it.all it.stops.0) ∙ it.within in
+            record {
+              came = it.all;
+              received = it.received;
+              answer = ((read.text, subst (λ (bs : List ℕ). IsRedaction role limits bs read.text) (sym all) redaction, read.written), it.stops.0, it.stops.1);
+              at_once = λ is. cc;
+            }
+        by stop.Memory it = absurd it.stops
+        by stop.Write it = absurd it.stops
 
     -- the input ended
-    pub ended : (new : Incoming) → IsConsumed mid new [] → IsAtEnd new.remaining → new.failed ≡ mid.failed → (v : Verdict) → IsRedactionWith role limits came v read.text → IsRedactedInput role limits old new first now (Ok v)
-    ended new nothing at_end same v is = record {
-      came = came;
-      received = received_of (limits.input + 1) old new came (consumed_end old mid new came read.consumed nothing) (omega (arith, fits));
-      answer = ((read.text, is, read.written), at_end, fits, same ∙ read.unfailed);
-      at_once = λ is. cc;
-    }
+    pub ended : (new : Incoming) → IsEndOf limits old new came → (v : Verdict) → IsRedactionWith role limits came v read.text → IsRedactedInput role limits old new first now (Ok v)
+    ended new end v is = record { came = came; received = end.received; answer = ((read.text, is, read.written), end.at_end, end.within, end.unfailed); at_once = λ is. cc }
 
-    -- ---- one read gave a chunk
+    -- ---- the next chunk came
 
-    module _ (new : Incoming) (buffer : List ℕ) (chunk : ReadChunk) (got : IsChunk mid new room buffer chunk) (next : Scan) (next_kept : Redactor) (out : List ℕ) (step : RedactsOn scan kept next next_kept (take chunk.len buffer) out (length (take chunk.len buffer))) (sized : length out ≡ length (take chunk.len buffer)) (full : length buffer ≡ chunk_size) where
-      abbrev piece : List ℕ
-      piece = take chunk.len buffer
-
-      abbrev all_came : List ℕ
-      all_came = came ++ take (count_of chunk) buffer
-
-      consumed_all : IsConsumed old new all_came
-      consumed_all = consumed_on old mid new came (take (count_of chunk) buffer) read.consumed got.consumed
-
-      length_all : length all_came ≡ length came + count_of chunk
-      length_all = length-append came (take (count_of chunk) buffer) ∙ ap (λ (m : ℕ). length came + m) (length-take-le (count_of chunk) buffer got.in_buffer)
-
-      received_all : IsReceived (limits.input + 1) old new all_came
-      received_all = let all = read.room_is in received_of (limits.input + 1) old new all_came consumed_all (omega (arith, length_all, all, most_of mid new room buffer chunk got))
-
-      unfailed_now : new.failed ≡ false
-      unfailed_now = got.unfailed ∙ read.unfailed
-
-      within_is : take limits.input all_came ≡ came ++ piece
-      within_is = chunk_within mid new room buffer chunk got limits.input came read.room_is
-
+    module _ (new : Incoming) (later : ChunkReader) (piece : List ℕ) (come : HasCome limits old new later (came ++ piece)) (next : Scan) (next_kept : Redactor) (out : List ℕ) (step : RedactsOn scan kept next next_kept piece out (length piece)) (sized : length out ≡ length piece) where
       redacted : HasRedacted role limits next next_kept (came ++ piece) (read.text ++ out)
       redacted =
           subst (λ (bs : List ℕ). HasRedacted role limits next next_kept (came ++ piece) (read.text ++ bs)) (take_all (length piece) out (omega (arith, sized)))
           (subst (λ (bs : List ℕ). HasRedacted role limits next next_kept (came ++ bs) (read.text ++ take (length piece) out)) (take_all (length piece) piece (omega arith)) (step role limits came read.text read.has_redacted))
 
-      whole_redaction : IsRedaction role limits (take limits.input all_came) (read.text ++ out)
-      whole_redaction = subst (λ (bs : List ℕ). IsRedaction role limits bs (read.text ++ out)) (sym within_is) (some_redaction next next_kept (came ++ piece) (read.text ++ out) redacted)
+      pub goes_on : (after : Outgoing) → IsWritten now after out → HasRedactedInput old new later first after next next_kept (came ++ piece)
+      goes_on after put = record { come = come; text = read.text ++ out; has_redacted = redacted; written = put_both first now after read.text out read.written put }
 
-      size_of_piece : length piece ≡ chunk.len
-      size_of_piece = let within = got.in_buffer in length-take-le chunk.len buffer (omega (arith, within))
-
-      pub goes_on : chunk.past_limit ≡ false → (after : Outgoing) → IsWritten now after out → (left : ℕ) → left + chunk.len ≡ room → HasRedactedInput old new first after next next_kept left (came ++ piece)
-      goes_on none after put left left_is = record {
-        consumed = subst (λ (m : ℕ). IsConsumed old new (came ++ take m buffer)) (none_past chunk none) consumed_all;
-        text = read.text ++ out;
-        has_redacted = redacted;
-        written = put_both first now after read.text out read.written put;
-        room_is = let all = read.room_is in omega (arith, all, left_is, size_of_piece, length-append came piece);
-        unfailed = unfailed_now;
-      }
-
-      pub passes_limit : chunk.past_limit ≡ true → (after : Outgoing) → IsWritten now after out → IsRedactedInput role limits old new first after (Err stop.InputLimit)
-      passes_limit past after put = record {
-        came = all_came;
-        received = received_all;
+      pub write_failed : length piece + length come.past ≤ chunk_size → (after : Outgoing) → IsPartlyWritten now after out → IsRedactedInput role limits old new first after (Err stop.Write)
+      write_failed short after partly = record {
+        came = (came ++ piece) ++ come.past;
+        received = received limits old new later (came ++ piece) come;
         answer = (
-          (read.text ++ out, whole_redaction, put_both first now after read.text out read.written put),
-          (let all = read.room_is in omega (arith, length_all, all, got.past past, one_past chunk past)),
-          unfailed_now,
+          (
+            read.text ++ out,
+            subst (λ (bs : List ℕ). IsRedaction role limits bs (read.text ++ out)) (sym (within_limit limits old new later (came ++ piece) come)) (some_redaction next next_kept (came ++ piece) (read.text ++ out) redacted),
+            put_front first now after read.text out read.written partly,
+          ),
+          come.unfailed,
         );
-        at_once = λ is. cc;
-      }
-
-      pub write_failed : (after : Outgoing) → IsPartlyWritten now after out → IsRedactedInput role limits old new first after (Err stop.Write)
-      write_failed after partly = record {
-        came = all_came;
-        received = received_all;
-        answer = ((read.text ++ out, whole_redaction, put_front first now after read.text out read.written partly), unfailed_now);
         at_once = λ is. record {
           done = came;
-          last = take (count_of chunk) buffer;
-          whole = refl;
-          short = omega (arith, full, got.in_buffer, length-take-le (count_of chunk) buffer got.in_buffer);
+          last = piece ++ come.past;
+          whole = append_assoc came piece come.past;
+          short = omega (arith, short, length-append piece come.past);
           redacted = read.text;
           is_redaction = some_redaction scan kept came read.text read.has_redacted;
           more = take partly.1.0 out;

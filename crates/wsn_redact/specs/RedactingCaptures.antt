@@ -5,7 +5,7 @@ use Rattle.std.specs.Io.KnownBytes.{Appends, IsAtEnd}
 use Rattle.wsn_io.specs.Transfer.{Incoming, Outgoing, IsReceived, IsWritten, IsPartlyWritten}
 use Rattle.wsn_rules.specs.Limits.{Limits}
 use Rattle.wsn_rules.specs.TextLines.{IsLine, ended, AreLines}
-use Rattle.wsn_scan.specs.Refill.{chunk_size}
+use Rattle.wsn_scan.specs.Judging.{chunk_size}
 use Rattle.wsn_capture.specs.declared.capture_stop.CaptureStop.TheVariants as capture
 use Rattle.wsn_capture.specs.CaptureAnswers.{begun_most, IsUnfaulted, IsFaultReported}
 use Rattle.wsn_redact.specs.declared.capture_redacting.RedactStop.{RedactStop}

@@ -10,7 +10,7 @@ use crate::redactor::Redactor;
 use std::io::{Read, Write};
 use wsn_io::{Input, Output, Stop, put_line};
 use wsn_rules::{Limits, Refusal, Verdict};
-use wsn_scan::{CHUNK, Part, Scan, Taken, read_chunk};
+use wsn_scan::{CHUNK, ChunkReader, Part, Scan, Taken};
 use wsn_wire::Role;
 
 /// Writes the redaction of a stream, as many bytes as it has, and returns its verdict. `role` is the endpoint that sent
@@ -33,20 +33,14 @@ pub fn redact<R: Read, W: Write>(
 {
     let mut scan = Scan::new(role, limits);
     let mut redactor = Redactor::new();
-    let mut room = limits.input();
+    let mut chunks = ChunkReader::new(limits);
     let mut buffer = [0; CHUNK];
-    loop {
-        let Some(chunk) = read_chunk(input, room, &mut buffer)? else {
-            return Ok(scan.finish());
-        };
-        let piece = &mut buffer[..chunk.len];
+    while let Some(len) = chunks.next(input, &mut buffer)? {
+        let piece = &mut buffer[..len];
         redact_chunk(&mut scan, &mut redactor, piece);
         put_line(output, piece)?;
-        room -= chunk.len as u64;
-        if chunk.past_limit {
-            return Err(Stop::InputLimit);
-        }
     }
+    Ok(scan.finish())
 }
 
 /// Redacts a piece of a stream in place.

@@ -1,7 +1,6 @@
 -- What a judge's answer says of the bytes that came, by what its scan has consumed of them.
-use Rattle.std.proofs.Common.{◌≡◌, ℕ, ◌+◌, ◌<◌, ◌≤◌, Option, false, true, None, Some, Ok, Err, List, [], ◌++◌, length, take, drop, refl, sym, ap, ◌∙◌, subst, append_assoc, append-nil, take-append-drop, length-append, arith}
-use Rattle.std.proofs.lemmas.List.{length-take-le, take-take, take_all, take-append-le}
-use Rattle.std.proofs.Math.Seq.{take-append-add}
+use Rattle.std.proofs.Common.{◌≡◌, ℕ, ◌+◌, ◌<◌, ◌≤◌, Option, None, Some, Ok, Err, List, [], ◌++◌, length, take, drop, refl, sym, ap, ◌∙◌, subst, append_assoc, append-nil, take-append-drop, length-append, arith}
+use Rattle.std.proofs.lemmas.List.{take_all, take-append-le}
 use Rattle.std.specs.Io.KnownBytes.{Consumes, IsAtEnd}
 use Rattle.wsn_wire.specs.declared.endpoint.Role.{Role}
 use Rattle.wsn_wire.specs.Frame.{Frame}
@@ -20,8 +19,7 @@ use Rattle.wsn_scan.specs.Positions.{BetweenFrames}
 use Rattle.wsn_scan.specs.Feeding.{HasScannedBytes, HasFed}
 use Rattle.wsn_scan.specs.declared.chunk_reader.ChunkReader.{ChunkReader}
 use Rattle.wsn_scan.specs.ChunkReaders.{HasCome, IsEndOf, IsHaltOf, StopsAt}
-use Rattle.wsn_scan.specs.Refill.{chunk_size}
-use Rattle.wsn_scan.specs.Judging.{IsJudged, IsJudgedOf, IsReached, IsStopped, IsUnrefused}
+use Rattle.wsn_scan.specs.Judging.{chunk_size, IsJudged, IsJudgedOf, IsReached, IsStopped, IsUnrefused}
 use Rattle.wsn_rules.proofs.StaysRefused.{place_within}
 use Rattle.wsn_scan.proofs.ChunksSoFar.{received}
 use Rattle.wsn_scan.proofs.Unrefused.{unrefused, refused, unrefused_first, place_after}
@@ -68,7 +66,7 @@ module _ (role : Role) (limits : Limits) where
     -- The scan got the next chunk.
     module _ (new : Incoming) (after : ChunkReader) (next : Scan) (piece : List ℕ) (come : HasCome limits old new after (came ++ piece)) where
       pub fits : length piece ≤ room_of scan
-      fits = omega (arith, come.room, room_is scan came heads read.taken, length-append came piece)
+      fits = omega (arith, come.counted.room, room_is scan came heads read.taken, length-append came piece)
 
       -- it has consumed all of it
       pub taken_whole : (fed : HasFed scan next piece None) → HasScannedBytes role limits next (came ++ piece) (heads ++ fed.heads)

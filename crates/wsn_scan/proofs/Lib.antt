@@ -1,5 +1,4 @@
 pub mod BegunFrames
-pub mod Chunks
 pub mod ChunksSoFar
 pub mod CountedParts
 pub mod EmptyFrames

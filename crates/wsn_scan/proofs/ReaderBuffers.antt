@@ -1,14 +1,15 @@
 -- The buffer of a reader of frames, and the bytes that came.
 use Rattle.std.specs.List.{slice_range}
-use Rattle.std.proofs.Common.{◌≡◌, ℕ, ◌+◌, ◌-◌, ◌≤◌, Bool, true, false, List, ◌++◌, length, take, drop, refl, sym, ap, ◌∙◌, arith, length-append, length-drop}
+use Rattle.std.proofs.Common.{◌≡◌, ℕ, ◌+◌, ◌-◌, ◌≤◌, List, ◌++◌, length, take, drop, sym, ap, ◌∙◌, subst, append_assoc, arith, take-append-drop, length-append, length-drop}
 use Rattle.std.proofs.Math.Seq.{drop-append-add}
-use Rattle.std.proofs.lemmas.Bool.{ltb-true, ltb-false}
-use Rattle.std.proofs.lemmas.List.{length-take, length-take-le, drop-append-le, take_all, take-append-le}
+use Rattle.std.proofs.lemmas.List.{length-take-le, drop-append-le, take_all, take-append-le}
 use borrow.Rule.Slice.PartMut.{mid_of, mid_len, post_of, put_mid, put_same}
 use Rattle.wsn_rules.specs.Limits.{Limits}
+use Rattle.wsn_scan.specs.declared.chunk_reader.ChunkReader.{ChunkReader}
 use Rattle.wsn_scan.specs.declared.frame_reader.FrameReader.{FrameReader}
+use Rattle.wsn_scan.specs.ChunkReaders.{HasCounted}
 use Rattle.wsn_scan.specs.FrameReaders.{IsBuffered, unread}
-use Rattle.wsn_scan.specs.Refill.{count_past}
+use Rattle.wsn_scan.proofs.ChunksSoFar.{counted_within}
 
 -- ---- a part of a buffer that a call may write to
 
@@ -38,23 +39,37 @@ module _ (limits : Limits) (reader : FrameReader) (came scanned : List ℕ) (b :
 
   -- the scan has room for the others
   pub within_limit : length scanned + (reader.end - reader.at) ≤ limits.input
-  within_limit =
-      let size : length (take limits.input came) ≡ length scanned + length (unread reader) = ap (λ (bs : List ℕ). length bs) b.within ∙ length-append scanned (unread reader) in
-      omega (arith, size, length_unread, length-take limits.input came)
+  within_limit = let room = b.counted.room in omega (arith, room, length-append scanned (unread reader), length_unread)
 
-  -- one byte more than the limit came, and the buffer had room for it
-  pub past_limit : reader.past ≡ true → length came ≡ limits.input + 1
-  past_limit past = let more = ltb-true limits.input (length came) (b.past ∙ past) in omega (arith, more, b.few)
+  pub within_is : take limits.input came ≡ scanned ++ unread reader
+  within_is = ap (λ (bs : List ℕ). take limits.input bs) b.whole ∙ counted_within limits reader.chunks (scanned ++ unread reader) b.past b.counted
 
-  pub all_within : reader.past ≡ false → came ≡ scanned ++ unread reader
-  all_within none = let few = ltb-false limits.input (length came) (b.past ∙ none) in sym (take_all limits.input came few) ∙ b.within
+  pub length_came : length came ≡ length scanned + ((reader.end - reader.at) + length b.past)
+  length_came =
+      let size = ap (λ (bs : List ℕ). length bs) b.whole in
+      omega (arith, size, length-append (scanned ++ unread reader) b.past, length-append scanned (unread reader), length_unread)
 
-  pub length_came : length came ≤ length scanned + ((reader.end - reader.at) + count_past reader.past)
-  length_came = of reader.past refl
-    where
-      size : length (take limits.input came) ≡ length scanned + length (unread reader)
-      size = ap (λ (bs : List ℕ). length bs) b.within ∙ length-append scanned (unread reader)
+-- n bytes more are scanned
+module _ (old new : FrameReader) (n : ℕ) (kept : slice_range new.buffer (old.at + n) old.end ≡ slice_range old.buffer (old.at + n) old.end) (at_is : new.at ≡ old.at + n) (end_is : new.end ≡ old.end) where
+  pub within : old.at + n ≤ old.end
+  within = let left = new.left in omega (arith, left, at_is, end_is)
 
-      of : (past : Bool) → reader.past ≡ past → length came ≤ length scanned + ((reader.end - reader.at) + count_past past)
-      of true is = let more = past_limit is in let all = length-take-le limits.input came (omega (arith, more)) in omega (arith, more, all, size, length_unread)
-      of false is = let all : length came ≡ length scanned + length (unread reader) = ap (λ (bs : List ℕ). length bs) (all_within is) ∙ length-append scanned (unread reader) in omega (arith, all, length_unread)
+  pub unread_parts : unread old ≡ take n (unread old) ++ unread new
+  unread_parts =
+      sym (take-append-drop n (unread old))
+      ∙ ap (λ (bs : List ℕ). take n (unread old) ++ bs)
+      (sym (range_after old.at old.end n old.buffer old.left (let held = old.held in let size = old.size in omega (arith, held, size)) within) ∙ sym kept
+      ∙ ap (λ (m : ℕ). slice_range new.buffer m old.end) (sym at_is) ∙ ap (λ (m : ℕ). slice_range new.buffer new.at m) (sym end_is))
+
+  pub buffered_on : (limits : Limits) (came scanned : List ℕ) → new.chunks ≡ old.chunks → IsBuffered limits old came scanned → IsBuffered limits new came (scanned ++ take n (unread old))
+  buffered_on limits came scanned chunks_is was =
+      let same : scanned ++ unread old ≡ (scanned ++ take n (unread old)) ++ unread new =
+      ap (λ (bs : List ℕ). scanned ++ bs) unread_parts ∙ sym (append_assoc scanned (take n (unread old)) (unread new)) in
+      record {
+        past = was.past;
+        whole = was.whole ∙ ap (λ (bs : List ℕ). bs ++ was.past) same;
+        counted = subst (λ (bs : List ℕ). HasCounted limits new.chunks bs was.past) same (subst (λ (c : ChunkReader). HasCounted limits c (scanned ++ unread old) was.past) (sym chunks_is) was.counted);
+        few = was.few;
+        small = omega (arith, was.small, end_is);
+        in_bytes = was.in_bytes;
+      }

@@ -1,7 +1,6 @@
 -- What a call of a reader of frames reads and returns, step by step.
-use Rattle.std.specs.Prelude.{◌⊎◌, if◌then◌else◌}
-use Rattle.std.proofs.lemmas.Bool.{le-ltb, cases_eq}
-use Rattle.std.proofs.Common.{◌≡◌, ℕ, ◌+◌, ◌-◌, ◌*◌, ◌<◌, ◌≤◌, Bool, false, arith, Option, None, Some, Result, Ok, Err, List, [], ◌++◌, length, sym, ap, ◌∙◌, subst, inl, inr, append_assoc, append-nil}
+use Rattle.std.specs.Prelude.{◌⊎◌}
+use Rattle.std.proofs.Common.{◌≡◌, ℕ, ◌+◌, ◌≤◌, false, Option, None, Some, Result, Ok, Err, List, [], ◌++◌, length, sym, subst, inl, inr, append_assoc, append-nil}
 use Rattle.wsn_wire.specs.declared.endpoint.Role.{Role}
 use Rattle.wsn_wire.specs.Frame.{Frame}
 use Rattle.wsn_io.specs.Transfer.{Incoming, IsConsumed}
@@ -17,10 +16,10 @@ use Rattle.wsn_scan.specs.declared.part.Taken.TheVariants as taken
 use Rattle.wsn_scan.specs.declared.frame_reader.FrameReader.{FrameReader}
 use Rattle.wsn_io.specs.declared.stop.Stop.{Stop}
 use Rattle.wsn_scan.specs.Positions.{Position}
-use Rattle.wsn_scan.specs.FrameReaders.{HasTaken, IsReading, parts_left}
+use Rattle.wsn_scan.specs.FrameReaders.{HasTaken, IsReading}
 use Rattle.wsn_scan.specs.ReadParts.{ReadsOn, IsNextPart, IsDone}
 use Rattle.wsn_scan.specs.Scans.{refusal_judged}
-use Rattle.wsn_scan.specs.ReaderSteps.{StepsOn, Progresses, IsUsed, IsFilled, HasRefused, idle}
+use Rattle.wsn_scan.specs.ReaderSteps.{StepsOn, IsUsed, IsFilled, HasRefused}
 
 -- A call has read these bytes more and taken nothing yet.
 pub record HasRead (role : Role) (limits : Limits) (old new : Incoming) (reader : FrameReader) (came : List ℕ) (fs : List Frame) (at : Position) : Type 0 where
@@ -87,26 +86,9 @@ module _ (role : Role) (limits : Limits) (old : Incoming) (came : List ℕ) (fs 
 pub reading_of : (role : Role) (limits : Limits) (reader : FrameReader) (came : List ℕ) (fs : List Frame) (at : Position) → HasTaken role limits reader came fs at → IsReading reader
 reading_of role limits reader came fs at has_taken = record { role = role; limits = limits; came = came; frames = fs; position = at; has_taken = has_taken }
 
--- ---- the reads end
-
--- when a scanned buffer is filled again, the bound falls: by the bytes that were scanned, or as the buffer is no longer
--- idle
-pub read_falls : (at end left now next : ℕ) (past : Bool) → at ≤ end → past ≡ false → now + (end - at) ≤ left → next ≡ 0 → 2 * now + next < 2 * left + idle at end past
-read_falls at end left now next past within none falls zero = by (cases_eq at end)
-  where
-    by : (at ≡ end) ⊎ (at ≡ end → ⊥) → 2 * now + next < 2 * left + idle at end past
-    by (inl all) =
-        let one : idle at end past ≡ 1 = ap (λ (b : Bool). idle at end b) none ∙ ap (λ (less : Bool). if less then 0 else 1) (le-ltb at end (omega (arith, all))) in
-        omega (arith, one, falls, zero)
-    by (inr more) = omega (arith, more, within, falls, zero)
-
 -- ---- a call of the scan that took nothing
 
 pub used_by : (role : Role) (limits : Limits) (reader : FrameReader) (part : Part) (came : List ℕ) (fs : List Frame) (at : Position) (found : Taken) → (found ≡ taken.More) ⊎ (found ≡ taken.Closed)
     → StepsOn role limits reader part came fs at found → IsUsed role limits reader came fs at
 used_by role limits reader part came fs at found (inl more) steps = subst (λ (m : Taken). StepsOn role limits reader part came fs at m) more steps
 used_by role limits reader part came fs at found (inr closed) steps = subst (λ (m : Taken). StepsOn role limits reader part came fs at m) closed steps
-
-pub used_falls : (old new : FrameReader) (found : Taken) → (found ≡ taken.More) ⊎ (found ≡ taken.Closed) → Progresses old new found → (parts_left new + (old.end - old.at) ≤ parts_left old) × (new.past ≡ old.past)
-used_falls old new found (inl more) falls = subst (λ (m : Taken). Progresses old new m) more falls
-used_falls old new found (inr closed) falls = subst (λ (m : Taken). Progresses old new m) closed falls

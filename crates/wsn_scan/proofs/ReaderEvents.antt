@@ -1,6 +1,6 @@
 -- Frames that each end an event, taken at once by a reader of frames.
 use Rattle.std.specs.List.{slice_range}
-use Rattle.std.proofs.Common.{◌≡◌, ℕ, ◌+◌, ◌-◌, ◌≤◌, Bool, Option, None, List, [], ◌++◌, take, drop, sym, ap, ◌∙◌, subst, arith, append_assoc, take-append-drop}
+use Rattle.std.proofs.Common.{◌≡◌, ℕ, ◌+◌, ◌-◌, Option, None, List, [], ◌++◌, take, drop, sym, ap, ◌∙◌, subst, arith}
 use Rattle.std.proofs.lemmas.List.{take-take}
 use Rattle.wsn_wire.specs.declared.endpoint.Role.{Role}
 use Rattle.wsn_wire.specs.Frame.{Frame}
@@ -13,10 +13,9 @@ use Rattle.wsn_scan.specs.declared.stage.Stage.{Stage}
 use Rattle.wsn_scan.specs.declared.stage.Stage.TheVariants as stages
 use Rattle.wsn_scan.specs.EventFrames.{TakesEvents, IsIdle}
 use Rattle.wsn_scan.specs.Positions.{Position}
-use Rattle.wsn_scan.specs.FrameReaders.{HasTaken, IsBuffered, TakesRun, unread, held_payload}
-use Rattle.wsn_scan.specs.Refill.{chunk_size, count_past}
+use Rattle.wsn_scan.specs.FrameReaders.{HasTaken, TakesRun, unread, held_payload}
 use Rattle.wsn_scan.specs.Scans.{HasScannedAt, refusal_in}
-use Rattle.wsn_scan.proofs.ReaderBuffers.{range_after}
+use Rattle.wsn_scan.proofs.ReaderBuffers.{within, buffered_on}
 
 -- A call of the scan, which got the unscanned part of the buffer and consumed n bytes of it, whole frames that each end
 -- an event.
@@ -28,32 +27,15 @@ pub record IsRun (old new : FrameReader) (n : ℕ) : Type 0 where
   pub from_is : new.from ≡ old.at
   pub at_is : new.at ≡ old.at + n
   pub end_is : new.end ≡ old.end
-  pub past_is : new.past ≡ old.past
+  pub chunks_is : new.chunks ≡ old.chunks
 
 module _ (old new : FrameReader) (n : ℕ) (call : IsRun old new n) where
-  within : old.at + n ≤ old.end
-  within = let left = new.left in omega (arith, left, call.at_is, call.end_is)
-
-  buffered_on : (limits : Limits) (came scanned : List ℕ) → IsBuffered limits old came scanned → IsBuffered limits new came (scanned ++ take n (unread old))
-  buffered_on limits came scanned was =
-      let parts : unread old ≡ take n (unread old) ++ unread new =
-      sym (take-append-drop n (unread old))
-      ∙ ap (λ (bs : List ℕ). take n (unread old) ++ bs) (sym (range_after old.at old.end n old.buffer old.left (let held = old.held in let size = old.size in omega (arith, held, size)) within) ∙ sym call.kept
-      ∙ ap (λ (m : ℕ). slice_range new.buffer m old.end) (sym call.at_is) ∙ ap (λ (m : ℕ). slice_range new.buffer new.at m) (sym call.end_is)) in
-      record {
-        within = was.within ∙ ap (λ (bs : List ℕ). scanned ++ bs) parts ∙ sym (append_assoc scanned (take n (unread old)) (unread new));
-        past = was.past ∙ sym call.past_is;
-        few = was.few;
-        small = subst (λ (past : Bool). new.end + count_past past ≤ chunk_size) (sym call.past_is) (omega (arith, was.small, call.end_is));
-        in_bytes = was.in_bytes;
-      }
-
   -- the run is what the reader holds
   payload_is : held_payload new ≡ take n (slice_range new.buffer old.at old.end)
   payload_is =
       ap (λ (from : ℕ). take (new.at - from) (drop from new.buffer)) call.from_is
       ∙ ap (λ (m : ℕ). take m (drop old.at new.buffer)) (omega (arith, call.at_is))
-      ∙ sym (take-take n (old.end - old.at) (drop old.at new.buffer) (omega (arith, within)))
+      ∙ sym (take-take n (old.end - old.at) (drop old.at new.buffer) (omega (arith, within old new n call.kept call.at_is call.end_is)))
 
 pub takes_run : (role : Role) (limits : Limits) (old new : FrameReader) (n : ℕ) (came : List ℕ) (fs : List Frame) (at : Position) → HasTaken role limits old came fs at → IsRun old new n → TakesRun role limits new came fs at
 takes_run role limits old new n came fs at h call =
@@ -70,7 +52,7 @@ takes_run role limits old new n came fs at h call =
         since = [];
         has_scanned = took.has_scanned;
         unrefused = call.reported h.unrefused;
-        buffered = buffered_on old new n call limits came h.scanned h.buffered;
+        buffered = buffered_on old new n call.kept call.at_is call.end_is limits came h.scanned call.chunks_is h.buffered;
       };
       none_open = took.none_open;
       means = took.means;

@@ -20,6 +20,7 @@ use Rattle.wsn_scan.specs.Scans.{IsAt, IsInPayload, refusal_at}
 use Rattle.wsn_rules.proofs.HeadsGoOn.{begins_longer}
 use Rattle.wsn_scan.proofs.HeadsReported.{head_begins_at, front_without_evidence}
 use Rattle.wsn_frame.proofs.PayloadMore.{length-unmasked_by}
+use Rattle.wsn_scan.proofs.ReaderBuffers.{within_is}
 
 -- a payload that was taken came
 pub payload_within : (info : HeadInfo) (payload following : List ℕ) → payload ≡ unmasked_by info.key 0 (take (length payload) following) → length payload ≤ length following
@@ -71,7 +72,7 @@ module _ (role : Role) (limits : Limits) where
       few = h.buffered.few;
       lawful = h.has_scanned.has_consumed.lawful;
       rest = h.since ++ unread reader;
-      whole = h.buffered.within ∙ ap (λ (bs : List ℕ). bs ++ unread reader) h.has_scanned.has_consumed.whole ∙ append_assoc (stream fs) h.since (unread reader);
+      whole = within_is limits reader came h.scanned h.buffered ∙ ap (λ (bs : List ℕ). bs ++ unread reader) h.has_scanned.has_consumed.whole ∙ append_assoc (stream fs) h.since (unread reader);
       begun = begun_longer fs h.since (unread reader) at begun;
     }
 

@@ -1,7 +1,7 @@
 -- What one call of the scan means for a reader of frames.
 use Rattle.std.specs.Prelude.{◌↔◌, IsSome}
 use Rattle.std.specs.List.{slice_range}
-use Rattle.std.proofs.Common.{◌≡◌, ℕ, ◌+◌, ◌-◌, ◌≤◌, Bool, true, Option, None, Some, List, [], ◌++◌, length, take, drop, refl, sym, ap, ◌∙◌, subst, arith, append_assoc, append-nil, length-append, take-append-drop}
+use Rattle.std.proofs.Common.{◌≡◌, ℕ, ◌+◌, ◌-◌, ◌≤◌, true, Option, None, Some, List, [], ◌++◌, length, take, drop, refl, sym, ap, ◌∙◌, subst, arith, append_assoc, append-nil, length-append}
 use Rattle.std.proofs.lemmas.List.{take-take, drop-take, drop-drop, length-take-le}
 use Rattle.wsn_wire.specs.declared.endpoint.Role.{Role}
 use Rattle.wsn_wire.specs.Frame.{Frame, IsBytes}
@@ -18,10 +18,9 @@ use Rattle.wsn_scan.specs.Feeding.{HasScannedBytes}
 use Rattle.wsn_scan.specs.Parts.{IsPart, Finds, Consumes}
 use Rattle.wsn_scan.specs.Positions.{Position, begun_at}
 use Rattle.wsn_scan.specs.FrameReaders.{HasTaken, IsBuffered, unread, held_payload}
-use Rattle.wsn_scan.specs.Refill.{chunk_size, count_past}
 use Rattle.wsn_scan.specs.ReaderSteps.{StepsOn, IsUsed, HasRefused}
 use Rattle.wsn_scan.specs.Scans.{HasScanned, HasNoRest, AdvancesFrom, IsReachedBy, IsRefusedThere, room_of, refusal_in}
-use Rattle.wsn_scan.proofs.ReaderBuffers.{range_after, length_unread, length_came}
+use Rattle.wsn_scan.proofs.ReaderBuffers.{length_unread, length_came, within, buffered_on}
 use Rattle.wsn_scan.proofs.Unrefused.{unrefused, refused, place_after}
 
 -- A call of the scan, which got the unscanned part of the buffer and consumed n bytes of it.
@@ -35,7 +34,7 @@ pub record IsCall (old new : FrameReader) (part : Part) (n : ℕ) (found : Taken
   pub from_is : found ≡ taken.Part → new.from ≡ old.at + part.start
   pub at_is : new.at ≡ old.at + n
   pub end_is : new.end ≡ old.end
-  pub past_is : new.past ≡ old.past
+  pub chunks_is : new.chunks ≡ old.chunks
   pub whole : found ≡ taken.Part → part.ends ≡ true → HasNoRest new.scan
 
 -- a scan that a call finds no refusal in has not refused
@@ -60,11 +59,11 @@ module _ (role : Role) (limits : Limits) (old new : FrameReader) (part : Part) (
   unread_size = length_unread limits old came h.scanned h.buffered
 
   module _ (found : Taken) (call : IsCall old new part n found) where
-    within : old.at + n ≤ old.end
-    within = let left = new.left in omega (arith, left, call.at_is, call.end_is)
+    in_unread : old.at + n ≤ old.end
+    in_unread = within old new n call.kept call.at_is call.end_is
 
     length-share : length share ≡ n
-    length-share = length-take-le n (unread old) (omega (arith, unread_size, within))
+    length-share = length-take-le n (unread old) (omega (arith, unread_size, in_unread))
 
     -- the part's payload is what the reader holds
     payload_is : found ≡ taken.Part → drop part.start after ≡ held_payload new
@@ -75,27 +74,15 @@ module _ (role : Role) (limits : Limits) (old new : FrameReader) (part : Part) (
         let sum : n ≡ start + count = omega (arith, call.start is) in
         let from : new.from ≡ old.at + start = call.from_is is in
         let size : new.at - new.from ≡ count = omega (arith, from, call.at_is) in
-        ap (λ (bs : List ℕ). drop start bs) (take-take n (old.end - old.at) back (omega (arith, within)))
+        ap (λ (bs : List ℕ). drop start bs) (take-take n (old.end - old.at) back (omega (arith, in_unread)))
         ∙ ap (λ (m : ℕ). drop start (take m back)) sum ∙ drop-take start count back ∙ ap (λ (bs : List ℕ). take count bs) (drop-drop start old.at new.buffer)
         ∙ sym (ap (λ (m : ℕ). take m (drop new.from new.buffer)) size ∙ ap (λ (m : ℕ). take count (drop m new.buffer)) from)
-
-    parts : unread old ≡ share ++ unread new
-    parts =
-        sym (take-append-drop n (unread old))
-        ∙ ap (λ (bs : List ℕ). share ++ bs) (sym (range_after old.at old.end n old.buffer old.left (let held = old.held in let size = old.size in omega (arith, held, size)) within) ∙ sym call.kept
-        ∙ ap (λ (m : ℕ). slice_range new.buffer m old.end) (sym call.at_is) ∙ ap (λ (m : ℕ). slice_range new.buffer new.at m) (sym call.end_is))
 
     reached : IsReachedBy role limits new.scan (h.scanned ++ share) (Finds found part (drop part.start after) fs at) × Consumes found part (length (unread old)) n
     reached = call.advances role limits h.scanned h.since fs at call.in_bytes h.has_scanned
 
     buffered : IsBuffered limits new came (h.scanned ++ share)
-    buffered = record {
-      within = h.buffered.within ∙ ap (λ (bs : List ℕ). h.scanned ++ bs) parts ∙ sym (append_assoc h.scanned share (unread new));
-      past = h.buffered.past ∙ sym call.past_is;
-      few = h.buffered.few;
-      small = subst (λ (past : Bool). new.end + count_past past ≤ chunk_size) (sym call.past_is) (omega (arith, h.buffered.small, call.end_is));
-      in_bytes = h.buffered.in_bytes;
-    }
+    buffered = buffered_on old new n call.kept call.at_is call.end_is limits came h.scanned call.chunks_is h.buffered
 
     taken_to : (found ≡ taken.Refused → ⊥) → (frames : List Frame) (since : List ℕ) (position : Position) → HasScanned role limits new.scan (h.scanned ++ share) frames since position → HasTaken role limits new came frames position
     taken_to other frames since position has_scanned = record {
@@ -147,10 +134,7 @@ module _ (role : Role) (limits : Limits) (old new : FrameReader) (part : Part) (
     where
       -- what came continues what was scanned
       goes_on : IsCall old new part n taken.Refused → (more : List ℕ) × (came ≡ (h.scanned ++ share) ++ more)
-      goes_on c = (
-        unread new ++ drop limits.input came,
-        sym (take-append-drop limits.input came) ∙ ap (λ (bs : List ℕ). bs ++ drop limits.input came) (buffered taken.Refused c).within ∙ append_assoc (h.scanned ++ share) (unread new) (drop limits.input came),
-      )
+      goes_on c = let b = buffered taken.Refused c in (unread new ++ b.past, b.whole ∙ append_assoc (h.scanned ++ share) (unread new) b.past)
 
   pub steps : (found : Taken) → IsCall old new part n found → StepsOn role limits new part came fs at found
   steps taken.Part call =

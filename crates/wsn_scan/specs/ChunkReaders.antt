@@ -1,19 +1,28 @@
 -- An input that is read in chunks up to its limit: what has come, and what the next read gives.
-use Rattle.std.specs.Prelude.{◌≡◌, ℕ, ◌+◌, ◌<◌, ◌≤◌, true, false, Option, Some, None, Result, Ok, Err, List, [], ◌++◌, length, take, if◌then◌else◌}
+use Rattle.std.specs.Prelude.{◌≡◌, ℕ, ◌+◌, ◌≤◌, Bool, true, false, Option, Some, None, Result, Ok, Err, List, [], ◌++◌, length, take, if◌then◌else◌}
 use Rattle.std.specs.Io.KnownBytes.{IsAtEnd}
 use Rattle.wsn_io.specs.Transfer.{Incoming, IsConsumed, IsReceived}
 use Rattle.wsn_io.specs.declared.stop.Stop.{Stop}
 use Rattle.wsn_io.specs.declared.stop.Stop.TheVariants as stop
+use Rattle.wsn_wire.specs.Frame.{IsBytes}
 use Rattle.wsn_rules.specs.Limits.{Limits}
 use Rattle.wsn_scan.specs.declared.chunk_reader.ChunkReader.{ChunkReader}
+
+-- whether a byte past the limit came
+abbrev pub has_passed : ChunkReader → Bool
+has_passed chunks = chunks.past_limit
+
+-- The reader has counted these bytes within the limit, and these past it: at most one.
+pub record HasCounted (limits : Limits) (chunks : ChunkReader) (came past : List ℕ) : Type 0 where
+  pub room : chunks.room + length came ≡ limits.input
+  pub full : chunks.past_limit ≡ true → (chunks.room ≡ 0) × (length past ≡ 1)
+  pub none : chunks.past_limit ≡ false → past ≡ []
 
 -- In the chunks so far these bytes came, all within the limit; and after them perhaps one byte past it.
 pub record HasCome (limits : Limits) (first now : Incoming) (chunks : ChunkReader) (came : List ℕ) : Type 0 where
   pub past : List ℕ
   pub consumed : IsConsumed first now (came ++ past)
-  pub room : chunks.room + length came ≡ limits.input
-  pub full : chunks.past_limit ≡ true → (chunks.room ≡ 0) × (length past ≡ 1)
-  pub none : chunks.past_limit ≡ false → past ≡ []
+  pub counted : HasCounted limits chunks came past
   pub unfailed : now.failed ≡ false
 
 -- a bound on how many chunks can still come
@@ -26,6 +35,7 @@ pub record IsChunkOf (limits : Limits) (first new : Incoming) (chunks : ChunkRea
   pub in_buffer : n ≤ length buffer
   pub come : HasCome limits first new chunks (came ++ take n buffer)
   pub short : n + length come.past ≤ length buffer
+  pub in_bytes : IsBytes (take n buffer ++ come.past)
 
 -- The input has ended, within its limit.
 pub record IsEndOf (limits : Limits) (first new : Incoming) (came : List ℕ) : Type 0 where

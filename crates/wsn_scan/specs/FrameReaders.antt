@@ -1,5 +1,5 @@
 -- A reader of frames: what it has taken of the bytes that it has read, and what its buffer holds.
-use Rattle.std.specs.Prelude.{◌≡◌, ℕ, ◌+◌, ◌≤◌, None, List, [], ◌++◌, length, take, nat_lt}
+use Rattle.std.specs.Prelude.{◌≡◌, ℕ, ◌+◌, ◌≤◌, None, List, [], ◌++◌, length}
 use Rattle.std.specs.List.{slice_range}
 use Rattle.wsn_wire.specs.declared.endpoint.Role.{Role}
 use Rattle.wsn_wire.specs.Frame.{Frame, IsBytes}
@@ -9,7 +9,8 @@ use Rattle.wsn_rules.specs.Meaning.{MeantEvent, meaning}
 use Rattle.wsn_rules.specs.NormalForm.{normal_form}
 use Rattle.wsn_scan.specs.declared.frame_reader.FrameReader.{FrameReader}
 use Rattle.wsn_scan.specs.Positions.{Position, BetweenFrames}
-use Rattle.wsn_scan.specs.Refill.{chunk_size, count_past}
+use Rattle.wsn_scan.specs.ChunkReaders.{HasCounted}
+use Rattle.wsn_scan.specs.Judging.{chunk_size}
 use Rattle.wsn_scan.specs.Scans.{HasScanned, room_of, refusal_in}
 
 -- ---- what the buffer holds
@@ -25,10 +26,11 @@ held_payload reader = slice_range reader.buffer reader.from reader.at
 -- Of the bytes that came within the limit, the scan has consumed these, and the buffer holds the others. At most one
 -- byte past the limit came.
 pub record IsBuffered (limits : Limits) (reader : FrameReader) (came scanned : List ℕ) : Type 0 where
-  pub within : take limits.input came ≡ scanned ++ unread reader
-  pub past : nat_lt limits.input (length came) ≡ reader.past
+  pub past : List ℕ
+  pub whole : came ≡ (scanned ++ unread reader) ++ past
+  pub counted : HasCounted limits reader.chunks (scanned ++ unread reader) past
   pub few : length came ≤ limits.input + 1
-  pub small : reader.end + count_past reader.past ≤ chunk_size
+  pub small : reader.end + length past ≤ chunk_size
   pub in_bytes : IsBytes came
 
 -- ---- the reader

@@ -11,11 +11,10 @@ use Rattle.wsn_rules.specs.Heads.{heads_of, AreHeads}
 use Rattle.wsn_rules.specs.Verdict.{IsVerdict}
 use Rattle.wsn_scan.specs.declared.frame_reader.FrameReader.{FrameReader}
 use Rattle.wsn_scan.specs.declared.part.Part.{Part}
-use Rattle.wsn_scan.specs.Judging.{IsReached, IsStopped}
+use Rattle.wsn_scan.specs.Judging.{IsReached, IsStopped, chunk_size}
 use Rattle.wsn_scan.specs.Positions.{Position, begun_at}
 use Rattle.wsn_scan.specs.Parts.{IsPart, IsWholeMessage}
 use Rattle.wsn_scan.specs.FrameReaders.{HasTaken, held_payload}
-use Rattle.wsn_scan.specs.Refill.{chunk_size}
 
 -- It takes this part of a frame, whose payload it holds. At most `chunk_size` bytes came after the frame's end, if the
 -- part ends it.

@@ -1,5 +1,5 @@
 -- What one call of the scan, and one read, do for a reader of frames.
-use Rattle.std.specs.Prelude.{◌≡◌, ℕ, ◌+◌, ◌-◌, ◌<◌, ◌≤◌, ⊤, Bool, false, Option, None, Some, Result, Ok, Err, List, ◌++◌, length, nat_lt, if◌then◌else◌}
+use Rattle.std.specs.Prelude.{◌≡◌, ℕ, ◌+◌, ◌<◌, ◌≤◌, false, Option, None, Some, Result, Ok, Err, List, ◌++◌, length}
 use Rattle.wsn_wire.specs.declared.endpoint.Role.{Role}
 use Rattle.wsn_wire.specs.Frame.{Frame}
 use Rattle.wsn_io.specs.Transfer.{Incoming, IsConsumed}
@@ -14,8 +14,8 @@ use Rattle.wsn_scan.specs.declared.part.Taken.TheVariants as taken
 use Rattle.wsn_scan.specs.declared.frame_reader.FrameReader.{FrameReader}
 use Rattle.wsn_scan.specs.Positions.{Position}
 use Rattle.wsn_scan.specs.Scans.{refusal_in}
-use Rattle.wsn_scan.specs.FrameReaders.{HasTaken, parts_left}
-use Rattle.wsn_scan.specs.Refill.{chunk_size}
+use Rattle.wsn_scan.specs.FrameReaders.{HasTaken}
+use Rattle.wsn_scan.specs.Judging.{chunk_size}
 use Rattle.wsn_scan.specs.ReadParts.{TakesPart, AllTaken, IsDone, IsHaltedAt}
 
 -- All bytes that came are scanned.
@@ -47,25 +47,11 @@ StepsOn role limits reader part came fs at taken.Refused = HasRefused role limit
 StepsOn role limits reader part came fs at taken.More = IsUsed role limits reader came fs at
 StepsOn role limits reader part came fs at taken.Closed = IsUsed role limits reader came fs at
 
--- The call makes progress: it consumes a byte, or all that the buffer holds.
-abbrev pub Progresses : FrameReader → FrameReader → Taken → Type 0
-Progresses old new taken.Part = parts_left new < parts_left old
-Progresses old new taken.Refused = ⊤
-Progresses old new found = (parts_left new + (old.end - old.at) ≤ parts_left old) × (new.past ≡ old.past)
-
--- 1 if all of the buffer is scanned and no byte past the limit came, otherwise 0
-abbrev pub idle : ℕ → ℕ → Bool → ℕ
-idle at end past = if past then 0 else if nat_lt at end then 0 else 1
-
--- the same for a reader
-abbrev pub idle_of : FrameReader → ℕ
-idle_of reader = idle reader.at reader.end reader.past
-
 -- A read gave more to scan, or a byte past the limit; or the verdict at the input's end; or a stop.
 abbrev pub IsFilledBy : Role → Limits → Incoming → FrameReader → List ℕ → List Frame → Position →
     Result (Option Verdict) Stop → Type 0
 IsFilledBy role limits new reader came fs at (Ok None) =
-    HasTaken role limits reader came fs at × (idle_of reader ≡ 0) × (new.failed ≡ false)
+    HasTaken role limits reader came fs at × (new.failed ≡ false)
 IsFilledBy role limits new reader came fs at (Ok (Some verdict)) = IsDone role limits new came fs at verdict
 IsFilledBy role limits new reader came fs at (Err halted) = IsHaltedAt role limits new came fs at halted
 

@@ -9,7 +9,6 @@ pub use Rattle.wsn_rules.specs.Verdict.{IsVerdict}
 pub use Rattle.wsn_rules.specs.declared.head_info.HeadInfo.{HeadInfo}
 pub use Rattle.wsn_rules.specs.declared.verdict.Verdict.{Verdict}
 pub use Rattle.wsn_scan.specs.Judging.{IsJudged, IsUnrefused}
-pub use Rattle.wsn_scan.specs.Refill.{IsRefilled}
 pub use Rattle.wsn_scan.specs.declared.scan.Scan.{Scan}
 pub use Rattle.wsn_io.specs.declared.stop.Stop.{Stop}
 pub use Rattle.wsn_frame.specs.PartialHeads.{info_at}
@@ -18,7 +17,7 @@ pub use Rattle.wsn_scan.specs.Positions.{Position, BetweenFrames, InFrame, begun
 pub use Rattle.wsn_scan.specs.Parts.{Consumes, FindsByCase}
 pub use Rattle.wsn_scan.specs.FrameReaders.{HasTaken, IsReading, parts_left, held_payload, TakesRun}
 pub use Rattle.wsn_scan.specs.ReadParts.{ReadsOn, TakesMessage}
-pub use Rattle.wsn_scan.specs.ReaderSteps.{StepsOn, Progresses, IsUsed, IsFilled}
+pub use Rattle.wsn_scan.specs.ReaderSteps.{StepsOn, IsUsed, IsFilled}
 pub use Rattle.wsn_scan.specs.Scans.{HasScanned, refusal_in, room_of, taken_of, ScanCall, IsAdvance, IsAnswered, AdvancesFrom, BeginsFrame, ContinuesHead, BeginsAt, Unmasks, HasNoRest}
 pub use Rattle.wsn_scan.specs.Scans.{AddsPart, EndsFrame, IsCutAt, IsStageAfter, TakesPart, TakesFound, refusal_of, refusal_at, refusal_judged, summary_of}
 pub use Rattle.wsn_scan.specs.Scans.{verdict_between}

@@ -1,13 +1,16 @@
-ghost use Rattle.std.specs.Prelude.{◌≡◌, ℕ, ◌<◌, List, [], false, Ok, Some, length};
+ghost use Rattle.std.specs.Prelude.{◌≡◌, ℕ, ◌<◌, ◌↔◌, List, [], false, true, Ok, Err, Some, length};
 ghost use Rattle.wsn_io.specs.Transfer.{Incoming};
 ghost use Rattle.wsn_rules.specs.Limits.{Limits};
-ghost use Rattle.wsn_scan.specs.ChunkReaders.{HasCome, IsNextOf, reads_left};
+ghost use Rattle.wsn_scan.specs.Words.{Stop};
+ghost use Rattle.wsn_scan.specs.ChunkReaders.{HasCome, IsNextOf, has_passed, reads_left};
 
-use crate::refill::refill;
 use std::io::Read;
 use wsn_io::Stop;
 use wsn_rules::Limits;
 use wsn_wire::Input;
+
+/// The maximum number of bytes that one read returns.
+pub const CHUNK: usize = 4096;
 
 /// Reads an input in chunks up to the input limit. All that reads a stream to its end or up to an answer is a loop over
 /// [`next`](ChunkReader::next).
@@ -32,8 +35,8 @@ impl ChunkReader {
     /// Reads the next chunk into the start of `buffer` and returns how many bytes it has within the input limit. `None`
     /// at the end of the input.
     ///
-    /// Errors: `Read` if the read fails; `InputLimit` if a byte past the input limit came after the last chunk. Then
-    /// nothing is read.
+    /// Errors: `Read` if the read fails: then no byte of the input is consumed; `InputLimit` if a byte past the input
+    /// limit came after the last chunk: then nothing is read.
     #[tactic(none)]
     pub fn next<R: Read>(
         &mut self,
@@ -45,15 +48,22 @@ impl ChunkReader {
             HasCome limits first input.old self.old came →
             IsNextOf limits first input.new self.new came buffer.new result }
         ensures falls { (n : ℕ) → result ≡ Ok (Some n) → reads_left self.new < reads_left self.old }
+        ensures limit { (result ≡ Err Stop.InputLimit) ↔ (has_passed self.old ≡ true) }
+        ensures kept { has_passed self.old ≡ true → input.new ≡ input.old }
     {
         if self.past_limit {
             return Err(Stop::InputLimit);
         }
-        let Some(chunk) = refill(input, self.room, buffer)? else {
-            return Ok(None);
+        let wanted = self.room.saturating_add(1).min(buffer.len() as u64) as usize;
+        let Some(count) = input.read(&mut buffer[..wanted]) else {
+            return Err(Stop::Read);
         };
-        self.room -= chunk.len as u64;
-        self.past_limit = chunk.past_limit;
-        Ok(Some(chunk.len))
+        if count == 0 {
+            return Ok(None);
+        }
+        let len = self.room.min(count as u64) as usize;
+        self.room -= len as u64;
+        self.past_limit = count > len;
+        Ok(Some(len))
     }
 }

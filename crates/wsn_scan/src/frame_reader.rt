@@ -2,12 +2,13 @@ ghost use Rattle.std.specs.Prelude.{◌≡◌, ℕ, ◌+◌, ◌<◌, ◌≤◌,
 ghost use Rattle.std.specs.List.{slice_range};
 ghost use Rattle.wsn_wire.specs.Frame.{Frame, IsBytes, first_byte};
 ghost use Rattle.wsn_rules.specs.NormalForm.{op_of};
-ghost use Rattle.wsn_scan.specs.Refill.{chunk_size};
+ghost use Rattle.wsn_scan.specs.Judging.{chunk_size};
+ghost use Rattle.wsn_scan.specs.ChunkReaders.{reads_left};
 ghost use Rattle.wsn_scan.specs.Scans.{AdvancesFrom, HasNoRest, IsAdvance, room_of, refusal_in};
 ghost use Rattle.wsn_scan.specs.EventFrames.{TakesEvents, IsIdle, whole_part};
 
+use crate::chunk_reader::{CHUNK, ChunkReader};
 use crate::part::{Part, Taken};
-use crate::refill::{CHUNK, refill};
 use crate::scan::Scan;
 use std::io::Read;
 use wsn_io::Stop;
@@ -19,13 +20,12 @@ use wsn_wire::{Input, Kind, Role};
 #[derive(Drop)]
 pub struct FrameReader {
     scan: Scan,
+    chunks: ChunkReader,
     buffer: [u8; CHUNK],
     /// The payload that was taken last is `from..at` of the buffer; `at..end` isn't scanned yet.
     from: usize,
     at: usize,
     end: usize,
-    /// One byte past the input limit came.
-    past: bool,
     ghost scanned: { from ≤ at },
     ghost left: { at ≤ end },
     ghost held: { end ≤ chunk_size },
@@ -33,7 +33,7 @@ pub struct FrameReader {
 }
 
 impl FrameReader {
-    ghost use Rattle.wsn_scan.specs.Words.{Position, BetweenFrames, HasTaken, IsReading, parts_left, held_payload, ReadsOn, StepsOn, Progresses, IsUsed, IsFilled, TakesRun, TakesMessage};
+    ghost use Rattle.wsn_scan.specs.Words.{Position, BetweenFrames, HasTaken, IsReading, parts_left, held_payload, ReadsOn, StepsOn, IsUsed, IsFilled, TakesRun, TakesMessage};
 
     /// A reader that has read nothing. `role` is the endpoint that sent the stream. It allocates no memory.
     #[tactic(none)]
@@ -42,11 +42,11 @@ impl FrameReader {
     {
         FrameReader {
             scan: Scan::new(role, limits),
+            chunks: ChunkReader::new(limits),
             buffer: [0; CHUNK],
             from: 0,
             at: 0,
             end: 0,
-            past: false,
         }
     }
 
@@ -141,7 +141,9 @@ impl FrameReader {
         ensures taken { (role : Role) (limits : _) (came : List ℕ) (fs : List Frame) (at : Position) →
             HasTaken role limits self.old came fs at →
             StepsOn role limits self.new part.new came fs at result }
-        ensures falls { Progresses self.old self.new result }
+        ensures left { parts_left self.new ≤ parts_left self.old }
+        ensures falls { result ≡ Taken.Part → parts_left self.new < parts_left self.old }
+        ensures chunks { self.new.chunks ≡ self.old.chunks }
     {
         if self.at == self.end {
             return Taken::More;
@@ -163,20 +165,15 @@ impl FrameReader {
         ensures filled { (role : Role) (limits : _) (came : List ℕ) (fs : List Frame) (at : Position) →
             IsUsed role limits self.old came fs at →
             IsFilled role limits input.old input.new self.new came fs at result }
-        ensures left { parts_left self.new ≡ parts_left self.old }
         ensures scan { self.new.scan ≡ self.old.scan }
-        ensures within { result ≡ Ok None → self.old.past ≡ false }
+        ensures falls { result ≡ Ok None → reads_left self.new.chunks < reads_left self.old.chunks }
     {
-        if self.past {
-            return Err(Stop::InputLimit);
-        }
-        let Some(chunk) = refill(input, self.scan.room(), &mut self.buffer)? else {
+        let Some(len) = self.chunks.next(input, &mut self.buffer)? else {
             return Ok(Some(self.scan.finish()));
         };
         self.from = 0;
         self.at = 0;
-        self.end = chunk.len;
-        self.past = chunk.past_limit;
+        self.end = len;
         Ok(None)
     }
 }

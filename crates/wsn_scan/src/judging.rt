@@ -1,8 +1,7 @@
 ghost use Rattle.std.specs.Prelude.{◌≡◌, ℕ, ◌<◌, List, Some, length, take, IfOk, Err, ◌↔◌, false, true};
 ghost use Rattle.wsn_scan.specs.Words.{Frame, IsJudged, IsUnrefused, IsVerdict};
 
-use crate::chunk_reader::ChunkReader;
-use crate::refill::CHUNK;
+use crate::chunk_reader::{CHUNK, ChunkReader};
 use crate::scan::Scan;
 use std::io::Read;
 use wsn_io::Stop;

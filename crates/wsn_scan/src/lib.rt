@@ -12,15 +12,13 @@ mod frame_reader;
 mod judging;
 pub mod laws;
 mod part;
-mod refill;
 mod scan;
 mod stage;
 
-pub use chunk_reader::ChunkReader;
+pub use chunk_reader::{CHUNK, ChunkReader};
 pub use frame_reader::FrameReader;
 pub use judging::judge;
 pub use part::{Part, Taken};
-pub use refill::{CHUNK, ReadChunk, refill as read_chunk};
 pub use scan::Scan;
 pub use wsn_io::Stop;
 pub use wsn_rules::{HeadInfo, INPUT_MAX, Limits, MESSAGE_MAX, Refusal, Summary, Verdict};

@@ -5,7 +5,7 @@ use Rattle.wsn_io.specs.Transfer.{Incoming, Outgoing, IsConsumed, IsKept}
 use Rattle.wsn_io.proofs.Received.{consumed_none, consumed_on, consumed_end, consumed_kept, received_of}
 use Rattle.wsn_io.proofs.PutTexts.{prints_nothing}
 use Rattle.wsn_rules.specs.Limits.{Limits}
-use Rattle.wsn_scan.specs.Refill.{chunk_size}
+use Rattle.wsn_scan.specs.Judging.{chunk_size}
 use Rattle.wsn_print.specs.declared.style.Style.{Style}
 use Rattle.wsn_show.specs.Styles.{styled_line}
 use Rattle.wsn_capture.specs.declared.capture_report.CaptureReport.{CaptureReport}

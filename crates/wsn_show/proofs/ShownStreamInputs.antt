@@ -1,14 +1,13 @@
 -- An input whose stream is shown: the answer fits the bytes that came.
-use Rattle.std.proofs.Common.{◌≡◌, ◌≢◌, ℕ, ◌+◌, ◌<◌, ◌≤◌, false, true, Result, Ok, Err, List, [], ◌++◌, length, take, drop, inl, inr, refl, sym, ap, ◌∙◌, subst, append_assoc, append-nil, length-append, arith}
+use Rattle.std.proofs.Common.{◌≡◌, ◌≢◌, ℕ, ◌+◌, ◌<◌, ◌≤◌, false, true, Result, Ok, Err, List, [], ◌++◌, length, take, inl, inr, refl, sym, ap, ◌∙◌, subst, append_assoc, append-nil, length-append, arith}
 use Rattle.std.proofs.KnownBytes.{Appends-nil, Appends-trans}
-use Rattle.std.proofs.lemmas.List.{length-take-le, take_all, take-append-drop, map-append}
+use Rattle.std.proofs.lemmas.List.{take_all, map-append}
 use Rattle.std.proofs.lemmas.List.Concat.{flat_map-append}
-use Rattle.std.specs.Io.KnownBytes.{Appends, IsAtEnd}
-use Rattle.wsn_io.specs.Transfer.{Incoming, Outgoing, IsConsumed, IsKept, IsReceived, IsWritten, IsPartlyWritten, IsWrittenUpToFailure}
+use Rattle.std.specs.Io.KnownBytes.{Appends}
+use Rattle.wsn_io.specs.Transfer.{Incoming, Outgoing, IsReceived, IsWritten, IsPartlyWritten, IsWrittenUpToFailure}
 use Rattle.wsn_io.specs.declared.stop.Stop.{Stop}
 use Rattle.wsn_io.specs.declared.stop.Stop.TheVariants as stop
 use Rattle.wsn_io.proofs.PutTexts.{put_both, put_front, prints_on, prints_no_more}
-use Rattle.wsn_io.proofs.Received.{consumed_none, consumed_on, consumed_end, consumed_kept, received_of}
 use Rattle.wsn_wire.specs.Frame.{Frame}
 use Rattle.wsn_wire.specs.declared.endpoint.Role.{Role}
 use Rattle.wsn_rules.specs.declared.verdict.Refusal.{Refusal}
@@ -23,11 +22,12 @@ use Rattle.wsn_rules.proofs.StaysRefused.{place_within, stays_refused}
 use Rattle.wsn_rules.proofs.ShownStreams.{shown_goes_on}
 use Rattle.wsn_rules.proofs.ShownLines.{nothing_shown}
 use Rattle.wsn_print.specs.ShownParts.Position.{InStream}
-use Rattle.wsn_scan.specs.declared.refill.ReadChunk.{ReadChunk}
-use Rattle.wsn_scan.specs.Refill.{IsChunk, chunk_size, count_of}
-use Rattle.wsn_scan.specs.Judging.{IsReached, IsUnrefused}
+use Rattle.wsn_scan.specs.declared.chunk_reader.ChunkReader.{ChunkReader}
+use Rattle.wsn_scan.specs.ChunkReaders.{HasCome, IsEndOf, IsHaltOf}
+use Rattle.wsn_scan.specs.Judging.{chunk_size, IsReached, IsUnrefused}
 use Rattle.wsn_list.specs.Listing.{IsEnded, IsListAnswer, IsReadUpToRefusal}
-use Rattle.wsn_scan.proofs.Chunks.{one_past, none_past, in_count, most_of, chunk_within}
+use Rattle.wsn_scan.proofs.ChunksSoFar.{received, within_limit}
+use Rattle.wsn_scan.proofs.JudgedInputs.{stopped_unrefused}
 use Rattle.wsn_scan.proofs.Unrefused.{place_after}
 use Rattle.wsn_print.specs.declared.style.Style.{Style}
 use Rattle.wsn_show.specs.Styles.{styled_item, styled_items, styled_verdict}
@@ -37,29 +37,27 @@ use Rattle.wsn_show.specs.StreamShows.{IsItemText, IsLeftWith, IsStreamText, IsP
 
 module _ (role : Role) (limits : Limits) (style : Style) where
   -- All bytes that came aren't refused, and what is shown of them was printed.
-  pub record HasShownInput (old mid : Incoming) (first now : Outgoing) (view : Viewed) (came : List ℕ) : Type 0 where
-    pub consumed : IsConsumed old mid came
+  pub record HasShownInput (old mid : Incoming) (chunks : ChunkReader) (first now : Outgoing) (view : Viewed) (came : List ℕ) : Type 0 where
+    pub come : HasCome limits old mid chunks came
     pub viewed : HasViewed role limits style view came
     pub unrefused : IsUnrefused role limits came
     pub text : List ℕ
     pub is_text : IsItemText role limits style came text
     pub written : IsWritten first now text
-    pub unfailed : mid.failed ≡ false
 
   none_refused : IsUnrefused role limits []
   none_refused fs place reason refused =
       let within = place_within role limits fs [] place reason refused.is_evident in absurd (omega (arith, within))
 
-  pub begins : (input : Incoming) (output : Outgoing) (view : Viewed) → HasViewed role limits style view [] → input.failed ≡ false → output.failed ≡ false →
-      HasShownInput input input output output view []
-  begins input output view viewed unfailed works = record {
-    consumed = consumed_none input;
+  pub begins : (input : Incoming) (chunks : ChunkReader) (output : Outgoing) (view : Viewed) → HasCome limits input input chunks [] → HasViewed role limits style view [] → output.failed ≡ false →
+      HasShownInput input input chunks output output view []
+  begins input chunks output view come viewed works = record {
+    come = come;
     viewed = viewed;
     unrefused = none_refused;
     text = [];
     is_text = record { shown = []; is_shown = nothing_shown style.detail limits role; is = refl };
     written = (works, Appends-nil output.written);
-    unfailed = unfailed;
   }
 
   -- what follows a text that was written, up to a failed write
@@ -123,45 +121,51 @@ module _ (role : Role) (limits : Limits) (style : Style) where
           ),
         )
 
-  module _ (old mid : Incoming) (first now : Outgoing) (view : Viewed) (came : List ℕ) (read : HasShownInput old mid first now view came) where
-    few : length came ≤ limits.input
-    few = let room = read.viewed.room in omega (arith, room)
-
-    within_all : take limits.input came ≡ came
-    within_all = take_all limits.input came few
-
-    -- a read failed
-    pub stopped : (new : Incoming) → IsKept mid new → new.failed ≡ true → IsStreamShown role limits style old new first now (Err stop.Read)
-    stopped new keeps failed = record {
-      came = came;
-      received = received_of (limits.input + 1) old new came (consumed_kept old mid new came read.consumed keeps) (omega (arith, few));
-      answer = (failed, few, read.unrefused);
-      printed = (read.text, subst (λ (bs : List ℕ). IsItemText role limits style bs read.text) (sym within_all) read.is_text, read.written);
-      at_once = λ is. cc;
-    }
+  module _ (old mid : Incoming) (chunks : ChunkReader) (first now : Outgoing) (view : Viewed) (came : List ℕ) (read : HasShownInput old mid chunks first now view came) where
+    -- no more is read
+    pub stopped : (new : Incoming) (halted : Stop) → IsHaltOf limits old new came halted → IsStreamShown role limits style old new first now (Err halted)
+    stopped new halted halt = by halted halt
+      where
+        by : (s : Stop) → IsHaltOf limits old new came s → IsStreamShown role limits style old new first now (Err s)
+        by stop.InputLimit it = record {
+          came = it.all;
+          received = it.received;
+          answer = stopped_unrefused role limits new came it.all stop.InputLimit it.stops it.within read.unrefused;
+          printed = (read.text, subst (λ (bs : List ℕ). IsItemText role limits style bs read.text) (sym it.within) read.is_text, read.written);
+          at_once = λ is. cc;
+        }
+        by stop.Read it = record {
+          came = it.all;
+          received = it.received;
+          answer = stopped_unrefused role limits new came it.all stop.Read it.stops it.within read.unrefused;
+          printed = (read.text, subst (λ (bs : List ℕ). IsItemText role limits style bs read.text) (sym it.within) read.is_text, read.written);
+          at_once = λ is. cc;
+        }
+        by stop.Memory it = absurd it.stops
+        by stop.Write it = absurd it.stops
 
     -- the input ended
-    module _ (new : Incoming) (after : Outgoing) (nothing : IsConsumed mid new []) (at_end : IsAtEnd new.remaining) (kept : new.failed ≡ mid.failed) where
-      received_all : IsReceived (limits.input + 1) old new came
-      received_all = received_of (limits.input + 1) old new came (consumed_end old mid new came read.consumed nothing) (omega (arith, few))
+    module _ (new : Incoming) (after : Outgoing) (end : IsEndOf limits old new came) where
+      within_all : take limits.input came ≡ came
+      within_all = take_all limits.input came end.within
 
       reached : (fs : List Frame) (verdict : Verdict) → IsVerdict role limits came fs verdict → IsReached role limits new came verdict
-      reached fs (Accepted s) is = (fs, is, at_end, few, kept ∙ read.unfailed)
-      reached fs (Cut s) is = (fs, is, at_end, few, kept ∙ read.unfailed)
+      reached fs (Accepted s) is = (fs, is, end.at_end, end.within, end.unfailed)
+      reached fs (Cut s) is = (fs, is, end.at_end, end.within, end.unfailed)
       reached fs (Refused r) is = absurd (read.unrefused fs r.place r.reason is)
 
       pub ended : (result : Result Verdict Stop) → EndsStream role limits style came first after result → IsStreamShown role limits style old new first after result
       ended (Ok verdict) e = record {
         came = came;
-        received = received_all;
+        received = end.received;
         answer = reached e.1.frames verdict e.1.is_verdict;
         printed = (e.0, subst (λ (bs : List ℕ). IsStreamText role limits style bs verdict e.0) (sym within_all) e.1, e.2);
         at_once = λ is. cc;
       }
       ended (Err stop.Write) e = record {
         came = came;
-        received = received_all;
-        answer = (kept ∙ read.unfailed, λ fs place reason refused. absurd (read.unrefused fs place reason refused));
+        received = end.received;
+        answer = (end.unfailed, λ fs place reason refused. absurd (read.unrefused fs place reason refused));
         printed = (e.1.0, subst (λ (bs : List ℕ). IsPrintedText role limits style bs e.1.0) (sym within_all) e.1.1, e.1.2);
         at_once = λ is. record { done = came; last = []; whole = sym (append-nil came); short = omega arith; shown = e.2 };
       }
@@ -169,88 +173,78 @@ module _ (role : Role) (limits : Limits) (style : Style) where
       ended (Err stop.InputLimit) e = let h : stop.InputLimit ≡ stop.Write = e.0 in absurd cc
       ended (Err stop.Memory) e = let h : stop.Memory ≡ stop.Write = e.0 in absurd cc
 
-    -- ---- one read gave a chunk, and the view got the bytes within the limit
-    module _ (new : Incoming) (buffer : List ℕ) (chunk : ReadChunk) (got : IsChunk mid new view.room buffer chunk) (size : length buffer ≡ chunk_size)
-        (next : Viewed) (after : Outgoing) (viewed : HasViewed role limits style next (came ++ take chunk.len buffer))
-        (shows : (shown : List Shown) × IsShownStream style.detail role limits (came ++ take chunk.len buffer) shown × IsWrittenUpToFailure now after (styled_items style role InStream (beyond (length came) shown))) where
-      abbrev piece : List ℕ
-      piece = take chunk.len buffer
-
+    -- ---- the next chunk came, and the view got it
+    module _ (new : Incoming) (later : ChunkReader) (piece : List ℕ) (come : HasCome limits old new later (came ++ piece)) (short : length piece + length come.past ≤ chunk_size)
+        (next : Viewed) (after : Outgoing) (viewed : HasViewed role limits style next (came ++ piece))
+        (shows : (shown : List Shown) × IsShownStream style.detail role limits (came ++ piece) shown × IsWrittenUpToFailure now after (styled_items style role InStream (beyond (length came) shown))) where
       abbrev all_came : List ℕ
-      all_came = came ++ take (count_of chunk) buffer
+      all_came = (came ++ piece) ++ come.past
 
-      consumed_all : IsConsumed old new all_came
-      consumed_all = consumed_on old mid new came (take (count_of chunk) buffer) read.consumed got.consumed
+      abbrev last_bytes : List ℕ
+      last_bytes = piece ++ come.past
 
-      length_all : length all_came ≡ length came + count_of chunk
-      length_all = length-append came (take (count_of chunk) buffer) ∙ ap (λ (m : ℕ). length came + m) (length-take-le (count_of chunk) buffer got.in_buffer)
+      after_came : all_came ≡ came ++ last_bytes
+      after_came = append_assoc came piece come.past
 
-      length_piece : length piece ≡ chunk.len
-      length_piece = length-take-le chunk.len buffer (omega (arith, got.in_buffer, in_count chunk))
+      received_all : IsReceived (limits.input + 1) old new all_came
+      received_all = received limits old new later (came ++ piece) come
 
       within_is : take limits.input all_came ≡ came ++ piece
-      within_is = chunk_within mid new view.room buffer chunk got limits.input came read.viewed.room
+      within_is = within_limit limits old new later (came ++ piece) come
 
-      -- all that came are the bytes within the limit, and perhaps one more
-      more_came : (more : List ℕ) × (all_came ≡ (came ++ piece) ++ more)
-      more_came = (
-        _,
-        sym (take-append-drop limits.input all_came) ∙ ap (λ (bs : List ℕ). bs ++ drop limits.input all_came) within_is,
-      )
+      abbrev items : List ℕ
+      items = styled_items style role InStream (beyond (length came) shows.0)
 
-      received_more : IsReceived (limits.input + 1) old new all_came
-      received_more = received_of (limits.input + 1) old new all_came consumed_all (let room = read.viewed.room in omega (arith, length_all, room, most_of mid new view.room buffer chunk got))
+      abbrev lines : List ℕ
+      lines = read.text ++ items
 
-      text_now : IsItemText role limits style (came ++ piece) (read.text ++ styled_items style role InStream (beyond (length came) shows.0))
+      text_now : IsItemText role limits style (came ++ piece) lines
       text_now =
           let on = shown_goes_on role limits style.detail came piece read.is_text.shown shows.0 read.is_text.is_shown shows.1 in
-          let lines = λ (items : List Item). styled_items style role InStream items in
+          let texts = λ (all : List Item). styled_items style role InStream all in
           record {
             shown = shows.0;
             is_shown = shows.1;
             is =
-                ap (λ (bs : List ℕ). bs ++ lines (beyond (length came) shows.0)) read.is_text.is ∙ ap (λ (items : List Item). lines (items_in read.is_text.shown) ++ lines items) on.4
+                ap (λ (bs : List ℕ). bs ++ texts (beyond (length came) shows.0)) read.is_text.is ∙ ap (λ (more : List Item). texts (items_in read.is_text.shown) ++ texts more) on.4
                 ∙ sym (flat_map-append (styled_item style role InStream) (items_in read.is_text.shown) (items_in on.0))
-                ∙ ap lines (sym (map-append (λ (s : Shown). s.item) read.is_text.shown on.0) ∙ ap items_in (sym on.1));
+                ∙ ap texts (sym (map-append (λ (s : Shown). s.item) read.is_text.shown on.0) ∙ ap items_in (sym on.1));
           }
 
-      written_now : IsWrittenUpToFailure first after (read.text ++ styled_items style role InStream (beyond (length came) shows.0))
-      written_now = prints_on first now after read.text (styled_items style role InStream (beyond (length came) shows.0)) read.written.0 (inl read.written) shows.2
+      written_now : IsWrittenUpToFailure first after lines
+      written_now = prints_on first now after read.text items read.written.0 (inl read.written) shows.2
 
-      short_chunk : length (take (count_of chunk) buffer) ≤ chunk_size
-      short_chunk = omega (arith, length-take-le (count_of chunk) buffer got.in_buffer, got.in_buffer, size)
-
-      unfailed_now : new.failed ≡ false
-      unfailed_now = got.unfailed ∙ read.unfailed
+      short_last : length last_bytes ≤ chunk_size
+      short_last = omega (arith, short, length-append piece come.past)
 
       up_to_refusal : IsReadUpToRefusal role limits all_came
       up_to_refusal fs place reason refused =
-          let place_is = place_after role limits came (take (count_of chunk) buffer) fs place reason read.unrefused refused in
-          omega (arith, place_is, length_all, got.in_buffer, size)
+          let place_is = place_after role limits came last_bytes fs place reason read.unrefused (subst (λ (bs : List ℕ). IsRefused role limits bs fs place reason) after_came refused) in
+          omega (arith, place_is, length-append (came ++ piece) come.past, length-append came piece, short)
 
       pub write_failed : after.failed ≡ true → IsStreamShown role limits style old new first after (Err stop.Write)
       write_failed failed = record {
         came = all_came;
-        received = received_more;
-        answer = (unfailed_now, up_to_refusal);
+        received = received_all;
+        answer = (come.unfailed, up_to_refusal);
         printed = (
-          read.text ++ styled_items style role InStream (beyond (length came) shows.0),
-          inl (subst (λ (bs : List ℕ). IsItemText role limits style bs (read.text ++ styled_items style role InStream (beyond (length came) shows.0))) (sym within_is) text_now),
+          lines,
+          inl (subst (λ (bs : List ℕ). IsItemText role limits style bs lines) (sym within_is) text_now),
           elim written_now [ inl went ↦ (let both : false ≡ true = sym went.0 ∙ failed in absurd cc) | inr part ↦ part ],
         );
-        at_once = λ is. record { done = came; last = take (count_of chunk) buffer; whole = refl; short = short_chunk; shown = at_least first now after came read.text (styled_items style role InStream (beyond (length came) shows.0)) read.is_text read.written shows.2 };
+        at_once = λ is. record { done = came; last = last_bytes; whole = after_came; short = short_last; shown = at_least first now after came read.text items read.is_text read.written shows.2 };
       }
 
       module _ (works : after.failed ≡ false) where
-        wrote : IsWritten first after (read.text ++ styled_items style role InStream (beyond (length came) shows.0))
+        wrote : IsWritten first after lines
         wrote = elim written_now [ inl went ↦ went | inr part ↦ (let both : true ≡ false = sym part.0 ∙ works in absurd cc) ]
 
         -- the bytes are refused
         module _ (fs : List Frame) (refusal : Refusal) (refused : IsRefused role limits (came ++ piece) fs refusal.place refusal.reason) (last : Outgoing) where
-          abbrev lines : List ℕ
-          lines = read.text ++ styled_items style role InStream (beyond (length came) shows.0)
+          abbrev verdict_text : List ℕ
+          verdict_text = styled_verdict style (Refused refusal)
 
-          whole_text : IsStreamText role limits style (came ++ piece) (Refused refusal) (lines ++ styled_verdict style (Refused refusal))
+          whole_text : IsStreamText role limits style (came ++ piece) (Refused refusal) (lines ++ verdict_text)
           whole_text = record {
             frames = fs;
             is_verdict = refused;
@@ -258,91 +252,63 @@ module _ (role : Role) (limits : Limits) (style : Style) where
             are_items = text_now;
             left = [];
             is_left = refl;
-            is = ap (λ (bs : List ℕ). bs ++ styled_verdict style (Refused refusal)) (sym (append-nil lines));
+            is = ap (λ (bs : List ℕ). bs ++ verdict_text) (sym (append-nil lines));
           }
 
-          refused_all : (later : List ℕ) → IsRefused role limits (all_came ++ later) fs refusal.place refusal.reason
-          refused_all later =
-              subst (λ (bs : List ℕ). IsRefused role limits bs fs refusal.place refusal.reason)
-              (sym (append_assoc (came ++ piece) more_came.0 later) ∙ ap (λ (bs : List ℕ). bs ++ later) (sym more_came.1))
-              (stays_refused role limits fs (came ++ piece) (more_came.0 ++ later) refusal.place refusal.reason refused)
+          refused_all : (more : List ℕ) → IsRefused role limits (all_came ++ more) fs refusal.place refusal.reason
+          refused_all more =
+              subst (λ (bs : List ℕ). IsRefused role limits bs fs refusal.place refusal.reason) (sym (append_assoc (came ++ piece) come.past more))
+              (stays_refused role limits fs (came ++ piece) (come.past ++ more) refusal.place refusal.reason refused)
 
           within : refusal.place < limits.input
           within =
               let inside = place_within role limits fs (came ++ piece) refusal.place refusal.reason refused.is_evident in
-              let room = read.viewed.room in
-              omega (arith, inside, length-append came piece, length_piece, got.in_room, room)
+              let room = come.counted.room in
+              omega (arith, inside, room)
 
           soon : length all_came ≤ refusal.place + chunk_size
           soon = up_to_refusal fs refusal.place refusal.reason (subst (λ (bs : List ℕ). IsRefused role limits bs fs refusal.place refusal.reason) (append-nil all_came) (refused_all []))
 
           shown_before : (verdict : List ℕ) → Appends after.written last.written verdict → IsShownAtLeast role limits style came first last
-          shown_before verdict put =
-              let items = styled_items style role InStream (beyond (length came) shows.0) in (
-                read.text,
-                items ++ verdict,
-                read.is_text,
-                subst (λ (bs : List ℕ). Appends first.written last.written bs) (append_assoc read.text items verdict) (Appends-trans first.written after.written last.written lines verdict wrote.1 put),
-              )
+          shown_before verdict put = (
+            read.text,
+            items ++ verdict,
+            read.is_text,
+            subst (λ (bs : List ℕ). Appends first.written last.written bs) (append_assoc read.text items verdict) (Appends-trans first.written after.written last.written lines verdict wrote.1 put),
+          )
 
           pub refuses : (result : Result Verdict Stop) → IsEnded style.format after last (Refused refusal) result → IsStreamShown role limits style old new first last result
           refuses (Ok verdict) e = record {
             came = all_came;
-            received = received_more;
-            answer = subst (λ (v : Verdict). IsListAnswer role limits new all_came (Ok v)) (sym e.0) (fs, refused_all, soon, within, unfailed_now);
+            received = received_all;
+            answer = subst (λ (v : Verdict). IsListAnswer role limits new all_came (Ok v)) (sym e.0) (fs, refused_all, soon, within, come.unfailed);
             printed = (
-              lines ++ styled_verdict style (Refused refusal),
-              subst (λ (v : Verdict). IsStreamText role limits style (take limits.input all_came) v (lines ++ styled_verdict style (Refused refusal))) (sym e.0)
-                  (subst (λ (bs : List ℕ). IsStreamText role limits style bs (Refused refusal) (lines ++ styled_verdict style (Refused refusal))) (sym within_is) whole_text),
-              put_both first after last lines (styled_verdict style (Refused refusal)) wrote e.1,
+              lines ++ verdict_text,
+              subst (λ (v : Verdict). IsStreamText role limits style (take limits.input all_came) v (lines ++ verdict_text)) (sym e.0)
+                  (subst (λ (bs : List ℕ). IsStreamText role limits style bs (Refused refusal) (lines ++ verdict_text)) (sym within_is) whole_text),
+              put_both first after last lines verdict_text wrote e.1,
             );
             at_once = λ is. cc;
           }
           refuses (Err stop.Write) e = record {
             came = all_came;
-            received = received_more;
-            answer = (unfailed_now, up_to_refusal);
+            received = received_all;
+            answer = (come.unfailed, up_to_refusal);
             printed = (
-              lines ++ styled_verdict style (Refused refusal),
-              inr (Refused refusal, subst (λ (bs : List ℕ). IsStreamText role limits style bs (Refused refusal) (lines ++ styled_verdict style (Refused refusal))) (sym within_is) whole_text),
-              put_front first after last lines (styled_verdict style (Refused refusal)) wrote e.1,
+              lines ++ verdict_text,
+              inr (Refused refusal, subst (λ (bs : List ℕ). IsStreamText role limits style bs (Refused refusal) (lines ++ verdict_text)) (sym within_is) whole_text),
+              put_front first after last lines verdict_text wrote e.1,
             );
-            at_once = λ is. record { done = came; last = take (count_of chunk) buffer; whole = refl; short = short_chunk; shown = shown_before (take e.1.1.0 (styled_verdict style (Refused refusal))) e.1.1.1 };
+            at_once = λ is. record { done = came; last = last_bytes; whole = after_came; short = short_last; shown = shown_before (take e.1.1.0 verdict_text) e.1.1.1 };
           }
           refuses (Err stop.Read) e = let h : stop.Read ≡ stop.Write = e.0 in absurd cc
           refuses (Err stop.InputLimit) e = let h : stop.InputLimit ≡ stop.Write = e.0 in absurd cc
           refuses (Err stop.Memory) e = let h : stop.Memory ≡ stop.Write = e.0 in absurd cc
 
         -- the bytes aren't refused
-        module _ (fs : List Frame) (verdict : Verdict) (is : IsVerdict role limits (came ++ piece) fs verdict) (other : (r : Refusal) → verdict ≢ Refused r) where
-          none_now : IsUnrefused role limits (came ++ piece)
-          none_now gs place reason refused =
-              other (record { place = place; reason = reason }) (one_verdict role limits (came ++ piece) fs gs verdict (Refused (record { place = place; reason = reason })) is refused).1
-
-          pub passes_limit : chunk.past_limit ≡ true → IsStreamShown role limits style old new first after (Err stop.InputLimit)
-          passes_limit past = record {
-            came = all_came;
-            received = received_more;
-            answer = (
-              let room = read.viewed.room in omega (arith, length_all, room, got.past past, one_past chunk past),
-              subst (λ (bs : List ℕ). IsUnrefused role limits bs) (sym within_is) none_now,
-              unfailed_now,
-            );
-            printed = (
-              read.text ++ styled_items style role InStream (beyond (length came) shows.0),
-              subst (λ (bs : List ℕ). IsItemText role limits style bs (read.text ++ styled_items style role InStream (beyond (length came) shows.0))) (sym within_is) text_now,
-              wrote,
-            );
-            at_once = λ is. cc;
-          }
-
-          pub goes_on : chunk.past_limit ≡ false → HasShownInput old new first after next (came ++ piece)
-          goes_on none = record {
-            consumed = subst (λ (m : ℕ). IsConsumed old new (came ++ take m buffer)) (none_past chunk none) consumed_all;
-            viewed = viewed;
-            unrefused = none_now;
-            text = read.text ++ styled_items style role InStream (beyond (length came) shows.0);
-            is_text = text_now;
-            written = wrote;
-            unfailed = unfailed_now;
-          }
+        pub goes_on : (fs : List Frame) (verdict : Verdict) → IsVerdict role limits (came ++ piece) fs verdict → ((r : Refusal) → verdict ≢ Refused r) → HasShownInput old new later first after next (came ++ piece)
+        goes_on fs verdict is other = record { come = come; viewed = viewed; unrefused = none_now; text = lines; is_text = text_now; written = wrote }
+          where
+            none_now : IsUnrefused role limits (came ++ piece)
+            none_now gs place reason refused =
+                other (record { place = place; reason = reason }) (one_verdict role limits (came ++ piece) fs gs verdict (Refused (record { place = place; reason = reason })) is refused).1

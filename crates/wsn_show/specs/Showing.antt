@@ -8,7 +8,7 @@ use Rattle.wsn_rules.specs.declared.report.Report.{Report}
 use Rattle.wsn_rules.specs.Entries.{Entry}
 use Rattle.wsn_rules.specs.TextLines.{IsLine, ended, AreLines}
 use Rattle.wsn_rules.specs.ShownCapture.{ShownLine, AreShownAfter, LeftAtEnd, IsShownCapture}
-use Rattle.wsn_scan.specs.Refill.{chunk_size}
+use Rattle.wsn_scan.specs.Judging.{chunk_size}
 use Rattle.wsn_print.specs.declared.style.Style.{Style}
 use Rattle.wsn_show.specs.declared.ended_by.EndedBy.{EndedBy}
 use Rattle.wsn_show.specs.EndedBy.{IsEndedBy}

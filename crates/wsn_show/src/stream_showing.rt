@@ -13,7 +13,7 @@ use std::io::{Read, Write};
 use wsn_io::{Input, Output, Stop};
 use wsn_print::{Format, Origin, Style, put_verdict_as};
 use wsn_rules::{Limits, Verdict};
-use wsn_scan::{CHUNK, read_chunk};
+use wsn_scan::{CHUNK, ChunkReader};
 use wsn_wire::Role;
 
 /// Shows the stream on the input, which one endpoint sent: prints each event with its last byte, or each frame with its
@@ -36,12 +36,10 @@ pub fn show_stream<R: Read, W: Write>(
     ensures { IsStreamShown role limits style input.old input.new output.old output.new result }
 {
     let mut stream = StreamView::new(role, limits, style);
+    let mut chunks = ChunkReader::new(limits);
     let mut buffer = [0; CHUNK];
-    loop {
-        let Some(chunk) = read_chunk(input, stream.room(), &mut buffer)? else {
-            return end(&stream, output);
-        };
-        stream.take(&mut buffer[..chunk.len], Origin::Stream, output);
+    while let Some(len) = chunks.next(input, &mut buffer)? {
+        stream.take(&mut buffer[..len], Origin::Stream, output);
         if output.failed() {
             return Err(Stop::Write);
         }
@@ -49,10 +47,8 @@ pub fn show_stream<R: Read, W: Write>(
         if let Verdict::Refused(_) = verdict {
             return put_answer(output, stream.style().format, verdict);
         }
-        if chunk.past_limit {
-            return Err(Stop::InputLimit);
-        }
     }
+    end(&stream, output)
 }
 
 /// Prints what is left over where the stream ends, and the verdict, which it returns. `Write` if the

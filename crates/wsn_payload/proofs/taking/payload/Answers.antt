@@ -46,7 +46,7 @@ pub take_chunk-requires-clause-fits : goal.take_chunk-requires-clause-fits
 take_chunk-requires-clause-fits g c =
     let read = c.loop-len.invariant.read in
     let got = next_chunk c.in-Some.is (c.in_ok-len.ensures.next c.args.limits c.args.input.now read.0 read.1.come) in
-    omega (arith, got.come.room, read.1.sought.followed.has_scanned.has_consumed.room, length-append read.0 (take c.in-Some.len c.next.new.buffer))
+    omega (arith, got.come.counted.room, read.1.sought.followed.has_scanned.has_consumed.room, length-append read.0 (take c.in-Some.len c.next.new.buffer))
 
 pub returns-in_err-answer-clause-taken : goal.returns-in_err-answer-clause-taken
 returns-in_err-answer-clause-taken g c =

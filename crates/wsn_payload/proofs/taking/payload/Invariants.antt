@@ -1,6 +1,6 @@
 use Rattle.std.proofs.Common.{◌≡◌, ℕ, List, length}
 use Rattle.wsn_scan.specs.ChunkReaders.{reads_left}
-use Rattle.wsn_scan.specs.Refill.{chunk_size}
+use Rattle.wsn_scan.specs.Judging.{chunk_size}
 use Rattle.wsn_payload.proofs.SoughtInputs.{HasSoughtInput}
 use Rattle.wsn_payload.proofs.taking.payload.Given as goal
 

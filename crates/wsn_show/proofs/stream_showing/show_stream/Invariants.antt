@@ -1,14 +1,15 @@
 use Rattle.std.proofs.Common.{◌≡◌, ℕ, List, length}
-use Rattle.wsn_scan.specs.Refill.{chunk_size}
+use Rattle.wsn_scan.specs.ChunkReaders.{reads_left}
+use Rattle.wsn_scan.specs.Judging.{chunk_size}
 use Rattle.wsn_show.proofs.ShownStreamInputs.{HasShownInput}
 use Rattle.wsn_show.proofs.stream_showing.show_stream.Given as goal
 
 -- what is shown of all bytes that came was printed, and they aren't refused
-abbrev pub invariant-loop-chunk : goal.invariant-loop-chunk
-invariant-loop-chunk g l = record {
-  read : (came : List ℕ) × HasShownInput l.fn.role l.fn.limits l.fn.style l.fn.input l.input l.fn.output l.output l.stream came;
+abbrev pub invariant-loop-len : goal.invariant-loop-len
+invariant-loop-len g l = record {
+  read : (came : List ℕ) × HasShownInput l.fn.role l.fn.limits l.fn.style l.fn.input l.input l.chunks l.fn.output l.output l.stream came;
   size : length l.buffer ≡ chunk_size;
 }
 
-abbrev pub decreases-loop-chunk : goal.decreases-loop-chunk
-decreases-loop-chunk g l = l.stream.room
+abbrev pub decreases-loop-len : goal.decreases-loop-len
+decreases-loop-len g l = reads_left l.chunks

@@ -6,8 +6,6 @@ pub returns : goal.returns
 returns c input readable = record {
   past = [];
   consumed = consumed_none input;
-  room = omega (arith, c.input.ensures.value);
-  full = λ is. cc;
-  none = λ _. refl;
+  counted = record { room = omega (arith, c.input.ensures.value); full = λ is. cc; none = λ _. refl };
   unfailed = readable;
 }

@@ -1,47 +1,76 @@
-use Rattle.std.proofs.Common.{◌≡◌, Option, Ok, Err, refl, sym, ap, ◌∙◌, subst, arith, rules}
-use Rattle.wsn_io.specs.declared.stop.Stop.TheVariants as stop
-use Rattle.wsn_scan.specs.declared.refill.ReadChunk.{ReadChunk}
-use Rattle.wsn_scan.specs.Refill.{IsRefilled}
-use Rattle.wsn_scan.proofs.Chunks.{got_chunk}
-use Rattle.wsn_scan.proofs.ChunksSoFar.{read_failed, input_ended, chunk_came, falls, limit_passed}
+use Rattle.std.proofs.Common.{ℕ, ◌++◌, List, take, drop, refl, sym, subst, length-append, length-take-le, arith, rules}
+use Rattle.std.proofs.lemmas.List.{take-append-le}
+use Rattle.wsn_io.specs.Transfer.{IsConsumed}
+use Rattle.wsn_io.proofs.Received.{consumed_read}
+use Rattle.wsn_scan.proofs.FedPieces.{bytes_below}
+use Rattle.wsn_scan.proofs.ChunksSoFar.{IsRead, read_failed, input_ended, consumed_came, chunk_came, falls, limit_passed}
 use Rattle.wsn_scan.proofs.chunk_reader.ChunkReader.next.Goals as goal
 
-pub returns-then-self-clause-next : goal.returns-then-self-clause-next
-returns-then-self-clause-next g c limits first came come = limit_passed limits first c.args.input.now c.args.self.now came come c.if-self.true
+pub returns-then-self : goal.returns-then-self
+returns-then-self g c = record {
+  next = λ limits first came come. limit_passed limits first c.args.input.now c.args.self.now came come c.if-self.true;
+  falls = λ n is. cc;
+  limit = search rules;
+  kept = search rules;
+}
 
-pub returns-then-self-clause-falls : goal.returns-then-self-clause-falls
-returns-then-self-clause-falls g c n is = cc
+pub slice_bounds-read-end : goal.slice_bounds-read-end
+slice_bounds-read-end g c = search rules
 
-pub refill-requires : goal.refill-requires
-refill-requires g c = c.requires
+pub slice_bounds-read-end-2 : goal.slice_bounds-read-end-2
+slice_bounds-read-end-2 g c = search rules
 
-pub returns-in_err-chunk-clause-next : goal.returns-in_err-chunk-clause-next
-returns-in_err-chunk-clause-next g c limits first came come =
-    let out : c.from_residual.result ≡ Err c.in_err-chunk.field-0.0 = search rules in
-    let is : c.from_residual.result ≡ Err stop.Read = out ∙ ap Err c.in_err-chunk.ensures.0 in
-    rw is (read_failed limits first c.args.input.now c.args.self.now came come c.if-self.false c.refill.new.input c.in_err-chunk.ensures.2 c.in_err-chunk.ensures.1)
+pub read-requires : goal.read-requires
+read-requires g c = search rules
 
-pub returns-in_err-chunk-clause-falls : goal.returns-in_err-chunk-clause-falls
-returns-in_err-chunk-clause-falls g c n is = search rules
+pub returns-in_default : goal.returns-in_default
+returns-in_default g c = record {
+  next = λ limits first came come. read_failed limits first c.args.input.now c.args.self.now came come c.if-self.false c.read.new.self c.in_default.ensures.none.1 c.in_default.ensures.none.0;
+  falls = λ n is. cc;
+  limit = search rules;
+  kept = search rules;
+}
 
-pub returns-in_default-clause-next : goal.returns-in_default-clause-next
-returns-in_default-clause-next g c limits first came come =
-    let at_end = subst (λ (r : Option ReadChunk). IsRefilled c.args.input.now c.refill.new.input c.args.self.now.room c.refill.new.buffer (Ok r)) c.in_default.is c.in_ok-chunk.ensures in
-    input_ended limits first c.args.input.now c.args.self.now came come c.if-self.false c.refill.new.input at_end.0 at_end.1 at_end.2
-
-pub returns-in_default-clause-falls : goal.returns-in_default-clause-falls
-returns-in_default-clause-falls g c n is = cc
+pub returns-then-count-eq0 : goal.returns-then-count-eq0
+returns-then-count-eq0 g c =
+    let into = c.read.new.into in
+    let read = consumed_read c.args.input.now c.read.new.self into c.in-Some.count c.in-Some.ensures.within c.in-Some.ensures.bytes c.in-Some.ensures.counted c.in-Some.ensures.readable in
+    record {
+      next = λ limits first came come.
+          input_ended limits first c.args.input.now c.args.self.now came come c.if-self.false c.read.new.self
+          (subst (λ (n : ℕ). IsConsumed c.args.input.now c.read.new.self (take n into)) c.if-count-eq0.true read) (c.in-Some.ensures.end c.if-count-eq0.true) c.in-Some.ensures.some;
+      falls = λ n is. cc;
+      limit = search rules;
+      kept = search rules;
+    }
 
 pub overflow_sub-self : goal.overflow_sub-self
-overflow_sub-self g c =
-    (got_chunk c.args.input.now c.refill.new.input c.args.self.now.room c.args.self.now.room c.refill.new.buffer c.in_ok-chunk.field-0 c.in-Some.chunk refl c.in-Some.is c.in_ok-chunk.ensures).in_room
+overflow_sub-self g c = omega (arith, c.min-len.ensures)
 
-pub returns-clause-next : goal.returns-clause-next
-returns-clause-next g c limits first came come =
-    let got = got_chunk c.args.input.now c.refill.new.input c.args.self.now.room c.args.self.now.room c.refill.new.buffer c.in_ok-chunk.field-0 c.in-Some.chunk refl c.in-Some.is c.in_ok-chunk.ensures in
-    chunk_came limits first c.args.input.now c.args.self.now came come c.if-self.false c.refill.new.input _ c.refill.new.buffer c.in-Some.chunk got (omega (arith, got.in_room)) refl
-
-pub returns-clause-falls : goal.returns-clause-falls
-returns-clause-falls g c n is =
-    let got = got_chunk c.args.input.now c.refill.new.input c.args.self.now.room c.args.self.now.room c.refill.new.buffer c.in_ok-chunk.field-0 c.in-Some.chunk refl c.in-Some.is c.in_ok-chunk.ensures in
-    falls c.args.input.now c.refill.new.input c.args.self.now _ c.refill.new.buffer c.in-Some.chunk c.if-self.false got (omega (arith, got.in_room)) refl
+pub returns : goal.returns
+returns g c =
+    let now = c.args.input.now in
+    let new = c.read.new.self in
+    let into = c.read.new.into in
+    let rest = drop c.min-wanted.result c.args.buffer.now in
+    let n = c.in-Some.count in
+    let within = c.in-Some.ensures.within in
+    let consumed = consumed_read now new into n within c.in-Some.ensures.bytes c.in-Some.ensures.counted c.in-Some.ensures.readable in
+    let read : IsRead now new c.args.self.now _ (into ++ rest) c.min-len.result n = record {
+      some = omega (arith, c.if-count-eq0.false);
+      in_buffer = omega (arith, within, length-append into rest);
+      few = omega (arith, within, c.read.auto.into, length-take-le c.min-wanted.result c.args.buffer.now (omega (arith, c.min-wanted.ensures)), c.min-wanted.ensures, c.saturating_add.ensures);
+      len_is = c.min-len.ensures;
+      left = omega (arith, c.min-len.ensures);
+      past_is = refl;
+      consumed = subst (λ (bs : List ℕ). IsConsumed now new bs) (sym (take-append-le n into rest within)) consumed;
+      in_bytes = bytes_below (into ++ rest) (λ i. let below = c.type_inv.buffer i in omega (arith, below));
+      unfailed = c.in-Some.ensures.some;
+    } in
+    record {
+      next = λ limits first came come.
+          chunk_came now new c.args.self.now _ (into ++ rest) c.min-len.result n read limits first came (consumed_came limits first now c.args.self.now came come c.if-self.false) come.counted.room come.unfailed;
+      falls = λ m is. falls now new c.args.self.now _ (into ++ rest) c.min-len.result n read c.if-self.false;
+      limit = search rules;
+      kept = search rules;
+    }

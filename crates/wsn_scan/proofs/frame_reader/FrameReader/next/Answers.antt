@@ -1,14 +1,18 @@
-use Rattle.std.proofs.Common.{◌≡◌, ℕ, Option, None, Some, Result, Ok, Err, List, ◌++◌, ap, ◌∙◌, sym, subst, rules, arith}
+use Rattle.std.proofs.Common.{◌≡◌, ◌<◌, ℕ, Option, None, Some, Result, Ok, Err, List, ◌++◌, ap, ◌∙◌, sym, subst, rules, arith}
 use Rattle.wsn_wire.specs.declared.endpoint.Role.{Role}
 use Rattle.wsn_wire.specs.Frame.{Frame}
 use Rattle.wsn_rules.specs.Limits.{Limits}
 use Rattle.wsn_rules.specs.declared.verdict.Verdict.{Verdict}
 use Rattle.wsn_io.specs.declared.stop.Stop.{Stop}
 use Rattle.wsn_scan.specs.Positions.{Position}
-use Rattle.wsn_scan.specs.FrameReaders.{HasTaken, parts_left}
+use Rattle.wsn_scan.specs.FrameReaders.{HasTaken}
 use Rattle.wsn_scan.specs.ReadParts.{ReadsOn}
-use Rattle.wsn_scan.specs.ReaderSteps.{IsFilled, idle_of}
-use Rattle.wsn_scan.proofs.ReaderCalls.{begins, answers, refused_done, fills, ends, halts, reading_of, read_falls, used_by, used_falls}
+use Rattle.wsn_scan.specs.ReaderSteps.{IsFilled}
+use Rattle.wsn_scan.specs.Scans.{room_of}
+use Rattle.wsn_scan.specs.ChunkReaders.{reads_left}
+use Rattle.wsn_scan.specs.declared.chunk_reader.ChunkReader.{ChunkReader}
+use Rattle.wsn_scan.specs.declared.scan.Scan.{Scan}
+use Rattle.wsn_scan.proofs.ReaderCalls.{begins, answers, refused_done, fills, ends, halts, reading_of, used_by}
 use Rattle.wsn_scan.proofs.frame_reader.FrameReader.next.Goals as goal
 
 pub loop-self-init : goal.loop-self-init
@@ -72,20 +76,13 @@ returns-in-Some-clause-falls g c = search rules
 
 pub loop-self-smaller : goal.loop-self-smaller
 loop-self-smaller g c =
-    let b = c.requires.begun in
-    let read = c.loop-self.invariant.read b.role b.limits b.came b.frames b.position b.has_taken in
-    let used = used_by b.role b.limits c.step.new.self c.step.new.part (b.came ++ read.more) b.frames b.position c.step.result c.in-More.is (c.step.ensures.taken b.role b.limits (b.came ++ read.more) b.frames b.position read.has_taken) in
     let was : c.fill.result ≡ Ok None = c.in_ok-verdict-in-More.was ∙ ap (λ (v : Option Verdict). Ok v) c.in_default.is in
-    let falls = used_falls c.loop-self.self c.step.new.self c.step.result c.in-More.is c.step.ensures.falls in
-    let filled = subst (λ (r : Result (Option Verdict) Stop). IsFilled b.role b.limits c.loop-self.input c.fill.new.input c.fill.new.self (b.came ++ read.more) b.frames b.position r) was
-    (c.fill.ensures.filled b.role b.limits (b.came ++ read.more) b.frames b.position used) in
-    read_falls c.loop-self.self.at c.loop-self.self.end (parts_left c.loop-self.self) (parts_left c.fill.new.self) (idle_of c.fill.new.self) c.loop-self.self.past c.loop-self.self.left
-    (sym falls.1 ∙ c.fill.ensures.within was) (omega (arith, falls.0, c.fill.ensures.left)) filled.next.1
+    subst (λ (chunks : ChunkReader). reads_left c.fill.new.self.chunks < reads_left chunks) c.step.ensures.chunks (c.fill.ensures.falls was)
 
 pub loop-self-preserved : goal.loop-self-preserved
 loop-self-preserved g c =
     let was : c.fill.result ≡ Ok None = c.in_ok-verdict-in-More.was ∙ ap (λ (v : Option Verdict). Ok v) c.in_default.is in
-    let falls = used_falls c.loop-self.self c.step.new.self c.step.result c.in-More.is c.step.ensures.falls in
+    let same = ap (λ (s : Scan). room_of s) c.fill.ensures.scan in
     let filled_by : (role : Role) (limits : Limits) (came : List ℕ) (fs : List Frame) (at : Position) (has_taken : HasTaken role limits c.args.self.now came fs at)
     → IsFilled role limits c.loop-self.input c.fill.new.input c.fill.new.self (came ++ (c.loop-self.invariant.read role limits came fs at has_taken).more) fs at (Ok None) =
     λ role limits came fs at has_taken.
@@ -98,6 +95,6 @@ loop-self-preserved g c =
       read = λ role limits came fs at has_taken.
           fills role limits c.args.input.now came fs at c.loop-self.input c.loop-self.self (c.loop-self.invariant.read role limits came fs at has_taken) c.fill.new.input c.fill.new.self
           (filled_by role limits came fs at has_taken);
-      unfailed = (filled_by b.role b.limits b.came b.frames b.position b.has_taken).next.2;
-      left = omega (arith, falls.0, c.fill.ensures.left, c.loop-self.invariant.left);
+      unfailed = (filled_by b.role b.limits b.came b.frames b.position b.has_taken).next.1;
+      left = omega (arith, c.step.ensures.left, same, c.loop-self.invariant.left);
     }

@@ -1,10 +1,10 @@
-use Rattle.std.proofs.Common.{◌≡◌, ℕ, ◌+◌, ◌*◌, ◌≤◌, false, List}
+use Rattle.std.proofs.Common.{◌≡◌, ◌≤◌, false, ℕ, List}
 use Rattle.wsn_wire.specs.declared.endpoint.Role.{Role}
 use Rattle.wsn_wire.specs.Frame.{Frame}
 use Rattle.wsn_rules.specs.Limits.{Limits}
+use Rattle.wsn_scan.specs.ChunkReaders.{reads_left}
 use Rattle.wsn_scan.specs.Positions.{Position}
 use Rattle.wsn_scan.specs.FrameReaders.{HasTaken, parts_left}
-use Rattle.wsn_scan.specs.ReaderSteps.{idle_of}
 use Rattle.wsn_scan.proofs.ReaderCalls.{HasRead}
 use Rattle.wsn_scan.proofs.frame_reader.FrameReader.next.Given as goal
 
@@ -17,4 +17,4 @@ invariant-loop-self g l = record {
 }
 
 abbrev pub decreases-loop-self : goal.decreases-loop-self
-decreases-loop-self g l = 2 * parts_left l.self + idle_of l.self
+decreases-loop-self g l = reads_left l.self.chunks

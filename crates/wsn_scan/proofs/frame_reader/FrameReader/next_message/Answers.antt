@@ -27,7 +27,7 @@ returns-clause-taken c role limits came fs at h =
             from_is = λ _. omega (arith, e.within);
             at_is = refl;
             end_is = refl;
-            past_is = refl;
+            chunks_is = refl;
             whole = λ _ _. e.whole;
           });
     }

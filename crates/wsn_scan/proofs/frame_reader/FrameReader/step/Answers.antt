@@ -12,7 +12,7 @@ returns-clause-taken c role limits came fs at h =
     let from_is : c.part_in-taken.result.1 ≡ taken.Part → c.match-found.self ≡ old.at + c.part_in-taken.new.part.start =
     λ is. elim c.match-found.branch [ in-Part w ↦ w.self-is | in_default w ↦ absurd (w.in_default.not-Part is) ] in
     steps role limits old _ c.part_in-taken.new.part c.part_in-taken.result.0 came fs at h c.part_in-taken.result.1
-    (record { in_bytes = e.in_bytes; advances = e.taken; kept = e.kept; room = e.room; reported = e.reported; start = e.start; from_is = from_is; at_is = refl; end_is = refl; past_is = refl; whole = e.whole })
+    (record { in_bytes = e.in_bytes; advances = e.taken; kept = e.kept; room = e.room; reported = e.reported; start = e.start; from_is = from_is; at_is = refl; end_is = refl; chunks_is = refl; whole = e.whole })
 
 pub part_in-taken-requires-clause-fits : goal.part_in-taken-requires-clause-fits
 part_in-taken-requires-clause-fits c =

@@ -8,7 +8,7 @@ returns-clause-taken c is role limits came fs at h =
     let e = c.events_in-count.ensures in
     let took = e.taken (omega (arith, c.if-count-eq0.false)) in
     takes_run role limits c.args.self.now _ c.events_in-count.result came fs at h
-    (record { idle = took.0; takes = took.1; reported = e.reported; kept = e.kept; from_is = refl; at_is = refl; end_is = refl; past_is = refl })
+    (record { idle = took.0; takes = took.1; reported = e.reported; kept = e.kept; from_is = refl; at_is = refl; end_is = refl; chunks_is = refl })
 
 pub events_in-count-requires-clause-fits : goal.events_in-count-requires-clause-fits
 events_in-count-requires-clause-fits c =
