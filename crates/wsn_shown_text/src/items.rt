@@ -59,9 +59,10 @@ pub(crate) enum Rest<'a> {
     Evidence(HeldBytes<'a>, Option<ShownCharacter<'a>>),
 }
 
-/// Writes an item of an endpoint's stream in a format: an entry, such as `C - 0 text 5 1 "Hello"`, and in lines another for
-/// the bad character of a text that is refused for one. A frame's own `place` isn't printed but the front's offset.
-/// `Stop::Write` if the writer fails: a prefix of the text was written.
+/// Writes an item of an endpoint's stream in a format: an entry, such as `C - 0 text 5 1 "Hello"` or
+/// `S - 7 refused 11 text-bad 1007 4772fc`, and in lines another for the bad character of a text that is refused for one.
+/// A frame's own `place` isn't printed, but the front's offset. `Stop::Write` if the writer fails: a prefix of the text was
+/// written.
 #[inline(always)]
 pub fn put_entry<W: Write>(
     to: &mut Output<W>,
@@ -149,6 +150,7 @@ fn no_bytes() -> View<'static>
 }
 
 /// Writes what follows the fields of an item.
+#[inline(always)]
 fn put_rest<W: Write>(
     to: &mut Output<W>,
     format: Format,
@@ -171,6 +173,7 @@ fn put_rest<W: Write>(
     }
 }
 
+#[inline(always)]
 fn put_view_and_end<W: Write>(
     to: &mut Output<W>,
     format: Format,
@@ -186,6 +189,7 @@ fn put_view_and_end<W: Write>(
 }
 
 /// Writes a view.
+#[inline(always)]
 fn put_shown<W: Write>(
     to: &mut Output<W>,
     format: Format,
