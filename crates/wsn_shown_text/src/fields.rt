@@ -28,7 +28,7 @@ pub(crate) fn push_event(
         ++ members_in format (event_members (op_word event.now.op) event.now.bytes event.now.frames) ++ space_in format }
 {
     push_offset(line, format, offset);
-    push_counts(line, format, event);
+    push_counts(line, format, op_word(event.op), event.bytes, event.frames);
     push_space(line, format);
 }
 
@@ -47,22 +47,22 @@ pub(crate) fn push_unfinished(
 {
     push_offset(line, format, offset);
     push_mark(line, format, "unfinished");
-    push_counts(line, format, event);
+    push_counts(line, format, op_word(event.op), event.bytes, event.frames);
     push_lacks(line, format, lacks);
     push_space(line, format);
 }
 
 /// Appends the word, the payload bytes and the frames of an event.
 #[inline(always)]
-fn push_counts(line: &mut Line<FIELDS_MAX>, format: Format, event: &ShownEvent<'_>)
-    requires { length line.old + 80 ≤ FIELDS_MAX }
-    ensures text { line.new ≡ line.old
-        ++ members_in format (event_members (op_word event.now.op) event.now.bytes event.now.frames) }
+fn push_counts(line: &mut Line<FIELDS_MAX>, format: Format, word: &str, bytes: u64, frames: u64)
+    requires room { length line.old + 80 ≤ FIELDS_MAX }
+    requires short { length word.now ≤ 6 }
+    ensures text { line.new ≡ line.old ++ members_in format (event_members word.now bytes frames) }
     ensures len { length line.new ≤ length line.old + 80 }
 {
-    push_word(line, format, "event", op_word(event.op));
-    push_number(line, format, "bytes", event.bytes);
-    push_number(line, format, "frames", event.frames);
+    push_word(line, format, "event", word);
+    push_number(line, format, "bytes", bytes);
+    push_number(line, format, "frames", frames);
 }
 
 /// Appends the offset and the fields of a part of a head.
@@ -73,9 +73,7 @@ pub(crate) fn push_unfinished_head(line: &mut Line<FIELDS_MAX>, format: Format, 
 {
     push_offset(line, format, offset);
     push_mark(line, format, "unfinished");
-    push_word(line, format, "event", "head");
-    push_number(line, format, "bytes", 0);
-    push_number(line, format, "frames", 0);
+    push_counts(line, format, "head", 0, 0);
     push_lacks(line, format, None);
     push_space(line, format);
 }
@@ -86,15 +84,15 @@ pub(crate) fn push_remainder(
     format: Format,
     offset: u64,
     which: Remainder,
-    bytes: u64,
+    count: u64,
 )
     requires { length line.old + 80 ≤ FIELDS_MAX }
     ensures { line.new ≡ line.old ++ offset_in format offset
-        ++ members_in format (Mark (remainder_word which) ∷ Number (codes "bytes") bytes ∷ []) ++ space_in format }
+        ++ members_in format (Mark (remainder_word which) ∷ Number (codes "bytes") count ∷ []) ++ space_in format }
 {
     push_offset(line, format, offset);
     push_mark(line, format, remainder_word(which));
-    push_number(line, format, "bytes", bytes);
+    push_number(line, format, "bytes", count);
     push_space(line, format);
 }
 
