@@ -28,6 +28,7 @@ use Rattle.wsn_capture.specs.Closes.{IsClosedBy, IsCloseLine, noted_line}
 use Rattle.wsn_capture.specs.CaptureLines.{HasAccepted, HasNotedCloses, HasNotedUpTo, IsJudged, IsNotedLine, IsNotedRefusal, count_of, input_of, room_left, close_line_of, refused_line_of, with_room_less, FitsRoom, ExceedsRoom}
 use Rattle.wsn_capture.proofs.AcceptedTexts.{as_many, taken_push, accepted_last}
 use Rattle.wsn_capture.proofs.ClosingLines.{sent-push, line_stays, line_new, line_none, line_kept}
+pub use Rattle.wsn_capture.proofs.OffendingLines.{own_bytes}
 use Rattle.wsn_capture.proofs.OffendingLines.{unrefused_by, refused_stays, refused_kept, refused_new}
 use Rattle.wsn_capture.proofs.SideEntries.{Fits, entry_accepted, fault_first, entry_limited, read_entry, short_line}
 use Rattle.wsn_capture.proofs.SideLaws.{before-push}
@@ -60,57 +61,30 @@ module _ (limits : Limits) (accepted : CaptureLines) (lines : List (List ℕ)) (
       before = before ∙ ap (λ (b : LinesBefore). with_entry b entry) has.before ∙ before-push given entry;
       input = λ role. inputs role ∙ has.input role;
       room = λ role.
-          let rest = room role in
-          let all = has.room role in
           let size = ap (λ (bs : List ℕ). length bs) (sent-push role given entry) ∙ length-append (sent role given) (bytes_in role entry) in
-          omega (arith, rest, all, size);
+          omega (arith, room role, has.room role, size);
     }
 
 -- ---- room
 
 pub less_before : (entry : LineEntry) (old : CaptureLines) → (with_room_less entry old).before ≡ old.before
-less_before entries.Nothing old = refl
-less_before (entries.Bytes Client count) old = refl
-less_before (entries.Bytes Server count) old = refl
-less_before (entries.Mark role) old = refl
+less_before entry old = grind arith
 
 pub less_closes : (entry : LineEntry) (old : CaptureLines) (role : Role) → close_line_of role (with_room_less entry old) ≡ close_line_of role old
-less_closes entries.Nothing old role = refl
-less_closes (entries.Bytes Client count) old Client = refl
-less_closes (entries.Bytes Client count) old Server = refl
-less_closes (entries.Bytes Server count) old Client = refl
-less_closes (entries.Bytes Server count) old Server = refl
-less_closes (entries.Mark other) old role = refl
+less_closes entry old role = grind arith
 
 less_inputs : (entry : LineEntry) (old : CaptureLines) (role : Role) → input_of role (with_room_less entry old) ≡ input_of role old
-less_inputs entries.Nothing old role = refl
-less_inputs (entries.Bytes Client count) old Client = refl
-less_inputs (entries.Bytes Client count) old Server = refl
-less_inputs (entries.Bytes Server count) old Client = refl
-less_inputs (entries.Bytes Server count) old Server = refl
-less_inputs (entries.Mark other) old role = refl
+less_inputs entry old role = grind arith
 
 less_refused : (entry : LineEntry) (old : CaptureLines) (role : Role) → refused_line_of role (with_room_less entry old) ≡ refused_line_of role old
-less_refused entries.Nothing old role = refl
-less_refused (entries.Bytes Client count) old Client = refl
-less_refused (entries.Bytes Client count) old Server = refl
-less_refused (entries.Bytes Server count) old Client = refl
-less_refused (entries.Bytes Server count) old Server = refl
-less_refused (entries.Mark other) old role = refl
+less_refused entry old role = grind arith
 
 -- so much less as the entry has bytes
 pub less_room : (entry : LineEntry) (old : CaptureLines) (held : List ℕ) → FitsRoom old entry → FitsInLine entry → length held ≡ 4096
     → (role : Role) → room_left role (with_room_less entry old) + length (bytes_in role (held_entry entry held)) ≡ room_left role old
-less_room entries.Nothing old held fits short size Client = omega arith
-less_room entries.Nothing old held fits short size Server = omega arith
 less_room (entries.Bytes Client count) old held fits short size Client = let all = length-take-le count held (omega (arith, short, size)) in omega (arith, all, fits)
-less_room (entries.Bytes Client count) old held fits short size Server = omega arith
-less_room (entries.Bytes Server count) old held fits short size Client = omega arith
 less_room (entries.Bytes Server count) old held fits short size Server = let all = length-take-le count held (omega (arith, short, size)) in omega (arith, all, fits)
-less_room (entries.Mark Client) old held fits short size Client = omega arith
-less_room (entries.Mark Client) old held fits short size Server = omega arith
-less_room (entries.Mark Server) old held fits short size Client = omega arith
-less_room (entries.Mark Server) old held fits short size Server = omega arith
+less_room _ old held fits short size role = grind arith
 
 -- the same of a state that is known by equations
 pub room_by : (limits : Limits) (old : CaptureLines) (entry : LineEntry) (less : CaptureLines) (before : LinesBefore) (held : List ℕ) → less ≡ with_room_less entry old → FitsRoom old entry → FitsInLine entry → length held ≡ 4096
@@ -132,20 +106,16 @@ refused_by old entry less before is Server = ap (λ (l : CaptureLines). l.server
 
 pub fits_given : (limits : Limits) (old : CaptureLines) (lines : List (List ℕ)) (given : List Entry) (line : List ℕ) (entry : LineEntry) (held : List ℕ) → HasAccepted limits old lines given → FitsRoom old entry
     → Fits limits given line (held_entry entry held)
-fits_given limits old lines given line entries.Nothing held has fits = tt
 fits_given limits old lines given line (entries.Bytes role count) held has fits =
-    let room = has.room role in
-    let few = length-take count held in
-    omega (arith, room, fits, few)
-fits_given limits old lines given line (entries.Mark role) held has fits = tt
+    omega (arith, has.room role, fits, length-take count held)
+fits_given limits old lines given line _ held has fits = tt
 
 pub exceeds_given : (limits : Limits) (old : CaptureLines) (lines : List (List ℕ)) (given : List Entry) (line : List ℕ) (entry : LineEntry) (held : List ℕ) → HasAccepted limits old lines given → FitsInLine entry → length held ≡ 4096
     → entry_after old.before line ≡ Ok (held_entry entry held) → ExceedsRoom old entry → IsFaultAfter limits lines line InputLimit
-exceeds_given limits old lines given line entries.Nothing held has short size is more = absurd more
 exceeds_given limits old lines given line (entries.Bytes role count) held has short size is more =
     let all = length-take-le count held (omega (arith, short, size)) in
     limited_line limits old lines given has line role (take count held) is (omega (arith, all, more))
-exceeds_given limits old lines given line (entries.Mark role) held has short size is more = absurd more
+exceeds_given limits old lines given line _ held has short size is more = absurd more
 
 -- ---- the lines in which Closes end
 
@@ -164,20 +134,13 @@ no_bytes_in_nothing Client = refl
 no_bytes_in_nothing Server = refl
 
 pub no_bytes_in_mark : (other role : Role) → bytes_in role (Mark other) ≡ []
-no_bytes_in_mark Client Client = refl
-no_bytes_in_mark Client Server = refl
-no_bytes_in_mark Server Client = refl
-no_bytes_in_mark Server Server = refl
+no_bytes_in_mark other role = grind arith
 
 -- before the bytes of the next line are judged
 pub noted_up_to : (limits : Limits) (noted : CaptureLines) (given : List Entry) (entry : LineEntry) (held : List ℕ) → HasNotedCloses limits noted given → HasNotedUpTo limits noted given (held_entry entry held)
 noted_up_to limits noted given entries.Nothing held has = noted_kept limits noted given Nothing no_bytes_in_nothing has
 noted_up_to limits noted given (entries.Bytes role count) held has = has
 noted_up_to limits noted given (entries.Mark role) held has = noted_kept limits noted given (Mark role) (no_bytes_in_mark role) has
-
-pub own_bytes : (role : Role) (bytes : List ℕ) → bytes_in role (Bytes role bytes) ≡ bytes
-own_bytes Client bytes = refl
-own_bytes Server bytes = refl
 
 -- the verdict on a stream with these bytes
 pub judged_push : (role : Role) (limits : Limits) (given : List Entry) (bytes : List ℕ) (verdict : Verdict) → ((fs : List Frame) × IsVerdict role limits (sent role given ++ bytes) fs verdict) → IsJudged role limits (given ++ Bytes role bytes ∷ []) verdict
@@ -197,8 +160,7 @@ line_noted role limits given bytes None line false count is came =
 -- the number of lines before the last one
 pub line_number : (limits : Limits) (accepted : CaptureLines) (lines : List (List ℕ)) (given : List Entry) (entry : Entry) → HasAccepted limits accepted lines (given ++ entry ∷ []) → count_of accepted - 1 ≡ length given
 line_number limits accepted lines given entry has =
-    let size = ap (λ (b : LinesBefore). b.count) has.before in
-    omega (arith, size, length-append given (entry ∷ []))
+    omega (arith, ap (λ (b : LinesBefore). b.count) has.before, length-append given (entry ∷ []))
 
 -- ---- what is noted in one endpoint's part
 
@@ -318,5 +280,4 @@ noted_from old mid line verdict refusal new is input room refused noted =
 
 pub none_noted : (old : SentBytes) (line : List ℕ) (verdict : Verdict) (new : Option RefusedLine) → new ≡ old.refused → ((refusal : Refusal) → verdict ≡ Refused refusal → ⊥) → IsNotedRefusal old line verdict new
 none_noted old line (Refused refusal) new same other = absurd (other refusal refl)
-none_noted old line (Accepted summary) new same other = same
-none_noted old line (Cut summary) new same other = same
+none_noted old line _ new same other = same

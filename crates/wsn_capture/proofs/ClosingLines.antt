@@ -102,9 +102,8 @@ module _ (role : Role) (limits : Limits) where
       elim (cases_lt line (length given)) [
         | inl within ↦ within
         | inr past ↦
-            let all = ap (λ (es : List Entry). length (sent role es)) (take_all line given past) in
             let more = ap (λ (es : List Entry). length (sent role es)) (take_all (suc line) given (omega (arith, past))) in
-            absurd (omega (arith, all, more, is.before, is.following))
+            absurd (omega (arith, ap (λ (es : List Entry). length (sent role es)) (take_all line given past), more, is.before, is.following))
       ]
 
   pub closes_longer : (given : List Entry) (entry : Entry) (line : ℕ) → ClosesIn role limits given line → ClosesIn role limits (given ++ entry ∷ []) line
@@ -122,19 +121,17 @@ module _ (role : Role) (limits : Limits) where
 
   pub closes_last : (given : List Entry) (entry : Entry) (fs : List Frame) → IsUnclosed role limits (sent role given) → IsAccepted role limits (sent role given ++ bytes_in role entry) fs → EndsWithClose fs → ClosesIn role limits (given ++ entry ∷ []) (length given)
   closes_last given entry fs unclosed is closes =
-      let front = ap (λ (es : List Entry). length (sent role es)) (take_at given (entry ∷ []) (length given) refl) in
       let size : length (given ++ entry ∷ []) ≤ suc (length given) = omega (arith, length-append given (entry ∷ [])) in
       let all = ap (λ (es : List Entry). length (sent role es)) (take_all (suc (length given)) (given ++ entry ∷ []) size) in
       let tail = used (sent role given ++ bytes_in role entry) fs is closes in
-      let sizes = ap (λ (bs : List ℕ). length bs) tail.1 ∙ length-append (stream fs) tail.0 in
       let pushed = ap (λ (bs : List ℕ). length bs) (sent-push role given entry) in
       let late = ends_after (sent role given) (bytes_in role entry) fs unclosed is closes in
       record {
         frames = fs;
         accepted = subst (λ (bs : List ℕ). IsAccepted role limits bs fs) (sym (sent-push role given entry)) is;
         closes = closes;
-        before = omega (arith, front, late);
-        following = omega (arith, all, pushed, sizes);
+        before = omega (arith, ap (λ (es : List Entry). length (sent role es)) (take_at given (entry ∷ []) (length given) refl), late);
+        following = omega (arith, all, pushed, ap (λ (bs : List ℕ). length bs) tail.1 ∙ length-append (stream fs) tail.0);
       }
 
   -- a line that is noted stays

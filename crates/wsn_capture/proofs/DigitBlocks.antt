@@ -118,8 +118,7 @@ digit_at digits k a i fits one lt = picked_at _ 32 a i lt ∙ joined_at digits k
 by_options : (c d k h l : ℕ) (o p : Option ℕ) → MatchOption o (16 ≤ h) (λ v. h ≡ v) → MatchOption p (16 ≤ l) (λ v. l ≡ v) → h < 16 → l < 16
     → pair_of c d k o p ≡ Ok (add (h * 16 % 2 ^ 8) l)
 by_options c d k h l (Some v) (Some w) is_h is_l small_h small_l = ap Ok (omega (arith, is_h, is_l))
-by_options c d k h l (Some v) None is_h is_l small_h small_l = absurd (omega arith)
-by_options c d k h l None p is_h is_l small_h small_l = absurd (omega arith)
+by_options c d k h l _ _ is_h is_l small_h small_l = absurd (omega arith)
 
 pair_decoded : (c d k h l : ℕ) → IsValueOf c h → IsValueOf d l → h < 16 → l < 16 → pair_value c d k ≡ Ok (add (h * 16 % 2 ^ 8) l)
 pair_decoded c d k h l is_h is_l small_h small_l = by_options c d k h l (hex_digit_value c) (hex_digit_value d) is_h is_l small_h small_l
@@ -136,17 +135,15 @@ bad_digit c h is big = bad_option (hex_digit_value c) h (small_value c) is big
 
 no_hex_at : (digits : List ℕ) (j : ℕ) → j < length digits → is_hex_digit (slice_index digits j) ≡ false → HasNoHex digits
 no_hex_at digits j lt bad bytes hex =
-    let good = (decode_of-ok digits bytes hex.1).1 j 0 lt in
-    let both : true ≡ false = sym good ∙ bad in
+    let both : true ≡ false = sym ((decode_of-ok digits bytes hex.1).1 j 0 lt) ∙ bad in
     cc
 
 -- ---- the mask of the lanes that are no digits
 
 no_bit : (ms : List Bool) (i : ℕ) → mask_l ms ≡ 0 → get_or ms i false ≡ false
-no_bit [] i none = refl
 no_bit (true ∷ ms) i none = absurd (omega arith)
-no_bit (false ∷ ms) zero none = refl
 no_bit (false ∷ ms) (suc i) none = no_bit ms i (omega arith)
+no_bit _ _ none = refl
 
 some_bit : (ms : List Bool) → (mask_l ms ≡ 0 → ⊥) → (i : ℕ) × (i < length ms) × (get_or ms i false ≡ true)
 some_bit [] some = absurd (some refl)

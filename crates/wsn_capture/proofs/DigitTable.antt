@@ -24,10 +24,9 @@ listed_at (suc n) c h lt =
     ]
 
 same : (a b : Bool) → beq a b ≡ true → a ≡ b
-same true true h = refl
 same true false h = cc h
 same false true h = cc h
-same false false h = refl
+same _ _ h = refl
 
 pub is_digit_at : (c : ℕ) → c < 256 → not (eqb (slice_index DIGIT_VALUES c) 240) ≡ is_hex_digit c
 is_digit_at c lt = same _ _ (and_parts (beq (not (eqb (slice_index DIGIT_VALUES c) 240)) (is_hex_digit c)) _ (listed_at 256 c refl lt)).0

@@ -33,11 +33,8 @@ use Rattle.wsn_capture.proofs.DigitBlocks.{small_value}
 pair_small : (high low i : ℕ) (h l : Option ℕ) (v : ℕ) → ((d : ℕ) → h ≡ Some d → d < 16) → ((d : ℕ) → l ≡ Some d → d < 16) → pair_of high low i h l ≡ Ok v → v < 256
 pair_small high low i (Some d) (Some e) v small also is =
     let whole : d * 16 + e ≡ v = cc in
-    let high_small = small d refl in
-    let low_small = also e refl in
-    omega (arith, whole, high_small, low_small)
-pair_small high low i (Some d) None v small also is = absurd (cc is)
-pair_small high low i None l v small also is = absurd (cc is)
+    omega (arith, whole, small d refl, also e refl)
+pair_small high low i _ _ v small also is = absurd (cc is)
 
 decoded_bytes : (i : ℕ) (digits bytes : List ℕ) → decode_pairs i digits ≡ Ok bytes → IsBytes bytes
 unfolding decode_pairs
@@ -63,21 +60,15 @@ encoded_bytes digits bytes is = by_parity (length digits % 2 == 1) is
     by_parity false whole = decoded_bytes 0 digits bytes whole
 
 entry_bytes : (role : Role) (text : List ℕ) (entry : Entry) → GivesEntry text entry → IsBytes (bytes_in role entry)
-entry_bytes Client text Nothing is = tt
-entry_bytes Server text Nothing is = tt
 entry_bytes Client text (Bytes Client bytes) is = encoded_bytes is.0 bytes is.2.1
-entry_bytes Client text (Bytes Server bytes) is = tt
-entry_bytes Server text (Bytes Client bytes) is = tt
 entry_bytes Server text (Bytes Server bytes) is = encoded_bytes is.0 bytes is.2.1
-entry_bytes Client text (Mark role) is = tt
-entry_bytes Server text (Mark role) is = tt
+entry_bytes _ text _ is = tt
 
 pub sent_bytes : (role : Role) (lines : List (List ℕ)) (entries : List Entry) → AreEntries lines entries → IsBytes (sent role entries)
 sent_bytes role [] [] are = tt
-sent_bytes role [] (entry ∷ entries) are = absurd are
-sent_bytes role (line ∷ lines) [] are = absurd are
 sent_bytes role (line ∷ lines) (entry ∷ entries) are =
     IsBytes-append (bytes_in role entry) (sent role entries) (entry_bytes role _ entry are.0) (sent_bytes role lines entries are.1)
+sent_bytes role _ _ are = absurd are
 
 -- ---- where a Close ends
 
@@ -86,9 +77,8 @@ nothing_closed role limits fs is closes =
     elim is.ends [
       | inl whole ↦ whole.0 closes.0 [] closes.1 closes.3 closes.2
       | inr tail ↦
-          let none : [] ≡ stream fs = sym (nil-parts (stream fs) tail.1.0 tail.1.1).0 in
           let parts : stream fs ≡ stream closes.0 ++ (frame_bytes closes.1 ++ []) = ap stream closes.3 ∙ flat_map-append frame_bytes closes.0 (closes.1 ∷ []) in
-          nil-push (stream closes.0) _ _ (none ∙ parts)
+          nil-push (stream closes.0) _ _ ((sym (nil-parts (stream fs) tail.1.0 tail.1.1).0) ∙ parts)
     ]
 
 module _ (role : Role) (limits : Limits) (range : InRange limits) where

@@ -94,10 +94,7 @@ one_kept start bytes place line other is also =
 
 kept_within : (start : ℕ) (bytes : List ℕ) (place : ℕ) (line : RefusedLine) → IsKept start bytes place line → place < start + length bytes
 kept_within start bytes place line is =
-    let size = ap (λ (bs : List ℕ). length bs) is.offending.1 in
-    let all = length-drop (place - start) bytes in
-    let from = is.after_start in
-    omega (arith, size, all, from)
+    omega (arith, ap (λ (bs : List ℕ). length bs) is.offending.1, length-drop (place - start) bytes, is.after_start)
 
 -- ---- the entry with a byte of a stream
 
@@ -105,16 +102,9 @@ kept_within start bytes place line is =
 has_bytes : (role : Role) (entry : Entry) → 0 < length (bytes_in role entry) → entry ≡ Bytes role (bytes_in role entry)
 has_bytes Client (Bytes Client bytes) some = refl
 has_bytes Server (Bytes Server bytes) some = refl
-has_bytes Client (Bytes Server bytes) some = absurd (omega (arith, some))
-has_bytes Server (Bytes Client bytes) some = absurd (omega (arith, some))
-has_bytes Client Nothing some = absurd (omega (arith, some))
-has_bytes Server Nothing some = absurd (omega (arith, some))
-has_bytes Client (Mark Client) some = absurd (omega (arith, some))
-has_bytes Client (Mark Server) some = absurd (omega (arith, some))
-has_bytes Server (Mark Client) some = absurd (omega (arith, some))
-has_bytes Server (Mark Server) some = absurd (omega (arith, some))
+has_bytes _ _ some = absurd (omega (arith, some))
 
-own_bytes : (role : Role) (bytes : List ℕ) → bytes_in role (Bytes role bytes) ≡ bytes
+pub own_bytes : (role : Role) (bytes : List ℕ) → bytes_in role (Bytes role bytes) ≡ bytes
 own_bytes Client bytes = refl
 own_bytes Server bytes = refl
 
@@ -143,15 +133,13 @@ entry_there role (entry ∷ entries) place less =
       | inr later ↦
           let rest = entry_there role entries (place - length (bytes_in role entry)) (omega (arith, less, size, later)) in
           let front : length (sent role (entry ∷ rest.before)) ≡ length (bytes_in role entry) + length (sent role rest.before) = length-append (bytes_in role entry) (sent role rest.before) in
-          let from = rest.from in
-          let within = rest.within in
           record {
             before = entry ∷ rest.before;
             bytes = rest.bytes;
             after = rest.after;
             whole = ap (λ (es : List Entry). entry ∷ es) rest.whole;
-            from = omega (arith, front, from, later);
-            within = omega (arith, front, within, later);
+            from = omega (arith, front, rest.from, later);
+            within = omega (arith, front, rest.within, later);
           }
     ]
 
@@ -184,14 +172,11 @@ goes_on role before others after following bytes more place line other is also [
     (subst (λ (bs : List ℕ). IsKept (length (sent role before)) bs place other) equal (subst (λ (es : List Entry). IsKept (length (sent role es)) more place other) same also))
 goes_on role before others after following bytes more place line other is also (entry ∷ between) fronts rest =
     let entries : Bytes role bytes ≡ entry = head_same _ _ _ _ rest in
-    let own : bytes_in role entry ≡ bytes = ap (bytes_in role) (sym entries) ∙ own_bytes role bytes in
     let all : sent role others ≡ sent role before ++ (bytes_in role entry ++ sent role between) = ap (sent role) fronts ∙ flat_map-append (bytes_in role) before (entry ∷ between) in
     let size = ap (λ (bs : List ℕ). length bs) all ∙ length-append (sent role before) (bytes_in role entry ++ sent role between) in
-    let more_size = length-append (bytes_in role entry) (sent role between) in
-    let own_size = ap (λ (bs : List ℕ). length bs) own in
+    let own_size = ap (λ (bs : List ℕ). length bs) (ap (bytes_in role) (sym entries) ∙ own_bytes role bytes) in
     let within = kept_within (length (sent role before)) bytes place line is in
-    let from = also.after_start in
-    absurd (omega (arith, size, more_size, own_size, within, from))
+    absurd (omega (arith, size, length-append (bytes_in role entry) (sent role between), own_size, within, also.after_start))
 
 one_refused : (role : Role) (limits : Limits) (given : List Entry) (line other : RefusedLine) → HasRefusedLine role limits given line → HasRefusedLine role limits given other → line ≡ other
 one_refused role limits given line other is also =

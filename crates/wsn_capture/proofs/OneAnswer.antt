@@ -155,13 +155,10 @@ one_answer limits text (Ok read) (Ok other) is also =
     ∙ ap (λ (t : Tails). Ok (record { report = other.report; tails = t; refused = read.refused })) tails
     ∙ ap (λ (l : RefusedLines). Ok (record { report = other.report; tails = other.tails; refused = l })) refused
 one_answer limits text (Ok read) (Err (Line number fault)) is also = absurd (reported_or_faulty limits text read number fault is also)
-one_answer limits text (Ok read) (Err Read) is also = absurd also
 one_answer limits text (Err (Line number fault)) (Ok read) is also = absurd (reported_or_faulty limits text read number fault also is)
 one_answer limits text (Err (Line number fault)) (Err (Line another other)) is also =
     let same = same_lines text (is.before ++ is.line ∷ is.after) (also.before ++ also.line ∷ also.after) is.are also.are in
     let one = one_faulty limits is.before also.before is.line also.line is.after also.after fault other same is.is also.is in
-    let numbers : number ≡ another = is.at ∙ ap (λ (n : ℕ). n + 1) one.0 ∙ sym also.at in
-    let faults = one.1 in
-    cc (numbers, faults)
-one_answer limits text (Err (Line number fault)) (Err Read) is also = absurd also
+    cc (is.at ∙ ap (λ (n : ℕ). n + 1) one.0 ∙ sym also.at, one.1)
 one_answer limits text (Err Read) other is also = absurd is
+one_answer limits text _ (Err Read) is also = absurd also

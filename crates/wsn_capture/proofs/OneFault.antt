@@ -27,28 +27,18 @@ fault_at (suc (suc (suc (suc (suc n))))) = InputLimit
 
 at_its_place : (fault : LineFault) → fault_at (fault_order fault) ≡ fault
 at_its_place TooManyLines = refl
-at_its_place TooLong = refl
-at_its_place BadForm = refl
-at_its_place BadHex = refl
-at_its_place AfterEnd = refl
-at_its_place InputLimit = refl
+at_its_place _ = refl
 
 placed : (fault : LineFault) → fault_order fault < 6
 placed TooManyLines = omega arith
-placed TooLong = omega arith
-placed BadForm = omega arith
-placed BadHex = omega arith
-placed AfterEnd = omega arith
-placed InputLimit = omega arith
+placed _ = omega arith
 
 pub same_fault : (fault other : LineFault) → fault_order fault ≡ fault_order other → fault ≡ other
 same_fault fault other same = sym (at_its_place fault) ∙ ap fault_at same ∙ at_its_place other
 
 pub one_first_fault : (limits : Limits) (given : List Entry) (line : List ℕ) (fault other : LineFault) → IsFirstLineFault limits given line fault → IsFirstLineFault limits given line other → fault ≡ other
 one_first_fault limits given line fault other is also =
-    let up = is.first other also.held in
-    let down = also.first fault is.held in
-    same_fault fault other (omega (arith, up, down))
+    same_fault fault other (omega (arith, is.first other also.held, also.first fault is.held))
 
 -- The faults from the number `from` on.
 module _ (limits : Limits) (given : List Entry) (text : List ℕ) (from : ℕ) where
@@ -61,10 +51,9 @@ module _ (limits : Limits) (given : List Entry) (text : List ℕ) (from : ℕ) w
 
   pub none_further : (n : ℕ) → NoneBefore n → (HasFault limits given text (fault_at n) → ⊥) → NoneBefore (suc n)
   none_further n before none other held le =
-      let following = before other held le in
       elim (cases_eq (fault_order other) n) [
         | inl here ↦ absurd (none (subst (HasFault limits given text) (sym (at_its_place other) ∙ ap fault_at here) held))
-        | inr there ↦ omega (arith, following, there)
+        | inr there ↦ omega (arith, before other held le, there)
       ]
 
   -- the text has none of these faults

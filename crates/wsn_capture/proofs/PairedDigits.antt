@@ -21,8 +21,7 @@ by_values : (h l : Option ℕ) (digits bytes : List ℕ) (i : ℕ) → 2 * i + 1
     → AreDecoded true digits bytes i
     → AreDecoded (is_some h && is_some l) digits (slice_set bytes i (unwrap_or h 0 * 16 + unwrap_or l 0)) (i + 1)
 by_values (Some v) (Some w) digits bytes i fits room is so_far = decode_step digits bytes i (v * 16 + w) fits room is so_far
-by_values (Some v) None digits bytes i fits room is so_far = (_, decode_err digits bytes i _ fits is so_far)
-by_values None l digits bytes i fits room is so_far = (_, decode_err digits bytes i _ fits is so_far)
+by_values _ _ digits bytes i fits room is so_far = (_, decode_err digits bytes i _ fits is so_far)
 
 -- one more pair
 pub decoded_more : (valid : Bool) (digits bytes : List ℕ) (i : ℕ) → 2 * i + 1 < length digits → i < length bytes

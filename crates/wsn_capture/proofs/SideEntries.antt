@@ -149,9 +149,7 @@ module _ (before : LinesBefore) (role : Role) where
 -- bytes that the digits of a line encode are at most 4,096
 pub few_bytes : (role : Role) (text digits bytes : List ℕ) → length text ≤ line_most → text ≡ bytes_prefix role ++ digits → IsHex digits bytes → length bytes ≤ 4096
 few_bytes role text digits bytes short is hex =
-    let decoded = decode_of-ok digits bytes hex.1 in
-    let size = ap (λ (bs : List ℕ). length bs) (is ∙ front_is role digits) in
-    omega (arith, short, size, decoded.2)
+    omega (arith, short, ap (λ (bs : List ℕ). length bs) (is ∙ front_is role digits), (decode_of-ok digits bytes hex.1).2)
 
 -- The endpoints' streams leave room for one more line.
 abbrev pub HasRoom : Limits → List Entry → Type 0
@@ -211,11 +209,10 @@ module _ (limits : Limits) (given : List Entry) (line : List ℕ) where
 
   over_entry : (role : Role) → IsOfEndpoint role text → has_ended role given ≡ true → (is : IsFirstLineFault limits given line AfterEnd) → entry_after (lines_giving given) line ≡ Err AfterEnd
   over_entry role (inl of) over is =
-      let ended = ended_lines_giving role given ∙ over in
       elim (hex_or_not of.0) [
         | inl hex ↦
             by_text (Ok (Bytes role hex.0)) (none AfterEnd is TooManyLines (omega arith)) (none AfterEnd is TooLong (omega arith)) (read_entry (Bytes role hex.0) (of.0, of.1, hex.1))
-            ∙ bytes_ended before role hex.0 ended
+            ∙ bytes_ended before role hex.0 (ended_lines_giving role given ∙ over)
         | inr bad ↦ absurd (none AfterEnd is BadHex (omega arith) (role, of.0, of.1, bad))
       ]
   over_entry role (inr mark) over is =
@@ -258,11 +255,7 @@ module _ (limits : Limits) (given : List Entry) (line : List ℕ) where
 
   by_fault : (entry : Entry) → entry_after (lines_giving given) line ≡ Ok entry → Fits entry → (fault : LineFault) → Reads fault → ⊥
   by_fault entry is fits InputLimit reads = let same : entry ≡ Bytes reads.0 reads.1 = cc (is, reads.2) in over_limit entry reads.0 reads.1 same fits reads.4
-  by_fault entry is fits TooManyLines reads = cc (is, reads)
-  by_fault entry is fits TooLong reads = cc (is, reads)
-  by_fault entry is fits BadForm reads = cc (is, reads)
-  by_fault entry is fits BadHex reads = cc (is, reads)
-  by_fault entry is fits AfterEnd reads = cc (is, reads)
+  by_fault entry is fits _ reads = cc (is, reads)
 
   pub entry_accepted : (entry : Entry) → entry_after (lines_giving given) line ≡ Ok entry → Fits entry → IsAcceptedLine limits given line entry
   entry_accepted entry is fits =
@@ -273,11 +266,7 @@ module _ (limits : Limits) (given : List Entry) (line : List ℕ) where
 
   same_fault_read : (fault other : LineFault) → entry_after (lines_giving given) line ≡ Err fault → Reads other → fault ≡ other
   same_fault_read fault InputLimit is reads = absurd (cc (is, reads.2))
-  same_fault_read fault TooManyLines is reads = cc (is, reads)
-  same_fault_read fault TooLong is reads = cc (is, reads)
-  same_fault_read fault BadForm is reads = cc (is, reads)
-  same_fault_read fault BadHex is reads = cc (is, reads)
-  same_fault_read fault AfterEnd is reads = cc (is, reads)
+  same_fault_read fault _ is reads = cc (is, reads)
 
   pub fault_first : (fault : LineFault) → entry_after (lines_giving given) line ≡ Err fault → IsFirstLineFault limits given line fault
   fault_first fault is =
@@ -288,11 +277,7 @@ module _ (limits : Limits) (given : List Entry) (line : List ℕ) where
 
   limit_read : (fault : LineFault) (role : Role) (bytes : List ℕ) → entry_after (lines_giving given) line ≡ Ok (Bytes role bytes) → Reads fault → fault ≡ InputLimit
   limit_read InputLimit role bytes is reads = refl
-  limit_read TooManyLines role bytes is reads = absurd (cc (is, reads))
-  limit_read TooLong role bytes is reads = absurd (cc (is, reads))
-  limit_read BadForm role bytes is reads = absurd (cc (is, reads))
-  limit_read BadHex role bytes is reads = absurd (cc (is, reads))
-  limit_read AfterEnd role bytes is reads = absurd (cc (is, reads))
+  limit_read _ role bytes is reads = absurd (cc (is, reads))
 
   -- bytes past the limit
   pub entry_limited : (role : Role) (bytes : List ℕ) → entry_after (lines_giving given) line ≡ Ok (Bytes role bytes) → limits.input < length (sent role given) + length bytes → IsFirstLineFault limits given line InputLimit
@@ -316,30 +301,22 @@ module _ (limits : Limits) (given : List Entry) (line : List ℕ) where
     where
       of_bytes : (role : Role) (bytes : List ℕ) → (Has TooManyLines → ⊥) → (Has TooLong → ⊥) → GivesEntry text (Bytes role bytes) → length (sent role given) + length bytes ≤ limits.input
       of_bytes role bytes few short gives =
-          let size = few_bytes role text gives.0 bytes (short_line short) gives.1 gives.2 in
-          let enough = room (few_lines few) role in
-          omega (arith, size, enough)
+          omega (arith, few_bytes role text gives.0 bytes (short_line short) gives.1 gives.2, room (few_lines few) role)
 
       of_taken : (entry : Entry) → IsAcceptedLine limits given line entry → Fits entry
-      of_taken Nothing taken = tt
       of_taken (Bytes role bytes) taken = of_bytes role bytes (taken.none TooManyLines) (taken.none TooLong) taken.gives
-      of_taken (Mark role) taken = tt
+      of_taken _ taken = tt
 
       of_fault : (fault : LineFault) → IsFirstLineFault limits given line fault → Reads fault → Fits entry
       of_fault InputLimit first reads =
           let within = of_bytes reads.0 reads.1 (none InputLimit first TooManyLines (omega arith)) (none InputLimit first TooLong (omega arith)) reads.3 in
           absurd (omega (arith, within, reads.4))
-      of_fault TooManyLines first reads = absurd (cc (is, reads))
-      of_fault TooLong first reads = absurd (cc (is, reads))
-      of_fault BadForm first reads = absurd (cc (is, reads))
-      of_fault BadHex first reads = absurd (cc (is, reads))
-      of_fault AfterEnd first reads = absurd (cc (is, reads))
+      of_fault _ first reads = absurd (cc (is, reads))
 
   pub first_fault : HasRoom limits given → (fault : LineFault) → IsFirstLineFault limits given line fault → entry_after (lines_giving given) line ≡ Err fault
   first_fault room InputLimit is =
       let reads = read_fault InputLimit is in
-      let within = fits_line (Bytes reads.0 reads.1) room reads.2 in
-      absurd (omega (arith, within, reads.4))
+      absurd (omega (arith, fits_line (Bytes reads.0 reads.1) room reads.2, reads.4))
   first_fault room TooManyLines is = read_fault TooManyLines is
   first_fault room TooLong is = read_fault TooLong is
   first_fault room BadForm is = read_fault BadForm is

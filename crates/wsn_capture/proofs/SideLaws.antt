@@ -45,9 +45,7 @@ module _ (role : Role) (before : LinesBefore) (line : List ℕ) (lines : List (L
 
 or_swap : (a b : Bool) → (a || (b || false)) ≡ (b || a)
 or_swap true true = refl
-or_swap true false = refl
-or_swap false true = refl
-or_swap false false = refl
+or_swap _ _ = refl
 
 ended-push : (role : Role) (given : List Entry) (entry : Entry) → has_ended role (given ++ entry ∷ []) ≡ (is_mark role entry || has_ended role given)
 ended-push role given entry = list_any-append (is_mark role) given (entry ∷ []) ∙ or_swap (has_ended role given) (is_mark role entry)
@@ -63,13 +61,8 @@ before-push given entry =
 
 in_entry : (role : Role) (entry : Entry) (n : ℕ) → ((sender : Role) (bytes : List ℕ) → entry ≡ Bytes sender bytes → length bytes ≤ n) → length (bytes_in role entry) ≤ n
 in_entry Client (Bytes Client bytes) n few = few Client bytes refl
-in_entry Client (Bytes Server bytes) n few = omega arith
-in_entry Server (Bytes Client bytes) n few = omega arith
 in_entry Server (Bytes Server bytes) n few = few Server bytes refl
-in_entry Client Nothing n few = omega arith
-in_entry Server Nothing n few = omega arith
-in_entry Client (Mark role) n few = omega arith
-in_entry Server (Mark role) n few = omega arith
+in_entry _ _ n few = omega arith
 
 entry_short : (limits : Limits) (given : List Entry) (line : List ℕ) (entry : Entry) (role : Role) → IsAcceptedLine limits given line entry → length (bytes_in role entry) ≤ 4096
 entry_short limits given line entry role is = in_entry role entry 4096 few
@@ -89,9 +82,8 @@ AreShort given = (role : Role) → length (sent role given) ≤ 4096 * length gi
 short_push : (limits : Limits) (given : List Entry) (line : List ℕ) (entry : Entry) → AreShort given → IsAcceptedLine limits given line entry → AreShort (given ++ entry ∷ [])
 short_push limits given line entry short is role =
     let one = entry_short limits given line entry role is in
-    let so_far = short role in
     let joined = ap (λ (bs : List ℕ). length bs) (flat_map-append (bytes_in role) given (entry ∷ []) ∙ ap (λ (bs : List ℕ). sent role given ++ bs) (append-nil (bytes_in role entry))) in
-    omega (arith, one, so_far, joined, length-append (sent role given) (bytes_in role entry), length-append given (entry ∷ []))
+    omega (arith, one, short role, joined, length-append (sent role given) (bytes_in role entry), length-append given (entry ∷ []))
 
 has_room : (limits : Limits) (given : List Entry) → side_most ≤ limits.input → AreShort given → HasRoom limits given
 has_room limits given most short few role = let so_far = short role in omega (arith, most, few, so_far)
@@ -104,10 +96,9 @@ none_short role = omega arith
 module _ (limits : Limits) (most : side_most ≤ limits.input) where
   all_short : (given : List Entry) (lines : List (List ℕ)) (entries : List Entry) → AreShort given → AreAcceptedAfter limits given lines entries → AreShort (given ++ entries)
   all_short given [] [] short are = subst AreShort (sym (append-nil given)) short
-  all_short given [] (entry ∷ entries) short are = absurd are
-  all_short given (line ∷ lines) [] short are = absurd are
   all_short given (line ∷ lines) (entry ∷ entries) short are =
       subst AreShort (append_assoc given (entry ∷ []) entries) (all_short (given ++ entry ∷ []) lines entries (short_push limits given line entry short are.0) are.1)
+  all_short given _ _ short are = absurd are
 
   pub room_after : (lines : List (List ℕ)) (entries : List Entry) → AreAcceptedLines limits lines entries → HasRoom limits entries
   room_after lines entries are = has_room limits entries most (all_short [] lines entries none_short are)
@@ -115,16 +106,14 @@ module _ (limits : Limits) (most : side_most ≤ limits.input) where
   side_more : (role : Role) (given : List Entry) (lines : List (List ℕ)) (entries : List Entry) (more : List (List ℕ)) → AreShort given → AreAcceptedAfter limits given lines entries
       → sent_in_lines role (lines_giving given) (lines ++ more) ≡ sent role entries ++ sent_in_lines role (lines_giving (given ++ entries)) more
   side_more role given [] [] more short are = ap (λ (es : List Entry). sent_in_lines role (lines_giving es) more) (sym (append-nil given))
-  side_more role given [] (entry ∷ entries) more short are = absurd are
-  side_more role given (line ∷ lines) [] more short are = absurd are
   side_more role given (line ∷ lines) (entry ∷ entries) more short are =
-      let is = accepted_entry limits given line entry are.0 in
       let rest = side_more role (given ++ entry ∷ []) lines entries more (short_push limits given line entry short are.0) are.1 in
       let whole : (given ++ entry ∷ []) ++ entries ≡ given ++ entry ∷ entries = append_assoc given (entry ∷ []) entries in
-      side-entry role (lines_giving given) line (lines ++ more) entry is
+      side-entry role (lines_giving given) line (lines ++ more) entry (accepted_entry limits given line entry are.0)
       ∙ ap (λ (b : LinesBefore). bytes_in role entry ++ sent_in_lines role b (lines ++ more)) (before-push given entry)
       ∙ ap (λ (bs : List ℕ). bytes_in role entry ++ bs) (rest ∙ ap (λ (es : List Entry). sent role entries ++ sent_in_lines role (lines_giving es) more) whole)
       ∙ sym (append_assoc (bytes_in role entry) (sent role entries) (sent_in_lines role (lines_giving (given ++ entry ∷ entries)) more))
+  side_more role given _ _ more short are = absurd are
 
   -- after accepted lines
   pub side-accepted : (role : Role) (lines : List (List ℕ)) (entries : List Entry) (more : List (List ℕ)) → AreAcceptedLines limits lines entries
@@ -135,10 +124,9 @@ module _ (limits : Limits) (most : side_most ≤ limits.input) where
       → sent_in_lines role no_lines (lines ++ line ∷ more) ≡ sent role is.given ++ sentinel (length lines + 1) fault ∷ []
   side-faulty role lines line more fault is =
       let room = room_after lines is.given is.taken in
-      let count : length is.given ≡ length lines = as_many limits [] lines is.given is.taken in
       side-accepted role lines is.given (line ∷ more) is.taken
       ∙ ap (λ (bs : List ℕ). sent role is.given ++ bs) (side-fault role (lines_giving is.given) line more fault (first_fault limits is.given line room fault is.is)
-      ∙ ap (λ (n : ℕ). sentinel (n + 1) fault ∷ []) count)
+      ∙ ap (λ (n : ℕ). sentinel (n + 1) fault ∷ []) (as_many limits [] lines is.given is.taken))
 
   -- ---- texts
 
@@ -165,11 +153,7 @@ module _ (limits : Limits) (most : side_most ≤ limits.input) where
 
 order_small : (fault : LineFault) → fault_order fault < 8
 order_small TooManyLines = omega arith
-order_small TooLong = omega arith
-order_small BadForm = omega arith
-order_small BadHex = omega arith
-order_small AfterEnd = omega arith
-order_small InputLimit = omega arith
+order_small _ = omega arith
 
 pub sentinel-same : (number other : ℕ) (fault another : LineFault) → sentinel number fault ≡ sentinel other another → (number ≡ other) × (fault ≡ another)
 sentinel-same number other fault another is =
@@ -190,9 +174,7 @@ last_same xs ys x y is =
 -- no sentinel is among bytes
 no_sentinel : (came bytes : List ℕ) (number : ℕ) (fault : LineFault) → IsBytes bytes → bytes ≡ came ++ sentinel number fault ∷ [] → ⊥
 no_sentinel came bytes number fault all is =
-    let above = IsBytes-right came (sentinel number fault ∷ []) (subst IsBytes is all) in
-    let big = sentinel_big number fault in
-    omega (arith, above.0, big)
+    omega (arith, (IsBytes-right came (sentinel number fault ∷ []) (subst IsBytes is all)).0, sentinel_big number fault)
 
 -- a side that ends with a sentinel has this faulty line
 pub sentinel_found : (limits : Limits) (role : Role) (text came : List ℕ) (number : ℕ) (fault : LineFault) → side_most ≤ limits.input → sent_in role text ≡ came ++ sentinel number fault ∷ [] → IsFaulty limits text number fault

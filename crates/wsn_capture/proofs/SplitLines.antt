@@ -20,20 +20,15 @@ use Rattle.wsn_rules.proofs.TextLines.{has_lines, ended-push, each_join, lines_i
 -- ---- a line that is too long whatever follows
 
 without_cr_long : (line : List ℕ) → length line ≤ length (without_cr line) + 1
-without_cr_long [] = omega arith
-without_cr_long (b ∷ []) = omega arith
 without_cr_long (b ∷ c ∷ line) = let rest = without_cr_long (c ∷ line) in omega (arith, rest)
+without_cr_long _ = omega arith
 
 pub too_long : (line more : List ℕ) → 8196 ≤ length line → 8194 < length (without_cr (line ++ more))
 too_long line more long = let kept = without_cr_long (line ++ more) in omega (arith, kept, length-append line more, long)
 
 after_first : (limits : Limits) (given : List Entry) (text : List ℕ) → (HasFault limits given text TooManyLines → ⊥) → (other : LineFault) → HasFault limits given text other → 1 ≤ fault_order other
 after_first limits given text few TooManyLines held = absurd (few held)
-after_first limits given text few TooLong held = omega arith
-after_first limits given text few BadForm held = omega arith
-after_first limits given text few BadHex held = omega arith
-after_first limits given text few AfterEnd held = omega arith
-after_first limits given text few InputLimit held = omega arith
+after_first limits given text few _ held = omega arith
 
 still_first : (limits : Limits) (given : List Entry) (line more : List ℕ) (fault : LineFault) → 8196 ≤ length line → fault_order fault ≤ 1 → IsFirstLineFault limits given line fault → IsFirstLineFault limits given (line ++ more) fault
 still_first limits given line more TooManyLines long low is = record { held = is.held; first = λ other held. omega arith }
@@ -41,10 +36,7 @@ still_first limits given line more TooLong long low is = record {
   held = too_long line more long;
   first = after_first limits given (without_cr (line ++ more)) (λ many. let up = is.first TooManyLines many in omega (arith, up));
 }
-still_first limits given line more BadForm long low is = absurd (omega (arith, low))
-still_first limits given line more BadHex long low is = absurd (omega (arith, low))
-still_first limits given line more AfterEnd long low is = absurd (omega (arith, low))
-still_first limits given line more InputLimit long low is = absurd (omega (arith, low))
+still_first limits given line more _ long low is = absurd (omega (arith, low))
 
 still_faulty : (limits : Limits) (lines : List (List ℕ)) (line more : List ℕ) (fault : LineFault) → 8196 ≤ length line → IsFaultAfter limits lines line fault → IsFaultAfter limits lines (line ++ more) fault
 still_faulty limits lines line more fault long is =

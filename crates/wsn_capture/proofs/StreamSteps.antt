@@ -90,11 +90,9 @@ judged role limits scan came verdict s is reported =
 pub room_for : (role : Role) (limits : Limits) (scan : Scan) (accepted : CaptureLines) (lines : List (List ℕ)) (given : List Entry) (bytes line : List ℕ) → HasAccepted limits accepted (lines ++ line ∷ []) (given ++ Bytes role bytes ∷ [])
     → HasStreamed role limits scan (sent role given) → length bytes ≤ room_of scan
 room_for role limits scan accepted lines given bytes line has s =
-    let room = has.room role in
     let all = ap (λ (bs : List ℕ). length bs) (sent-push role given (Bytes role bytes) ∙ ap (λ (bs : List ℕ). sent role given ++ bs) (own_bytes role bytes)) ∙ length-append (sent role given) bytes in
-    let parts = ap (λ (bs : List ℕ). length bs) s.whole ∙ length-append s.came s.following in
     let own = s.taken.has_scanned.has_consumed.room in
-    omega (arith, room, all, parts, own)
+    omega (arith, has.room role, all, ap (λ (bs : List ℕ). length bs) s.whole ∙ length-append s.came s.following, own)
 
 module _ (limits : Limits) (capture : Captured) (lines : List (List ℕ)) (has : HasAcceptedLines limits capture lines) (noted : CaptureLines) (line : List ℕ) where
   pub client_line : (scan : Scan) (bytes : List ℕ) → HasAccepted limits noted (lines ++ line ∷ []) (has.entries ++ Bytes Client bytes ∷ []) → HasNotedCloses limits noted (has.entries ++ Bytes Client bytes ∷ [])
@@ -194,5 +192,4 @@ module _ (capture : Captured) (line : List ℕ) (accepted : CaptureLines) (entry
 pub counted : (capture : Captured) (old accepted noted : CaptureLines) → old ≡ capture.lines → (count_of accepted ≡ count_of old + 1) × (count_of accepted ≤ 1000000) → count_of noted ≡ count_of accepted
     → (count_of noted ≡ count_of capture.lines + 1) × (count_of noted ≤ 1000000)
 counted capture old accepted noted is more same =
-    let before = ap count_of is in
-    (omega (arith, before, more.0, same), omega (arith, more.1, same))
+    (omega (arith, ap count_of is, more.0, same), omega (arith, more.1, same))

@@ -38,16 +38,12 @@ module _ (role : Role) (limits : Limits) where
             let size = ap (λ (bs : List ℕ). length bs) whole.2 in
             inr ((λ gs also closes. no_close_in gs (subst HasNoClose (same_frames bytes fs gs is.0 also) whole.0) closes), omega (arith, count, size))
         | inr tail ↦
-            let size = ap (λ (bs : List ℕ). length bs) tail.1.1 ∙ length-append (stream fs) tail.1.0 in
-            inl (fs, is.0, tail.0, omega (arith, count, size))
+            inl (fs, is.0, tail.0, omega (arith, count, ap (λ (bs : List ℕ). length bs) tail.1.1 ∙ length-append (stream fs) tail.1.0))
       ]
 
   pub one_tail : (bytes : List ℕ) (count other : ℕ) → HasTail role limits bytes count → HasTail role limits bytes other → count ≡ other
   one_tail bytes count other (inl closed) (inl also) =
-      let sizes = ap (λ (fs : List Frame). length (stream fs)) (same_frames bytes closed.0 also.0 closed.1 also.1) in
-      let size = closed.3 in
-      let other_size = also.3 in
-      omega (arith, sizes, size, other_size)
+      omega (arith, ap (λ (fs : List Frame). length (stream fs)) (same_frames bytes closed.0 also.0 closed.1 also.1), closed.3, also.3)
   one_tail bytes count other (inl closed) (inr none) = absurd (none.0 closed.0 closed.1 closed.2)
   one_tail bytes count other (inr none) (inl closed) = absurd (none.0 closed.0 closed.1 closed.2)
   one_tail bytes count other (inr none) (inr also) = none.1 ∙ sym also.1

@@ -71,7 +71,5 @@ module _ (comparison : Comparison) (bytes others : List ℕ) (before after : Out
 
 -- a stop of the comparison, before which nothing was printed
 pub stop_printed : (comparison : Comparison) (before after : ComparedChannels) (stopped : Stop) → IsComparisonAnswer comparison before after (Err stopped) → after.output ≡ before.output → IsComparisonPrinted comparison before after (Err stopped)
-stop_printed comparison before after stop.Read is same = (is, same)
-stop_printed comparison before after stop.InputLimit is same = (is, same)
-stop_printed comparison before after stop.Memory is same = (is, same)
 stop_printed comparison before after stop.Write is same = elim is.answer [ inl one ↦ absurd one.1.0 | inr other ↦ absurd other.1.0 ]
+stop_printed comparison before after _ is same = (is, same)

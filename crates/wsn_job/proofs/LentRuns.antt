@@ -34,11 +34,8 @@ received_is_read most old new came received lent unfailed = (received.consumed.r
 
 verdict_is_read : (format : Format) (role : Role) (limits : Limits) (old new : Incoming) (before after : Outgoing) (done : Result Verdict Stop)
     → IsVerdictPrinted format role limits old new before after done → IsRead old new
-verdict_is_read format role limits old new before after (Ok verdict) printed = received_is_read _ old new _ printed.0.1.received
 verdict_is_read format role limits old new before after (Err stop.Write) printed = received_is_read _ old new _ printed.1.1.received
-verdict_is_read format role limits old new before after (Err stop.Read) printed = received_is_read _ old new _ printed.0.1.received
-verdict_is_read format role limits old new before after (Err stop.Memory) printed = received_is_read _ old new _ printed.0.1.received
-verdict_is_read format role limits old new before after (Err stop.InputLimit) printed = received_is_read _ old new _ printed.0.1.received
+verdict_is_read format role limits old new before after _ printed = received_is_read _ old new _ printed.0.1.received
 
 plan_is_read : {A : Type 0} (role : Role) (limits : Limits) (old new : Incoming) (before after : Outgoing) (done : Result (PlanAnswer A) Stop)
     → IsPlanPrinted role limits old new before after done → IsRead old new
@@ -52,22 +49,14 @@ plan_is_read role limits old new before after (Err stop.InputLimit) printed = re
 
 report_is_read : (format : Format) (limits : Limits) (old new : Incoming) (before after : Outgoing) (done : Result CaptureReport ShowStop)
     → IsReportPrinted format limits old new before after done → IsRead old new
-report_is_read format limits old new before after (Ok report) printed = received_is_read _ old new _ printed.0.received
-report_is_read format limits old new before after (Err (Capture stopped)) printed = received_is_read _ old new _ printed.0.received
 report_is_read format limits old new before after (Err Write) printed = received_is_read _ old new _ printed.1.received
+report_is_read format limits old new before after _ printed = received_is_read _ old new _ printed.0.received
 
 pub run_is_read : {A : Type 0} (job : Job A) (before after : Channels) (ran : Ran) → IsRun job before after ran → IsRead before.input after.input
 run_is_read (Judge role limits format) before after ran run = verdict_is_read format role limits _ _ _ _ run.0 run.1
-run_is_read (Frames role limits format) before after ran run = received_is_read _ _ _ _ run.1.received
-run_is_read (Normal role limits) before after ran run = received_is_read _ _ _ _ run.1.received
-run_is_read (Redact role limits) before after ran run = received_is_read _ _ _ _ run.1.received
 run_is_read (Plan role limits) before after ran run = plan_is_read role limits _ _ _ _ run.0 run.1
-run_is_read (Recut role limits how) before after ran run = received_is_read _ _ _ _ run.1.received
-run_is_read (Payload role limits at) before after ran run = received_is_read _ _ _ _ run.1.received
-run_is_read (ShowStream role limits style) before after ran run = received_is_read _ _ _ _ run.1.received
 run_is_read (Closing limits format) before after ran run = report_is_read format limits _ _ _ _ run.0 run.1
-run_is_read (Show limits style) before after ran run = received_is_read _ _ _ _ run.1.received
-run_is_read (RedactCapture limits) before after ran run = received_is_read _ _ _ _ run.1.received
+run_is_read _ before after ran run = received_is_read _ _ _ _ run.1.received
 
 -- No read of either failed.
 abbrev AreRead : ComparedChannels → ComparedChannels → Type 0
@@ -75,8 +64,5 @@ AreRead before after = IsRead before.first after.first × IsRead before.second a
 
 pub comparison_is_read : (comparison : Comparison) (before after : ComparedChannels) (answer : Result Compared Stop)
     → IsComparisonPrinted comparison before after answer → AreRead before after
-comparison_is_read comparison before after (Ok compared) printed = (received_is_read _ _ _ _ printed.0.received, received_is_read _ _ _ _ printed.0.other_received)
 comparison_is_read comparison before after (Err stop.Write) printed = (received_is_read _ _ _ _ printed.1.received, received_is_read _ _ _ _ printed.1.other_received)
-comparison_is_read comparison before after (Err stop.Read) printed = (received_is_read _ _ _ _ printed.0.received, received_is_read _ _ _ _ printed.0.other_received)
-comparison_is_read comparison before after (Err stop.Memory) printed = (received_is_read _ _ _ _ printed.0.received, received_is_read _ _ _ _ printed.0.other_received)
-comparison_is_read comparison before after (Err stop.InputLimit) printed = (received_is_read _ _ _ _ printed.0.received, received_is_read _ _ _ _ printed.0.other_received)
+comparison_is_read comparison before after _ printed = (received_is_read _ _ _ _ printed.0.received, received_is_read _ _ _ _ printed.0.other_received)

@@ -53,15 +53,13 @@ module _ (role : Role) (limits : Limits) (old new : Incoming) (failed : new.fail
   -- no read had failed when a verdict was reached
   reached : {B : Type 0} (came : List ℕ) (verdict : Verdict) → IsReached role limits new came verdict → B
   reached came (Accepted summary) is = let h : new.failed ≡ false = is.4 in absurd cc
-  reached came (Cut summary) is = let h : new.failed ≡ false = is.4 in absurd cc
-  reached came (Refused refusal) is = let h : new.failed ≡ false = is.4 in absurd cc
+  reached came _ is = let h : new.failed ≡ false = is.4 in absurd cc
 
   judged : (result : Result Verdict Stop) → IsJudged role limits old new result → result ≡ Err stop.Read
   judged (Ok verdict) is = reached is.0 verdict is.1.answer
   judged (Err stop.Read) is = refl
   judged (Err stop.InputLimit) is = let h : new.failed ≡ false = is.1.answer.2 in absurd cc
-  judged (Err stop.Memory) is = absurd is.1.answer
-  judged (Err stop.Write) is = absurd is.1.answer
+  judged _ is = absurd is.1.answer
 
   verdict_printed : (format : Format) (before after : Outgoing) (result : Result Verdict Stop) →
       IsVerdictPrinted format role limits old new before after result → result ≡ Err stop.Read
@@ -123,15 +121,13 @@ module _ (role : Role) (limits : Limits) (old new : Incoming) (failed : new.fail
 
   recut : (planner : Planner) (before after : Outgoing) (result : Result RecutAnswer Stop) →
       IsRecut role limits planner old new before after result → result ≡ Err stop.Read
-  recut planner before after (Ok answer) is = reached is.came is.of_bytes.0 is.of_bytes.2.0
   recut planner before after (Err stop.Read) is = refl
   recut planner before after (Err stop.InputLimit) is = let h : new.failed ≡ false = is.of_bytes.0.2 in absurd cc
   recut planner before after (Err stop.Memory) is = let h : new.failed ≡ false = is.of_bytes.0.1 in absurd cc
-  recut planner before after (Err stop.Write) is = reached is.came is.of_bytes.0 is.of_bytes.2.0
+  recut planner before after _ is = reached is.came is.of_bytes.0 is.of_bytes.2.0
 
   payload_taken : (at : ℕ) (before after : Outgoing) (result : Result Taken Stop) →
       IsPayloadTaken role limits at old new before after result → result ≡ Err stop.Read
-  payload_taken at before after (Ok Whole) is = let h : new.failed ≡ false = is.answer.3 in absurd cc
   payload_taken at before after (Ok (Unfinished verdict)) is = reached is.came verdict is.answer.3
   payload_taken at before after (Ok (Inside event)) is = let h : new.failed ≡ false = is.answer.2 in absurd cc
   payload_taken at before after (Ok (Head start verdict)) is = reached is.came verdict is.answer.2
@@ -139,7 +135,7 @@ module _ (role : Role) (limits : Limits) (old new : Incoming) (failed : new.fail
   payload_taken at before after (Err stop.Read) is = refl
   payload_taken at before after (Err stop.InputLimit) is = let h : new.failed ≡ false = is.answer.3.2 in absurd cc
   payload_taken at before after (Err stop.Memory) is = absurd is.answer.3
-  payload_taken at before after (Err stop.Write) is = let h : new.failed ≡ false = is.answer.3 in absurd cc
+  payload_taken at before after _ is = let h : new.failed ≡ false = is.answer.3 in absurd cc
 
 -- A failed read leaves no answer.
 no_answer : {A : Type 0} (status : Result A Stop → ℕ) (answered : Result A Stop → Answer) (result : Result A Stop) →
@@ -188,8 +184,7 @@ pub side_run : {A : Type 0} (job : Job A) (old new : Incoming) (before after qui
     (ran : Ran) → IsDone job old new before after d → IsDoneDiagnosed d quiet said → ran ≡ done_ran d →
     IsRunOnSide job (channels old before quiet) (channels new after said) ran
 side_run job old new before after quiet said d ran is diagnosed ends =
-    let run = run_of_done job (channels old before quiet) (channels new after said) d is diagnosed in
-    inl (rw ends run)
+    inl (rw ends (run_of_done job (channels old before quiet) (channels new after said) d is diagnosed))
 
 -- A run over a side that ended at a faulty line.
 pub side_run_to_line : {A : Type 0} (job : Job A) (old new : Incoming) (before after quiet said : Outgoing) (d : Done A)

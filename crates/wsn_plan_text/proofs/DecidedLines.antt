@@ -134,14 +134,12 @@ key_and_form_or_none text =
             | inl field ↦ inl (split.0, split.1, ((some, split.2.0), field, split.2.1))
             | inr not_field ↦
                 inr (λ (key, form, are).
-                let same = at_first_space text split.0 key split.1 form split.2 are in
-                let also : IfSome split.1 IsField = rw same.1 are.1 in
+                let also : IfSome split.1 IsField = rw (at_first_space text split.0 key split.1 form split.2 are).1 are.1 in
                 not_field also)
           ]
       | inr none ↦
           inr (λ (key, form, are).
-          let same = at_first_space text split.0 key split.1 form split.2 are in
-          are.0.0 (sym same.0 ∙ none))
+          are.0.0 (sym (at_first_space text split.0 key split.1 form split.2 are).0 ∙ none))
     ]
 
 abbrev FieldsBehind : List ℕ → List ℕ → Type 0
@@ -211,8 +209,7 @@ with_cut line word (Some rest) split =
 
 has_number_or_not : (fields : Fields) → HasNumber fields ⊎ (HasNumber fields → ⊥)
 has_number_or_not (OfPiece number key form) = number_or_none number
-has_number_or_not (OfLast key form) = inl tt
-has_number_or_not (OfControl key) = inl tt
+has_number_or_not _ = inl tt
 
 with_fields : (line : List ℕ) (fields : Fields) → HasFields line fields
     → ((step : Step) × EncodesStep line step) ⊎ ((why : LineWhy) × IsLineFault line why)

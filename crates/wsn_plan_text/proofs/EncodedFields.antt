@@ -20,22 +20,19 @@ use Rattle.wsn_plan_text.specs.PlanText.{HasNo, preceded_by, IsField, EncodesNum
 digits_have_no : (byte : ℕ) (digits : List ℕ) → byte < 48 → AllDigits 10 digits → HasNo byte digits
 digits_have_no byte [] low all = tt
 digits_have_no byte (digit ∷ digits) low all =
-    let range = digit_from_value digit all.0 in
-    (omega (arith, range), digits_have_no byte digits low all.1)
+    (omega (arith, digit_from_value digit all.0), digits_have_no byte digits low all.1)
 
 pub number_has_no : (byte : ℕ) (text : List ℕ) (n : ℕ) → byte < 48 → EncodesNumber text n → HasNo byte text
 number_has_no byte text n low spells =
-    let numeral = decimal_is_IsNumeral n spells.0 in
-    subst (HasNo byte) (sym spells.1) (digits_have_no byte (decimal n) low numeral.0.1)
+    subst (HasNo byte) (sym spells.1) (digits_have_no byte (decimal n) low (decimal_is_IsNumeral n spells.0).0.1)
 
 some_digits : (digits : List ℕ) → 0 < length digits → digits ≢ []
 some_digits digits some e = let none = ap (λ (text : List ℕ). length text) e in omega (arith, none)
 
 pub number_is_field : (text : List ℕ) (n : ℕ) → EncodesNumber text n → IsField text
 number_is_field text n spells =
-    let numeral = decimal_is_IsNumeral n spells.0 in
     let IsSome : List ℕ → Type 0 = λ other. other ≢ [] in
-    (subst IsSome (sym spells.1) (some_digits (decimal n) numeral.0.0), number_has_no 32 text n (omega arith) spells)
+    (subst IsSome (sym spells.1) (some_digits (decimal n) (decimal_is_IsNumeral n spells.0).0.0), number_has_no 32 text n (omega arith) spells)
 
 pub one_number : (text : List ℕ) (n m : ℕ) → EncodesNumber text n → EncodesNumber text m → n ≡ m
 one_number text n m spells also = decimal_injective n m spells.0 also.0 (sym spells.1 ∙ also.1)
@@ -63,8 +60,7 @@ key_is_field text None spells = (
   key_has_no 32 text None (λ e. cc e) (omega arith) spells,
 )
 key_is_field text (Some key) spells =
-    let eight = spells.0 in
-    (some_digits text (omega (arith, eight)), key_has_no 32 text (Some key) (λ e. cc e) (omega arith) spells)
+    (some_digits text (omega (arith, spells.0)), key_has_no 32 text (Some key) (λ e. cc e) (omega arith) spells)
 
 dash_is_short : (text : List ℕ) → text ≡ codes "-" → length text ≡ 8 → ⊥
 dash_is_short text e eight = let one = ap (λ (other : List ℕ). length other) e in omega (arith, one, eight)
@@ -88,8 +84,7 @@ field_of Eight = Some (codes "eight")
 
 pub form_as_field : (form : Form) → form_text form ≡ preceded_by 32 (field_of form)
 form_as_field Shortest = refl
-form_as_field Two = refl
-form_as_field Eight = refl
+form_as_field _ = refl
 
 pub form_is_field : (form : Form) → IfSome (field_of form) IsField
 form_is_field Shortest = tt
@@ -101,12 +96,7 @@ pub one_form : (form other : Form) → form_text form ≡ form_text other → fo
 one_form Shortest Shortest e = refl
 one_form Two Two e = refl
 one_form Eight Eight e = refl
-one_form Shortest Two e = absurd (cc e)
-one_form Shortest Eight e = absurd (cc e)
-one_form Two Shortest e = absurd (cc e)
-one_form Two Eight e = absurd (cc e)
-one_form Eight Shortest e = absurd (cc e)
-one_form Eight Two e = absurd (cc e)
+one_form _ _ e = absurd (cc e)
 
 pub form_has_no_lf : (form : Form) → HasNo 10 (form_text form)
 form_has_no_lf Shortest = tt

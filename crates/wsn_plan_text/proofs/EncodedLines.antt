@@ -46,28 +46,18 @@ fields_of_step line (step.Control key) spells = (OfControl spells.0, (key_is_fie
 pub step_of_fields : (line : List ℕ) (fields : Fields) (step : Step) → HasFields line fields → Tell fields step → EncodesStep line step
 step_of_fields line (OfPiece number key form) (step.Piece len code encoded) has tell =
     (number, key, tell.0, tell.1, has.3 ∙ ap (λ (text : List ℕ). codes "piece " ++ number ++ codes " " ++ key ++ text) tell.2)
-step_of_fields line (OfPiece number key form) (step.Last code encoded) has tell = absurd tell
-step_of_fields line (OfPiece number key form) (step.Control code) has tell = absurd tell
-step_of_fields line (OfLast key form) (step.Piece len code encoded) has tell = absurd tell
 step_of_fields line (OfLast key form) (step.Last code encoded) has tell =
     (key, tell.0, has.2 ∙ ap (λ (text : List ℕ). codes "last " ++ key ++ text) tell.1)
-step_of_fields line (OfLast key form) (step.Control code) has tell = absurd tell
-step_of_fields line (OfControl key) (step.Piece len code encoded) has tell = absurd tell
-step_of_fields line (OfControl key) (step.Last code encoded) has tell = absurd tell
 step_of_fields line (OfControl key) (step.Control code) has tell = (key, tell, has.1)
+step_of_fields line _ _ has tell = absurd tell
 
 -- ---- fields that encode a step encode each of its parts, and the other way round
 
 pub reported_parts : (fields : Fields) (step : Step) → Tell fields step → HasNumber fields × HasKey fields × HasForm fields
 reported_parts (OfPiece number key form) (step.Piece len code encoded) tell = ((len, tell.0), (code, tell.1), (encoded, tell.2))
-reported_parts (OfPiece number key form) (step.Last code encoded) tell = absurd tell
-reported_parts (OfPiece number key form) (step.Control code) tell = absurd tell
-reported_parts (OfLast key form) (step.Piece len code encoded) tell = absurd tell
 reported_parts (OfLast key form) (step.Last code encoded) tell = (tt, (code, tell.0), (encoded, tell.1))
-reported_parts (OfLast key form) (step.Control code) tell = absurd tell
-reported_parts (OfControl key) (step.Piece len code encoded) tell = absurd tell
-reported_parts (OfControl key) (step.Last code encoded) tell = absurd tell
 reported_parts (OfControl key) (step.Control code) tell = (tt, (code, tell), (Shortest, refl))
+reported_parts _ _ tell = absurd tell
 
 unfoldable pub step_of_parts : (fields : Fields) → HasNumber fields → HasKey fields → HasForm fields → (step : Step) × Tell fields step
 step_of_parts (OfPiece number key form) numbers keys forms = (step.Piece numbers.0 keys.0 forms.0, (numbers.1, keys.1, forms.1))
@@ -82,27 +72,21 @@ one_reported (OfPiece number key form) (step.Piece len code encoded) (step.Piece
     let keys : code ≡ other = one_key key code other tell.1 also.1 in
     let forms : encoded ≡ also_encoded = one_form encoded also_encoded (sym tell.2 ∙ also.2) in
     cc
-one_reported (OfPiece number key form) (step.Piece len code encoded) (step.Last other also_encoded) tell also = absurd also
-one_reported (OfPiece number key form) (step.Piece len code encoded) (step.Control other) tell also = absurd also
 one_reported (OfPiece number key form) (step.Last code encoded) other tell also = absurd tell
 one_reported (OfPiece number key form) (step.Control code) other tell also = absurd tell
 one_reported (OfLast key form) (step.Piece len code encoded) other tell also = absurd tell
-one_reported (OfLast key form) (step.Last code encoded) (step.Piece size other also_encoded) tell also = absurd also
 one_reported (OfLast key form) (step.Last code encoded) (step.Last other also_encoded) tell also =
     let keys : code ≡ other = one_key key code other tell.0 also.0 in
     let forms : encoded ≡ also_encoded = one_form encoded also_encoded (sym tell.1 ∙ also.1) in
     cc
-one_reported (OfLast key form) (step.Last code encoded) (step.Control other) tell also = absurd also
 one_reported (OfLast key form) (step.Control code) other tell also = absurd tell
 one_reported (OfControl key) (step.Piece len code encoded) other tell also = absurd tell
 one_reported (OfControl key) (step.Last code encoded) other tell also = absurd tell
-one_reported (OfControl key) (step.Control code) (step.Piece size other also_encoded) tell also = absurd also
-one_reported (OfControl key) (step.Control code) (step.Last other also_encoded) tell also = absurd also
 one_reported (OfControl key) (step.Control code) (step.Control other) tell also = ap step.Control (one_key key code other tell also)
+one_reported _ _ _ tell also = absurd also
 
 pub one_step : (line : List ℕ) (step other : Step) → EncodesStep line step → EncodesStep line other → step ≡ other
 one_step line step other spells also =
     let f = fields_of_step line step spells in
     let g = fields_of_step line other also in
-    let same = one_list_of_fields line g.0 f.0 g.1 f.1 in
-    one_reported f.0 step other f.2 (rw same at g.2)
+    one_reported f.0 step other f.2 (rw (one_list_of_fields line g.0 f.0 g.1 f.1) at g.2)

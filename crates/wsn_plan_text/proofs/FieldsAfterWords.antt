@@ -9,9 +9,7 @@ use Rattle.wsn_plan_text.proofs.FieldsOfLine.{fields_at_cut, from_parts, parts_o
 -- a text that isn't a field
 pub cut_is_no_field : (text first rest : List ℕ) → IsSplit 32 text first (Some rest) → IsField text → ⊥
 cut_is_no_field text first rest split field =
-    let same = one_cut 32 text first None (Some rest) field.1 split.0 (append-nil text ∙ split.1) in
-    let none : None ≡ Some rest = same.1 in
-    cc none
+    cc ((one_cut 32 text first None (Some rest) field.1 split.0 (append-nil text ∙ split.1)).1)
 
 pub uncut_is_clear : (text first : List ℕ) → IsSplit 32 text first None → HasNo 32 text
 uncut_is_clear text first split = subst (HasNo 32) (sym (split.1 ∙ append-nil first)) split.0
@@ -37,19 +35,16 @@ piece_at_cut rest number more (OfPiece other key form) split are =
       λ none. are.0.0.0 (sym same.0 ∙ none),
       (key ++ preceded_by 32 form, key, form, same.1, (are.0.1, are.0.2, refl)),
     )
-piece_at_cut rest number more (OfLast key form) split are = absurd (cc are.1)
-piece_at_cut rest number more (OfControl key) split are = absurd (cc are.1)
+piece_at_cut rest number more _ split are = absurd (cc are.1)
 
 pub last_is_key_and_form : (rest : List ℕ) (fields : Fields) → AreFieldsAfter (codes "last") rest fields
     → (key : List ℕ) × (form : Option (List ℕ)) × AreKeyAndForm rest key form
-last_is_key_and_form rest (OfPiece number key form) are = absurd (cc are.1)
 last_is_key_and_form rest (OfLast key form) are = (key, form, (are.0.0, are.0.1, sym are.2))
-last_is_key_and_form rest (OfControl key) are = absurd (cc are.1)
+last_is_key_and_form rest _ are = absurd (cc are.1)
 
 pub control_is_field : (rest : List ℕ) (fields : Fields) → AreFieldsAfter (codes "control") rest fields → IsField rest
-control_is_field rest (OfPiece number key form) are = absurd (cc are.1)
-control_is_field rest (OfLast key form) are = absurd (cc are.1)
 control_is_field rest (OfControl key) are = subst IsField are.2 are.0
+control_is_field rest _ are = absurd (cc are.1)
 
 pub no_other_word : (word rest : List ℕ) (fields : Fields) → word ≢ codes "piece" → word ≢ codes "last" → word ≢ codes "control"
     → AreFieldsAfter word rest fields → ⊥
@@ -72,6 +67,4 @@ fields_after_cut line word rest fields split has =
 
 pub no_fields_uncut : (line word : List ℕ) (fields : Fields) → IsSplit 32 line word None → HasFields line fields → ⊥
 no_fields_uncut line word fields split has =
-    let same = fields_at_cut line word None fields split.0 split.1 has in
-    let none : None ≡ Some (rest_of fields) = same.1 in
-    cc none
+    cc ((fields_at_cut line word None fields split.0 split.1 has).1)

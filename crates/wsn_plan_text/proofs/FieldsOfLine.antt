@@ -56,24 +56,17 @@ same_rest (OfLast key form) (OfLast code more) are also words rests =
     let third : form ≡ more = keys.1 in
     cc
 same_rest (OfControl key) (OfControl code) are also words rests = ap OfControl rests
-same_rest (OfPiece number key form) (OfLast code more) are also words rests = absurd (cc words)
-same_rest (OfPiece number key form) (OfControl code) are also words rests = absurd (cc words)
-same_rest (OfLast key form) (OfPiece other code more) are also words rests = absurd (cc words)
-same_rest (OfLast key form) (OfControl code) are also words rests = absurd (cc words)
-same_rest (OfControl key) (OfPiece other code more) are also words rests = absurd (cc words)
-same_rest (OfControl key) (OfLast code more) are also words rests = absurd (cc words)
+same_rest _ _ are also words rests = absurd (cc words)
 
 -- a line that is split at its first space
 pub fields_at_cut : (line word : List ℕ) (rest : Option (List ℕ)) (fields : Fields) → HasNo 32 word → line ≡ word ++ preceded_by 32 rest
     → HasFields line fields → (word ≡ first_word fields) × (rest ≡ Some (rest_of fields))
 fields_at_cut line word rest fields clear e has =
-    let parts = parts_of line fields has in
-    one_cut 32 word (first_word fields) rest (Some (rest_of fields)) clear (word_has_no_space fields) (sym e ∙ parts.1)
+    one_cut 32 word (first_word fields) rest (Some (rest_of fields)) clear (word_has_no_space fields) (sym e ∙ (parts_of line fields has).1)
 
 pub one_list_of_fields : (line : List ℕ) (fields others : Fields) → HasFields line fields → HasFields line others → fields ≡ others
 one_list_of_fields line fields others has also =
     let parts = parts_of line fields has in
-    let more = parts_of line others also in
     let split = fields_at_cut line (first_word fields) (Some (rest_of fields)) others (word_has_no_space fields) parts.1 also in
     let rests : rest_of fields ≡ rest_of others = cc in
-    same_rest fields others parts.0 more.0 split.0 rests
+    same_rest fields others parts.0 (parts_of line others also).0 split.0 rests

@@ -20,18 +20,15 @@ found_from : (byte i at x : ℕ) (text : List ℕ) (passes : Bool) → nat_eq x 
     → ((j : ℕ) → position_from (λ y. nat_eq y byte) j text ≡ Some at → (k : ℕ) × (at ≡ j + k) × CutAt byte text k)
     → (k : ℕ) × (at ≡ i + k) × CutAt byte (x ∷ text) k
 found_from byte i at x text true here e later =
-    let same = eqb-true x byte here in
     let place = some_same i at e in
-    (0, omega arith, (omega arith, tt, ap (λ (y : ℕ). y ∷ text) same))
+    (0, omega arith, (omega arith, tt, ap (λ (y : ℕ). y ∷ text) (eqb-true x byte here)))
 found_from byte i at x text false here e later =
     let preceded_by = later (i + 1) e in
-    let place = preceded_by.1 in
-    let below = preceded_by.2.0 in
     let one_more : suc (preceded_by.0 + 1) ≡ suc preceded_by.0 + 1 = omega arith in (
       suc preceded_by.0,
-      omega (arith, place),
+      omega (arith, preceded_by.1),
       (
-        omega (arith, below),
+        omega (arith, preceded_by.2.0),
         (eqb-false x byte here, preceded_by.2.1),
         ap (λ (bytes : List ℕ). x ∷ bytes) preceded_by.2.2
             ∙ ap (λ (n : ℕ). x ∷ (take preceded_by.0 text ++ byte ∷ drop n (x ∷ text))) one_more,

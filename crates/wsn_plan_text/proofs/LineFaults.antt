@@ -18,8 +18,7 @@ Opposes BadLength fields = HasNumber fields × HasKey fields × (¬ (HasForm fie
 fault_of_fields : (line : List ℕ) (fields : Fields) (why : LineWhy) → HasFields line fields → IsLineFault line why → Opposes why fields
 fault_of_fields line fields BadForm has fault = fault fields has
 fault_of_fields line fields BadNumber has fault =
-    let same = one_list_of_fields line fault.0 fields fault.1 has in
-    rw same at fault.2
+    rw (one_list_of_fields line fault.0 fields fault.1 has) at fault.2
 fault_of_fields line fields BadKey has fault =
     let same = one_list_of_fields line fault.0 fields fault.1 has in
     (rw same at fault.2, rw same at fault.3)
@@ -41,18 +40,16 @@ not_step_and_fault line step BadLength spells fault =
 
 one_opposed : (fields : Fields) (why other : LineWhy) → Opposes why fields → Opposes other fields → why ≡ other
 one_opposed fields BadForm other fault also = absurd fault
-one_opposed fields BadNumber BadForm fault also = absurd also
 one_opposed fields BadNumber BadNumber fault also = refl
 one_opposed fields BadNumber BadKey fault also = absurd (fault also.0)
 one_opposed fields BadNumber BadLength fault also = absurd (fault also.0)
-one_opposed fields BadKey BadForm fault also = absurd also
 one_opposed fields BadKey BadNumber fault also = absurd (also fault.0)
 one_opposed fields BadKey BadKey fault also = refl
 one_opposed fields BadKey BadLength fault also = absurd (fault.1 also.1)
-one_opposed fields BadLength BadForm fault also = absurd also
 one_opposed fields BadLength BadNumber fault also = absurd (also fault.0)
 one_opposed fields BadLength BadKey fault also = absurd (also.1 fault.1)
 one_opposed fields BadLength BadLength fault also = refl
+one_opposed fields _ BadForm fault also = absurd also
 
 of_same_fields : (line : List ℕ) (fields : Fields) (why other : LineWhy) → HasFields line fields → IsLineFault line why → IsLineFault line other → why ≡ other
 of_same_fields line fields why other has fault also =
@@ -60,9 +57,7 @@ of_same_fields line fields why other has fault also =
 
 pub one_line_fault : (line : List ℕ) (why other : LineWhy) → IsLineFault line why → IsLineFault line other → why ≡ other
 one_line_fault line BadForm BadForm fault also = refl
-one_line_fault line BadForm BadNumber fault also = absurd (fault also.0 also.1)
-one_line_fault line BadForm BadKey fault also = absurd (fault also.0 also.1)
-one_line_fault line BadForm BadLength fault also = absurd (fault also.0 also.1)
 one_line_fault line BadNumber other fault also = of_same_fields line fault.0 BadNumber other fault.1 fault also
 one_line_fault line BadKey other fault also = of_same_fields line fault.0 BadKey other fault.1 fault also
 one_line_fault line BadLength other fault also = of_same_fields line fault.0 BadLength other fault.1 fault also
+one_line_fault line BadForm _ fault also = absurd (fault also.0 also.1)

@@ -5,9 +5,8 @@ use Rattle.wsn_plan_text.specs.PlanText.{HasNo, preceded_by}
 
 after_same : (byte : ℕ) (rest more : Option (List ℕ)) → preceded_by byte rest ≡ preceded_by byte more → rest ≡ more
 after_same byte None None e = refl
-after_same byte None (Some text) e = cc
-after_same byte (Some text) None e = cc
 after_same byte (Some text) (Some other) e = ap Some (tail_same byte byte text other e)
+after_same byte _ _ e = cc
 
 -- what begins with a byte doesn't begin with another
 after_begins : (byte x : ℕ) (xs : List ℕ) (rest : Option (List ℕ)) → x ≢ byte → x ∷ xs ≡ preceded_by byte rest → ⊥
@@ -20,6 +19,5 @@ one_cut byte [] [] rest more without also e = (refl, after_same byte rest more e
 one_cut byte [] (y ∷ ys) rest more without also e = absurd (after_begins byte y (ys ++ preceded_by byte more) rest also.0 (sym e))
 one_cut byte (x ∷ xs) [] rest more without also e = absurd (after_begins byte x (xs ++ preceded_by byte rest) more without.0 e)
 one_cut byte (x ∷ xs) (y ∷ ys) rest more without also e =
-    let heads = head_same x y (xs ++ preceded_by byte rest) (ys ++ preceded_by byte more) e in
     let rests = one_cut byte xs ys rest more without.1 also.1 (tail_same x y (xs ++ preceded_by byte rest) (ys ++ preceded_by byte more) e) in
-    (cons_same x y xs ys heads rests.0, rests.1)
+    (cons_same x y xs ys (head_same x y (xs ++ preceded_by byte rest) (ys ++ preceded_by byte more) e) rests.0, rests.1)

@@ -19,9 +19,7 @@ plain_decimal n small =
       | inl none ↦ inl (rw none (decimal_digit 0 (omega arith)))
       | inr some ↦
           let numeral = decimal_is_IsNumeral n small in
-          let high = first_decimal n (omega arith) small in
-          let range = digit_at (decimal n) 0 numeral.0.1 numeral.0.0 in
-          inr (high, omega (arith, range))
+          inr (first_decimal n (omega arith) small, omega (arith, digit_at (decimal n) 0 numeral.0.1 numeral.0.0))
     ]
 
 pub number_is_plain : (text : List ℕ) (n : ℕ) → EncodesNumber text n → IsPlain text
@@ -47,14 +45,12 @@ number_read text (Ok n) parses plain =
     let bare = without_leading_plus_none text (plain_is_unsigned text plain) in
     let value : n ≡ digits_value 10 text = parses.1 ∙ ap (λ (other : List ℕ). digits_value 10 other) bare in
     let numeral = parses.0.0 in
-    let all : AllDigits 10 text = subst (AllDigits 10) bare numeral.1 in
     let some : 0 < length text = subst (λ (other : List ℕ). 0 < length other) bare numeral.0 in
     let small : digits_value 10 text < 2 ^ 64 = subst (λ (other : List ℕ). digits_value 10 other < 2 ^ 64) bare parses.0.1 in
-    let written = decimal-digits_value digits text all some (plain_zero text plain) small in
+    let written = decimal-digits_value digits text (subst (AllDigits 10) bare numeral.1) some (plain_zero text plain) small in
     (omega (arith, value, small), sym written ∙ ap decimal (sym value))
 number_read text (Err e) parses plain = λ n spells.
-    let same = parse-decimal 64 n text (Err e) spells.0 spells.0 spells.1 parses in
-    cc same
+    cc (parse-decimal 64 n text (Err e) spells.0 spells.0 spells.1 parses)
 
 -- the same of a text that was checked before
 pub number_of_digits : (text field : List ℕ) (n : ℕ) → field ≡ text → ParsesUnsigned {E = ℕ} 64 10 field (Ok n) → IsPlain text → EncodesNumber text n

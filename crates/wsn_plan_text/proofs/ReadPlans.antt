@@ -16,16 +16,14 @@ HasReadPlan text rest plan number = (lines : List (List ℕ)) × AllZip EncodesS
 
 pub all_read : (text rest : List ℕ) (plan : List Step) (number : ℕ) → HasReadPlan text rest plan number → rest ≡ [] → EncodesPlan text plan
 all_read text rest plan number read none =
-    let here : AreLines rest [] = subst (λ (other : List ℕ). AreLines other []) (sym none) no_lines in
-    (read.0, subst (AreLines text) (append-nil read.0) (read.3 [] here), read.1)
+    (read.0, subst (AreLines text) (append-nil read.0) (read.3 [] (subst (λ (other : List ℕ). AreLines other []) (sym none) no_lines)), read.1)
 
 next_in_front : (text line rest : List ℕ) → IsNextLine text line rest → (more : List (List ℕ)) → AreLines rest more → AreLines text (line ∷ more)
 next_in_front text line rest next more has =
     elim next.1 [
       | inl ends ↦ subst (λ (other : List ℕ). AreLines other (line ∷ more)) (sym ends) (line_in_front line rest more next.0 has)
       | inr unended ↦
-          let here : AreLines [] more = subst (λ (other : List ℕ). AreLines other more) unended.2 has in
-          let none : [] ≡ more = same_lines [] [] more no_lines here in
+          let none : [] ≡ more = same_lines [] [] more no_lines (subst (λ (other : List ℕ). AreLines other more) unended.2 has) in
           let alone : AreLines text (line ∷ []) = subst (λ (other : List ℕ). AreLines other (line ∷ [])) (sym unended.1) (last_line line next.0 unended.0) in
           subst (λ (others : List (List ℕ)). AreLines text (line ∷ others)) none alone
     ]
@@ -33,9 +31,8 @@ next_in_front text line rest next more has =
 zip_push : (lines : List (List ℕ)) (plan : List Step) (line : List ℕ) (step : Step) → AllZip EncodesStep lines plan → EncodesStep line step
     → AllZip EncodesStep (lines ++ line ∷ []) (plan ++ step ∷ [])
 zip_push [] [] line step spell spells = (spells, tt)
-zip_push [] (first ∷ plan) line step spell spells = absurd spell
-zip_push (first ∷ lines) [] line step spell spells = absurd spell
 zip_push (first ∷ lines) (next ∷ plan) line step spell spells = (spell.0, zip_push lines plan line step spell.1 spells)
+zip_push _ _ line step spell spells = absurd spell
 
 pub one_more_read : (text rest line later : List ℕ) (plan : List Step) (number : ℕ) (step : Step) → HasReadPlan text rest plan number
     → IsNextLine rest line later → EncodesStep line step → HasReadPlan text later (plan ++ step ∷ []) (number + 1)
@@ -75,17 +72,13 @@ begins_read text rest line later plan number step read next spells =
 some_and_none : (text line rest : List ℕ) → line ≢ [] → text ≡ line → rest ≡ [] → length rest < length text
 some_and_none text [] rest some e none = absurd (some refl)
 some_and_none text (x ∷ line) rest some e none =
-    let all = ap (λ (other : List ℕ). length other) e in
-    let rests = ap (λ (other : List ℕ). length other) none in
-    omega (arith, all, rests)
+    omega (arith, ap (λ (other : List ℕ). length other) e, ap (λ (other : List ℕ). length other) none)
 
 -- the rest gets shorter
 pub shorter : (text line rest : List ℕ) → IsNextLine text line rest → length rest < length text
 shorter text line rest next =
     elim next.1 [
       | inl ends ↦
-          let all = ap (λ (other : List ℕ). length other) ends in
-          let parts = length-append line (10 ∷ rest) in
-          omega (arith, all, parts)
+          omega (arith, ap (λ (other : List ℕ). length other) ends, length-append line (10 ∷ rest))
       | inr unended ↦ some_and_none text line rest unended.0 unended.1 unended.2
     ]

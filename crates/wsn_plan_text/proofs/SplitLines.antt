@@ -22,44 +22,36 @@ some_text text empty e is_false none = eqb-false (length text) 0 (sym e ∙ is_f
 pub field_test : (text first : List ℕ) (rest : Option (Bor (List ℕ))) (whole : Bool) → IsSplit 32 text first (option_copied rest) → text ≢ []
     → is_some rest ≡ not whole → IsTrue whole ↔ IsField text
 field_test text first None true split some e = (λ holds. (some, uncut_is_clear text first split), λ field. refl)
-field_test text first None false split some e = cc e
-field_test text first (Some rest) true split some e = cc e
 field_test text first (Some rest) false split some e = (λ holds. cc holds, λ field. absurd (cut_is_no_field text first rest.now split field))
+field_test text first _ _ split some e = cc e
 
 pub empty_key : (text key other : List ℕ) (rest form : Option (List ℕ)) → IsSplit 32 text key rest → key ≡ [] → AreKeyAndForm text other form → ⊥
 empty_key text key other rest form split none are =
-    let same = at_first_space text key other rest form split are in
-    are.0.0 (sym same.0 ∙ none)
+    are.0.0 (sym (at_first_space text key other rest form split are).0 ∙ none)
 
 pub bad_form : (text key other form : List ℕ) (rest more : Option (List ℕ)) → IsSplit 32 text key rest → rest ≡ Some form → (IsField form → ⊥)
     → AreKeyAndForm text other more → ⊥
 bad_form text key other form rest more split e bad are =
-    let same = at_first_space text key other rest more split are in
-    let forms : more ≡ Some form = sym same.1 ∙ e in
     let P : Option (List ℕ) → Type 0 = λ field. IfSome field IsField in
-    bad (subst P forms are.1)
+    bad (subst P (sym (at_first_space text key other rest more split are).1 ∙ e) are.1)
 
 pub piece_ends : (rest number : List ℕ) (more : Option (List ℕ)) (fields : Fields) → IsSplit 32 rest number more → more ≡ None
     → AreFieldsAfter (codes "piece") rest fields → ⊥
 piece_ends rest number more fields split none are =
     let parts = piece_at_cut rest number more fields split are in
-    let both : None ≡ Some parts.1.0 = sym none ∙ parts.1.3 in
-    cc both
+    cc (sym none ∙ parts.1.3)
 
 pub piece_without_key : (rest number text : List ℕ) (more : Option (List ℕ)) (fields : Fields) → IsSplit 32 rest number more → more ≡ Some text
     → ((key : List ℕ) (form : Option (List ℕ)) → ¬ (AreKeyAndForm text key form)) → AreFieldsAfter (codes "piece") rest fields → ⊥
 piece_without_key rest number text more fields split e none are =
     let parts = piece_at_cut rest number more fields split are in
-    let both : Some parts.1.0 ≡ Some text = sym parts.1.3 ∙ e in
-    let same : parts.1.0 ≡ text = cc both in
+    let same : parts.1.0 ≡ text = cc (sym parts.1.3 ∙ e) in
     none parts.1.1 parts.1.2 (subst (λ (other : List ℕ). AreKeyAndForm other parts.1.1 parts.1.2) same parts.1.4)
 
 pub fields_of_cut : (line word rest : List ℕ) (more : Option (List ℕ)) (result : Option declared.Fields) → IsSplit 32 line word more → more ≡ Some rest
     → MatchOption result ((fields : Fields) → ¬ (AreFieldsAfter word rest fields)) (λ fields. AreFieldsAfter word rest (seen fields))
     → MatchOption result ((fields : Fields) → ¬ (HasFields line fields)) (λ fields. HasFields line (seen fields))
 fields_of_cut line word rest more None split e none =
-    let whole : IsSplit 32 line word (Some rest) = subst (IsSplit 32 line word) e split in
-    λ fields has. none fields (fields_after_cut line word rest fields whole has)
+    λ fields has. none fields (fields_after_cut line word rest fields (subst (IsSplit 32 line word) e split) has)
 fields_of_cut line word rest more (Some fields) split e are =
-    let whole : IsSplit 32 line word (Some rest) = subst (IsSplit 32 line word) e split in
-    fields_from_cut line word rest (seen fields) whole are
+    fields_from_cut line word rest (seen fields) (subst (IsSplit 32 line word) e split) are

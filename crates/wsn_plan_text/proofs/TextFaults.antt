@@ -13,17 +13,15 @@ use Rattle.wsn_plan_text.proofs.DecidedLines.{step_or_fault}
 
 same_steps : (lines : List (List ℕ)) (plan other : List Step) → AllZip EncodesStep lines plan → AllZip EncodesStep lines other → plan ≡ other
 same_steps [] [] [] spell also = refl
-same_steps [] [] (step ∷ other) spell also = absurd also
 same_steps [] (step ∷ plan) other spell also = absurd spell
 same_steps (line ∷ lines) [] other spell also = absurd spell
-same_steps (line ∷ lines) (step ∷ plan) [] spell also = absurd also
 same_steps (line ∷ lines) (step ∷ plan) (next ∷ other) spell also =
     cons_same step next plan other (one_step line step next spell.0 also.0) (same_steps lines plan other spell.1 also.1)
+same_steps _ _ _ spell also = absurd also
 
 pub one_plan : (text : List ℕ) (plan other : List Step) → EncodesPlan text plan → EncodesPlan text other → plan ≡ other
 one_plan text plan other spells also =
-    let same = same_lines text also.0 spells.0 also.1 spells.1 in
-    same_steps spells.0 plan other spells.2 (rw same at also.2)
+    same_steps spells.0 plan other spells.2 (rw (same_lines text also.0 spells.0 also.1 spells.1) at also.2)
 
 -- a line among lines that encode steps
 encoded_at : (before : List (List ℕ)) (line : List ℕ) (after : List (List ℕ)) (plan : List Step) → AllZip EncodesStep (before ++ line ∷ after) plan
@@ -35,30 +33,25 @@ encoded_at (first ∷ before) line after (step ∷ plan) spell = encoded_at befo
 
 pub not_plan_and_fault : (text : List ℕ) (plan : List Step) (number : ℕ) (why : LineWhy) → EncodesPlan text plan → ¬ (IsFirstPlanFault text number why)
 not_plan_and_fault text plan number why spells (before, line, after, front, has, spell, fault, e) =
-    let same = same_lines text spells.0 (before ++ line ∷ after) spells.1 has in
-    let step = encoded_at before line after plan (rw same at spells.2) in
+    let step = encoded_at before line after plan (rw (same_lines text spells.0 (before ++ line ∷ after) spells.1 has) at spells.2) in
     not_step_and_fault line step.0 why step.1 fault
 
 same_fault : (before other : List (List ℕ)) (line next : List ℕ) (after rest : List (List ℕ)) (plan more : List Step) (why also_why : LineWhy)
     → before ++ line ∷ after ≡ other ++ next ∷ rest → AllZip EncodesStep before plan → AllZip EncodesStep other more
     → IsLineFault line why → IsLineFault next also_why → (length before ≡ length other) × (why ≡ also_why)
 same_fault [] [] line next after rest plan more why also_why e spell also fault also_fault =
-    let same = head_same line next after rest e in
-    (refl, one_line_fault next why also_why (rw same at fault) also_fault)
-same_fault [] (first ∷ other) line next after rest plan [] why also_why e spell also fault also_fault = absurd also
+    (refl, one_line_fault next why also_why (rw (head_same line next after rest e) at fault) also_fault)
 same_fault [] (first ∷ other) line next after rest plan (step ∷ more) why also_why e spell also fault also_fault =
-    let same = head_same line first after (other ++ next ∷ rest) e in
-    absurd (not_step_and_fault first step why also.0 (rw same at fault))
+    absurd (not_step_and_fault first step why also.0 (rw (head_same line first after (other ++ next ∷ rest) e) at fault))
 same_fault (first ∷ before) [] line next after rest [] more why also_why e spell also fault also_fault = absurd spell
 same_fault (first ∷ before) [] line next after rest (step ∷ plan) more why also_why e spell also fault also_fault =
-    let same = head_same first next (before ++ line ∷ after) rest e in
-    absurd (not_step_and_fault next step also_why (rw same at spell.0) also_fault)
+    absurd (not_step_and_fault next step also_why (rw (head_same first next (before ++ line ∷ after) rest e) at spell.0) also_fault)
 same_fault (first ∷ before) (second ∷ other) line next after rest [] more why also_why e spell also fault also_fault = absurd spell
-same_fault (first ∷ before) (second ∷ other) line next after rest (step ∷ plan) [] why also_why e spell also fault also_fault = absurd also
 same_fault (first ∷ before) (second ∷ other) line next after rest (step ∷ plan) (twin ∷ more) why also_why e spell also fault also_fault =
     let rests = tail_same first second (before ++ line ∷ after) (other ++ next ∷ rest) e in
     let preceded_by = same_fault before other line next after rest plan more why also_why rests spell.1 also.1 fault also_fault in
     (ap suc preceded_by.0, preceded_by.1)
+same_fault _ _ line next after rest _ [] why also_why e spell also fault also_fault = absurd also
 
 pub one_first_fault : (text : List ℕ) (number other_number : ℕ) (why other : LineWhy) → IsFirstPlanFault text number why → IsFirstPlanFault text other_number other
     → (number ≡ other_number) × (why ≡ other)
@@ -93,7 +86,6 @@ plan_or_fault text =
     elim (lines_decided lines.0) [
       | inl p ↦ inl (p.0, (lines.0, lines.1, p.1))
       | inr p ↦
-          let same = p.5 in
-          let has : AreLines text (p.0 ++ p.1 ∷ p.2) = rw same at lines.1 in
+          let has : AreLines text (p.0 ++ p.1 ∷ p.2) = rw p.5 at lines.1 in
           inr (length p.0 + 1, p.4, (p.0, p.1, p.2, p.3, has, p.6, p.7, refl))
     ]

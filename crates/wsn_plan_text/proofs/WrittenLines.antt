@@ -49,8 +49,7 @@ line_text (step.Control key) = codes "control " ++ key_text key
 
 ended_line : (step : Step) → step_line step ≡ line_text step ++ codes "\n"
 ended_line (step.Piece len key form) = refl
-ended_line (step.Last key form) = refl
-ended_line (step.Control key) = refl
+ended_line _ = refl
 
 bytes_by_place : (bytes : List ℕ) → IsBytes bytes → hex.IsBytes bytes
 bytes_by_place [] all i = omega arith
@@ -60,9 +59,7 @@ bytes_by_place (byte ∷ bytes) all (suc i) = bytes_by_place bytes all.1 i
 key_encoded : (key : Option (List ℕ)) → IfSome key IsKey → EncodesKey (key_text key) key
 key_encoded None is_key = refl
 key_encoded (Some key) is_key =
-    let long = length-encode_with lower_digits key in
-    let four = is_key.0 in
-    (omega (arith, long, four), decode_of-encode_lower key (bytes_by_place key is_key.1))
+    (omega (arith, length-encode_with lower_digits key, is_key.0), decode_of-encode_lower key (bytes_by_place key is_key.1))
 
 line_encodes : (step : Step) → IfSome (key_of step) IsKey → piece_length step < 2 ^ 64 → EncodesStep (line_text step) step
 line_encodes (step.Piece len key form) is_key small = (decimal len, key_text key, (small, refl), key_encoded key is_key, refl)
@@ -78,9 +75,8 @@ lines_spell (step ∷ plan) is_plan small = (line_encodes step is_plan.0 small.0
 
 lines_without_lf : (lines : List (List ℕ)) (plan : List Step) → AllZip EncodesStep lines plan → AllByRecursion (HasNo 10) lines
 lines_without_lf [] [] spell = tt
-lines_without_lf [] (step ∷ plan) spell = absurd spell
-lines_without_lf (line ∷ lines) [] spell = absurd spell
 lines_without_lf (line ∷ lines) (step ∷ plan) spell = (step_has_no_lf line step spell.0, lines_without_lf lines plan spell.1)
+lines_without_lf _ _ spell = absurd spell
 
 text_of_lines : (plan : List Step) → plan_text plan ≡ ended (map line_text plan)
 text_of_lines [] = refl

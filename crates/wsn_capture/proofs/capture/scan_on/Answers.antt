@@ -6,11 +6,8 @@ pub returns-then-is_some : goal.returns-then-is_some
 returns-then-is_some c = λ role limits came has.
     streamed_after role limits c.args.scan.now came c.args.bytes.now (refused_by c.args.scan.now c.refusal.result c.refusal.ensures (sym c.is_some.ensures ∙ c.if-is_some.true)) has
 
-pub feed-refusal-requires-clause-begun : goal.feed-refusal-requires-clause-begun
-feed-refusal-requires-clause-begun c = search rules
-
-pub feed-refusal-requires-clause-fits : goal.feed-refusal-requires-clause-fits
-feed-refusal-requires-clause-fits c = search rules
+pub feed-refusal-requires : goal.feed-refusal-requires
+feed-refusal-requires c = record { begun = search rules; fits = search rules }
 
 pub returns : goal.returns
 returns c = λ role limits came has.

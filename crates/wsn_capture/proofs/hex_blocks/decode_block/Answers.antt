@@ -3,16 +3,13 @@ use Rattle.std.proofs.lemmas.Simd.{get_or-put_chunk_below, length-put_chunk}
 use Rattle.wsn_capture.proofs.DigitBlocks.{block_decoded}
 use Rattle.wsn_capture.proofs.hex_blocks.decode_block.Goals as goal
 
-pub returns-clause-same_length : goal.returns-clause-same_length
-returns-clause-same_length c = length-put_chunk c.args.at c.args.bytes.now _
-
-pub returns-clause-before : goal.returns-clause-before
-returns-clause-before c i lt = get_or-put_chunk_below c.args.at c.args.bytes.now _ i 0 lt
-
-pub returns-clause-decoded : goal.returns-clause-decoded
-returns-clause-decoded c =
-    block_decoded c.digit_values-high.result c.digit_values-low.result (omega arith) (omega arith) c.args.digits.now c.args.bytes.now c.args.at
-    c.requires.pairs c.requires.room c.digit_values-high.ensures c.digit_values-low.ensures
+pub returns : goal.returns
+returns c = record {
+  same_length = length-put_chunk c.args.at c.args.bytes.now _;
+  before = λ i lt. get_or-put_chunk_below c.args.at c.args.bytes.now _ i 0 lt;
+  decoded = block_decoded c.digit_values-high.result c.digit_values-low.result (omega arith) (omega arith) c.args.digits.now c.args.bytes.now c.args.at
+      c.requires.pairs c.requires.room c.digit_values-high.ensures c.digit_values-low.ensures;
+}
 
 pub overflow_mul-first : goal.overflow_mul-first
 overflow_mul-first c = search rules

@@ -1,11 +1,8 @@
 use Rattle.std.proofs.Common.{rules}
 use Rattle.wsn_capture.proofs.hex_pairs.decode_pairs.Goals as goal
 
-pub decode_blocks-requires-clause-pairs : goal.decode_blocks-requires-clause-pairs
-decode_blocks-requires-clause-pairs c = c.requires
-
-pub decode_blocks-requires-clause-last : goal.decode_blocks-requires-clause-last
-decode_blocks-requires-clause-last c = search rules
+pub decode_blocks-requires : goal.decode_blocks-requires
+decode_blocks-requires c = record { pairs = c.requires; last = search rules }
 
 pub decode_each-requires : goal.decode_each-requires
 decode_each-requires c = c.requires

@@ -8,9 +8,12 @@ use Rattle.wsn_capture.specs.CaptureAnswers.{IsCaptureJudged}
 use Rattle.wsn_capture.proofs.JudgedCaptures.{begins, stopped, ended, goes_on, faulty, failed_by, whole_answer}
 use Rattle.wsn_capture.proofs.judging.read_capture.Goals as goal
 
-pub returns-in_default-clause-judged : goal.returns-in_default-clause-judged
-returns-in_default-clause-judged g c =
-    stopped c.args.limits c.args.input.now c.loop-count.input c.read.new.self c.loop-count.lines c.loop-count.invariant.read c.loop-count.invariant.few c.in_default.ensures.none.1 c.in_default.ensures.none.0
+pub returns-in_default : goal.returns-in_default
+returns-in_default g c = record {
+  judged = stopped c.args.limits c.args.input.now c.loop-count.input c.read.new.self c.loop-count.lines c.loop-count.invariant.read c.loop-count.invariant.few c.in_default.ensures.none.1 c.in_default.ensures.none.0;
+  whole = search rules;
+  failed = search rules;
+}
 
 pub returns-then-count-eq0-clause-judged : goal.returns-then-count-eq0-clause-judged
 returns-then-count-eq0-clause-judged g c =
@@ -43,9 +46,8 @@ pub returns-in_err-take-clause-judged : goal.returns-in_err-take-clause-judged
 returns-in_err-take-clause-judged g c =
     let read = c.loop-count.invariant.read in
     let out = err_from_is_err_and c.from_residual.result c.from_residual.ensures.1 in
-    let is : c.from_residual.result ≡ Err c.in_err-take.field-0.0 = out.1 ∙ ap Err out.2 in
     let size : length (take c.in-Some.count c.read.new.into) ≤ 4096 = omega (arith, length-take-le c.in-Some.count c.read.new.into c.in-Some.ensures.within, c.in-Some.ensures.within, c.read.auto.into) in
-    subst (λ (r : Result CaptureReport CaptureStop). IsCaptureJudged c.args.limits c.args.input.now c.read.new.self r) (sym is)
+    subst (λ (r : Result CaptureReport CaptureStop). IsCaptureJudged c.args.limits c.args.input.now c.read.new.self r) (sym (out.1 ∙ ap Err out.2))
     (faulty c.args.limits c.args.input.now c.loop-count.input c.read.new.self c.loop-count.lines read c.loop-count.invariant.few (take c.in-Some.count c.read.new.into) c.in_err-take.field-0.0
     (consumed_read c.loop-count.input c.read.new.self c.read.new.into c.in-Some.count c.in-Some.ensures.within c.in-Some.ensures.bytes c.in-Some.ensures.counted c.in-Some.ensures.readable) size (c.in-Some.ensures.some ∙ c.loop-count.invariant.unfailed) (c.in_err-take.ensures.stop c.args.limits read.came read.split))
 
@@ -71,12 +73,6 @@ slice_bounds-read-end g c = search rules
 pub read-requires : goal.read-requires
 read-requires g c = search rules
 
-pub returns-in_default-clause-whole : goal.returns-in_default-clause-whole
-returns-in_default-clause-whole g c = search rules
-
-pub returns-in_default-clause-failed : goal.returns-in_default-clause-failed
-returns-in_default-clause-failed g c = search rules
-
 pub finish-requires : goal.finish-requires
 finish-requires g c = search rules
 
@@ -86,11 +82,8 @@ slice_bounds-piece-end g c = search rules
 pub slice_bounds-take-end : goal.slice_bounds-take-end
 slice_bounds-take-end g c = search rules
 
-pub take-requires-clause-few : goal.take-requires-clause-few
-take-requires-clause-few g c = search rules
-
-pub take-requires-clause-short : goal.take-requires-clause-short
-take-requires-clause-short g c = search rules
+pub take-requires : goal.take-requires
+take-requires g c = record { few = search rules; short = search rules }
 
 pub loop-count-smaller : goal.loop-count-smaller
 loop-count-smaller g c = search rules

@@ -9,5 +9,4 @@ returns-clause-accepted c = λ limits lines given line entry most taken.
 
 pub returns-clause-faulty : goal.returns-clause-faulty
 returns-clause-faulty c = λ limits lines given line fault most taken.
-    let room = room_after limits most lines given taken in
-    (fault_first limits given line fault, first_fault limits given line room fault)
+    (fault_first limits given line fault, first_fault limits given line (room_after limits most lines given taken) fault)

@@ -10,11 +10,8 @@ use Rattle.wsn_job.specs.Comparisons.{IsComparisonPrinted}
 use Rattle.wsn_job.proofs.AnswerTexts.{stop_printed}
 use Rattle.wsn_job.proofs.comparisons.print_comparison.Goals as goal
 
-pub contrast-requires-clause-first : goal.contrast-requires-clause-first
-contrast-requires-clause-first g c = search rules
-
-pub contrast-requires-clause-second : goal.contrast-requires-clause-second
-contrast-requires-clause-second g c = search rules
+pub contrast-requires : goal.contrast-requires
+contrast-requires g c = record { first = search rules; second = search rules }
 
 pub returns-in_err-compared : goal.returns-in_err-compared
 returns-in_err-compared g c =
@@ -23,8 +20,7 @@ returns-in_err-compared g c =
     let after = compared_channels c.contrast.new.first c.contrast.new.second c.args.output.now in
     let stopped = c.in_err-compared.field-0.0 in
     let out = err_from_is_err_and c.from_residual.result c.from_residual.ensures.1 in
-    let is : c.from_residual.result ≡ Err stopped = out.1 ∙ ap Err out.2 in
-    subst (λ (r : Result Compared Stop). IsComparisonPrinted how before after r) (sym is)
+    subst (λ (r : Result Compared Stop). IsComparisonPrinted how before after r) (sym (out.1 ∙ ap Err out.2))
     (stop_printed how before after stopped
     (stopped_at how.without how.role how.limits c.args.first.now c.contrast.new.first c.args.second.now c.contrast.new.second c.contrast.result c.contrast.ensures stopped c.in_err-compared.was (Err stopped) refl) refl)
 
@@ -40,8 +36,7 @@ returns-in_err-put_answer g c =
     subst (λ (r : Result (Compared × Option FirstDifference) Stop). IsContrasted how.without how.role how.limits c.args.first.now c.contrast.new.first c.args.second.now c.contrast.new.second r) c.in_ok-compared.was c.contrast.ensures in
     let put = c.in_err-put_answer.ensures whole.compared.came whole.compared.other_came whole.excerpts in
     let out = err_from_is_err_and c.from_residual-in_err-put_answer.result c.from_residual-in_err-put_answer.ensures.1 in
-    let is : c.from_residual-in_err-put_answer.result ≡ Err c.in_err-put_answer.field-0.0 = out.1 ∙ ap Err out.2 in
-    subst (λ (r : Result Compared Stop). IsComparisonPrinted how before after r) (sym (is ∙ ap Err put.2.0))
+    subst (λ (r : Result Compared Stop). IsComparisonPrinted how before after r) (sym ((out.1 ∙ ap Err out.2) ∙ ap Err put.2.0))
     (c.in_ok-compared.compared, whole.compared, put.0, put.1, put.2.1)
 
 pub returns : goal.returns

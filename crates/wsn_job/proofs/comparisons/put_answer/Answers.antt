@@ -16,11 +16,8 @@ pub returns-in-None : goal.returns-in-None
 returns-in-None g c bytes others has =
     puts_unseen c.args.comparison bytes others c.args.output.now c.put_compared_as-in-None.new.to c.put_compared_as-in-None.result c.args.compared c.in-Different.field-0 c.in-Different.is c.in-None.is c.put_compared_as-in-None.ensures
 
-pub put_seen-requires-clause-writable : goal.put_seen-requires-clause-writable
-put_seen-requires-clause-writable g c = search rules
-
-pub put_seen-requires-clause-seen : goal.put_seen-requires-clause-seen
-put_seen-requires-clause-seen g c = search rules
+pub put_seen-requires : goal.put_seen-requires
+put_seen-requires g c = record { writable = search rules; seen = search rules }
 
 pub returns-in-Some : goal.returns-in-Some
 returns-in-Some g c bytes others has = c.put_seen.ensures bytes others c.in-Different.field-0 c.in-Different.is has

@@ -4,23 +4,11 @@ use Rattle.wsn_plan.specs.Recutting.{IsRecut}
 use Rattle.wsn_job.specs.Recuts.{planned_by}
 use Rattle.wsn_job.proofs.recuts.recut_input.Goals as goal
 
-pub recut-requires-clause-readable : goal.recut-requires-clause-readable
-recut-requires-clause-readable g c = search rules
+pub recut-requires : goal.recut-requires
+recut-requires g c = record { readable = search rules; writable = search rules }
 
-pub recut-requires-clause-writable : goal.recut-requires-clause-writable
-recut-requires-clause-writable g c = search rules
-
-pub recut_uniform-requires-clause-readable : goal.recut_uniform-requires-clause-readable
-recut_uniform-requires-clause-readable g c = search rules
-
-pub recut_uniform-requires-clause-writable : goal.recut_uniform-requires-clause-writable
-recut_uniform-requires-clause-writable g c = search rules
-
-pub recut_uniform-requires-clause-size : goal.recut_uniform-requires-clause-size
-recut_uniform-requires-clause-size g c = search rules
-
-pub recut_uniform-requires-clause-key : goal.recut_uniform-requires-clause-key
-recut_uniform-requires-clause-key g c = search rules
+pub recut_uniform-requires : goal.recut_uniform-requires
+recut_uniform-requires g c = record { readable = search rules; writable = search rules; size = search rules; key = search rules }
 
 pub returns-in-ByPlan : goal.returns-in-ByPlan
 returns-in-ByPlan g c =

@@ -8,26 +8,27 @@ use Rattle.wsn_io.proofs.Received.{consumed_read, consumed_on}
 use Rattle.wsn_plan_text.proofs.PlanFiles.{no_memory}
 use Rattle.wsn_plan_text.proofs.plan_files.read_text.Goals as goal
 
-pub returns-in_err-extend_from_slice-clause-fault : goal.returns-in_err-extend_from_slice-clause-fault
-returns-in_err-extend_from_slice-clause-fault g c =
-    let out = err_from_is_err_and c.from_residual.result c.from_residual.ensures.1 in
-    let is : c.from_residual.result ≡ Err (Faulty Memory) = out.1 ∙ ap Err out.2 in
-    let size : length (take c.min-wanted.result c.loop-piece.piece) ≡ c.min-wanted.result =
-    length-take-le c.min-wanted.result c.loop-piece.piece (omega arith) in
-    rw is (no_memory c.args.file.now c.loop-piece.file c.read.new.self c.loop-piece.text.items c.read.new.into
-    c.in-Some.count c.loop-piece.invariant.consumed
-    (consumed_read c.loop-piece.file c.read.new.self c.read.new.into c.in-Some.count c.in-Some.ensures.within c.in-Some.ensures.bytes c.in-Some.ensures.counted c.in-Some.ensures.readable)
-    c.in-Some.ensures.within
-    (omega (arith, c.in-Some.ensures.within, c.read.auto.into)) (omega arith) (search rules))
+pub returns-in_err-extend_from_slice : goal.returns-in_err-extend_from_slice
+returns-in_err-extend_from_slice g c = record {
+  fault = let out = err_from_is_err_and c.from_residual.result c.from_residual.ensures.1 in
+      let size : length (take c.min-wanted.result c.loop-piece.piece) ≡ c.min-wanted.result =
+      length-take-le c.min-wanted.result c.loop-piece.piece (omega arith) in
+      rw (out.1 ∙ ap Err out.2) (no_memory c.args.file.now c.loop-piece.file c.read.new.self c.loop-piece.text.items c.read.new.into
+      c.in-Some.count c.loop-piece.invariant.consumed
+      (consumed_read c.loop-piece.file c.read.new.self c.read.new.into c.in-Some.count c.in-Some.ensures.within c.in-Some.ensures.bytes c.in-Some.ensures.counted c.in-Some.ensures.readable)
+      c.in-Some.ensures.within
+      (omega (arith, c.in-Some.ensures.within, c.read.auto.into)) (omega arith) (search rules));
+  text = search rules;
+}
 
 pub returns-clause-fault : goal.returns-clause-fault
 returns-clause-fault g c = search rules
 
-pub returns-in_default-clause-text : goal.returns-in_default-clause-text
-returns-in_default-clause-text g c = search rules
+pub returns-in_default : goal.returns-in_default
+returns-in_default g c = record { text = search rules; fault = search rules }
 
-pub returns-then-count-eq0-clause-fault : goal.returns-then-count-eq0-clause-fault
-returns-then-count-eq0-clause-fault g c = search rules
+pub returns-then-count-eq0 : goal.returns-then-count-eq0
+returns-then-count-eq0 g c = record { fault = search rules; text = search rules }
 
 pub loop-piece-init : goal.loop-piece-init
 loop-piece-init g c = search rules
@@ -46,12 +47,6 @@ slice_bounds-read-end g c = search rules
 
 pub read-requires : goal.read-requires
 read-requires g c = search rules
-
-pub returns-in_default-clause-fault : goal.returns-in_default-clause-fault
-returns-in_default-clause-fault g c = search rules
-
-pub returns-then-count-eq0-clause-text : goal.returns-then-count-eq0-clause-text
-returns-then-count-eq0-clause-text g c = search rules
 
 pub slice_bounds-piece-end-in-loop-piece : goal.slice_bounds-piece-end-in-loop-piece
 slice_bounds-piece-end-in-loop-piece g c = search rules
@@ -74,6 +69,3 @@ loop-piece-preserved g c =
       unfailed = c.in-Some.ensures.some ∙ c.loop-piece.invariant.unfailed;
       size = grind (arith, common_steps);
     }
-
-pub returns-in_err-extend_from_slice-clause-text : goal.returns-in_err-extend_from_slice-clause-text
-returns-in_err-extend_from_slice-clause-text g c = search rules

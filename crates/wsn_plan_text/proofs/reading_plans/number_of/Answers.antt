@@ -6,9 +6,7 @@ pub returns-then-not-is_plain : goal.returns-then-not-is_plain
 returns-then-not-is_plain c = (
   refl,
   λ n spells.
-      let holds = c.is_plain.ensures.1 (number_is_plain c.args.field.now n spells) in
-      let fails = c.if-not-is_plain.true in
-      cc (holds, fails),
+      cc (c.is_plain.ensures.1 (number_is_plain c.args.field.now n spells), c.if-not-is_plain.true),
 )
 
 pub returns-in_default : goal.returns-in_default

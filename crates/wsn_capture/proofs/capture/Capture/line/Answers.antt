@@ -16,23 +16,17 @@ pub invariant_of-self : goal.invariant_of-self
 invariant_of-self c =
     subst (λ (l : CaptureLines). IsCapturing (record { lines = l; client = c.self.inside.client; server = c.self.inside.server })) (sym c.in_err-entry.ensures.unchanged) c.self.invariant
 
-pub returns-in_err-entry-clause-taken : goal.returns-in_err-entry-clause-taken
-returns-in_err-entry-clause-taken c = search rules
-
-pub returns-in_err-entry-clause-fault : goal.returns-in_err-entry-clause-fault
-returns-in_err-entry-clause-fault c =
-    let out = err_from_is_err_and c.from_residual.result c.from_residual.ensures.1 in
-    if_this _ (out.1 ∙ ap Err out.2) (λ limits lines has. c.in_err-entry.ensures.fault limits lines has.entries (subst (λ (s : Captured). HasAccepted limits s.lines lines has.entries) (sym c.self.view_is) has.accepted))
-
-pub returns-in_err-entry-clause-unchanged : goal.returns-in_err-entry-clause-unchanged
-returns-in_err-entry-clause-unchanged c =
-    let out = err_from_is_err_and c.from_residual.result c.from_residual.ensures.1 in
-    let same : record { lines = c.accept.new.self; client = c.self.inside.client; server = c.self.inside.server } ≡ c.args.self.now =
-    ap (λ (l : CaptureLines). record { lines = l; client = c.self.inside.client; server = c.self.inside.server }) c.in_err-entry.ensures.unchanged ∙ c.self.view_is in
-    if_this _ (out.1 ∙ ap Err out.2) same
-
-pub returns-in_err-entry-clause-count : goal.returns-in_err-entry-clause-count
-returns-in_err-entry-clause-count c = search rules
+pub returns-in_err-entry : goal.returns-in_err-entry
+returns-in_err-entry c = record {
+  taken = search rules;
+  fault = let out = err_from_is_err_and c.from_residual.result c.from_residual.ensures.1 in
+      if_this _ (out.1 ∙ ap Err out.2) (λ limits lines has. c.in_err-entry.ensures.fault limits lines has.entries (subst (λ (s : Captured). HasAccepted limits s.lines lines has.entries) (sym c.self.view_is) has.accepted));
+  unchanged = let out = err_from_is_err_and c.from_residual.result c.from_residual.ensures.1 in
+      let same : record { lines = c.accept.new.self; client = c.self.inside.client; server = c.self.inside.server } ≡ c.args.self.now =
+      ap (λ (l : CaptureLines). record { lines = l; client = c.self.inside.client; server = c.self.inside.server }) c.in_err-entry.ensures.unchanged ∙ c.self.view_is in
+      if_this _ (out.1 ∙ ap Err out.2) same;
+  count = search rules;
+}
 
 pub slice_bounds-scan_on-end : goal.slice_bounds-scan_on-end
 slice_bounds-scan_on-end c =

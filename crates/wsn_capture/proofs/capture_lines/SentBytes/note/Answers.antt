@@ -5,23 +5,20 @@ use Rattle.wsn_capture.specs.CaptureLines.{IsNotedRefusal}
 use Rattle.wsn_capture.proofs.AcceptedLines.{noted_from, none_noted}
 use Rattle.wsn_capture.proofs.capture_lines.SentBytes.note.Goals as goal
 
-pub returns-in-Refused-clause-same : goal.returns-in-Refused-clause-same
-returns-in-Refused-clause-same c = (
-  ap (λ (s : SentBytes). s.input) c.note_refusal.ensures.same ∙ ap (λ (s : SentBytes). s.input) c.note_close.ensures,
-  ap (λ (s : SentBytes). s.room) c.note_refusal.ensures.same ∙ ap (λ (s : SentBytes). s.room) c.note_close.ensures,
-)
-
-pub returns-in-Refused-clause-close : goal.returns-in-Refused-clause-close
-returns-in-Refused-clause-close c = λ role limits came judged. (
-  c.has_close.result,
-  c.has_close.ensures role limits came judged,
-  ap (λ (s : SentBytes). s.close_line) c.note_refusal.ensures.same ∙ ap (λ (s : SentBytes). s.close_line) c.note_close.ensures,
-)
-
-pub returns-in-Refused-clause-refused : goal.returns-in-Refused-clause-refused
-returns-in-Refused-clause-refused c =
-    noted_from c.args.self.now c.note_close.new.self c.args.line.now c.args.verdict.now c.in-Refused.refusal c.note_refusal.new.self.refused c.in-Refused.is
-    (ap (λ (s : SentBytes). s.input) c.note_close.ensures) (ap (λ (s : SentBytes). s.room) c.note_close.ensures) (ap (λ (s : SentBytes). s.refused) c.note_close.ensures) c.note_refusal.ensures.noted
+pub returns-in-Refused : goal.returns-in-Refused
+returns-in-Refused c = record {
+  same = (
+    ap (λ (s : SentBytes). s.input) c.note_refusal.ensures.same ∙ ap (λ (s : SentBytes). s.input) c.note_close.ensures,
+    ap (λ (s : SentBytes). s.room) c.note_refusal.ensures.same ∙ ap (λ (s : SentBytes). s.room) c.note_close.ensures,
+  );
+  close = λ role limits came judged. (
+    c.has_close.result,
+    c.has_close.ensures role limits came judged,
+    ap (λ (s : SentBytes). s.close_line) c.note_refusal.ensures.same ∙ ap (λ (s : SentBytes). s.close_line) c.note_close.ensures,
+  );
+  refused = noted_from c.args.self.now c.note_close.new.self c.args.line.now c.args.verdict.now c.in-Refused.refusal c.note_refusal.new.self.refused c.in-Refused.is
+      (ap (λ (s : SentBytes). s.input) c.note_close.ensures) (ap (λ (s : SentBytes). s.room) c.note_close.ensures) (ap (λ (s : SentBytes). s.refused) c.note_close.ensures) c.note_refusal.ensures.noted;
+}
 
 pub returns-in-Accepted : goal.returns-in-Accepted
 returns-in-Accepted c = record {

@@ -14,8 +14,7 @@ returns-then-is_empty c limits came split =
 pub returns-in_err-end_line : goal.returns-in_err-end_line
 returns-in_err-end_line c limits came split =
     let out = err_from_is_err_and c.from_residual.result c.from_residual.ensures.1 in
-    let is : c.from_residual.result ≡ Err c.in_err-end_line.field-0.0 = out.1 ∙ ap Err out.2 in
-    subst (λ (r : Result CaptureReport CaptureStop). IsCaptureAnswerOf limits came r) (sym is)
+    subst (λ (r : Result CaptureReport CaptureStop). IsCaptureAnswerOf limits came r) (sym (out.1 ∙ ap Err out.2))
     (stop_last limits split.lines c.args.self.begun came split.passed c.in_err-end_line.field-0.0 (not_empty c.args.self.begun (ap (λ (bs : List ℕ). length bs == 0) (sym c.line.ensures) ∙ sym c.is_empty.ensures ∙ c.if-is_empty.false)) (c.in_err-end_line.ensures.stop limits split.lines split.accepted))
 
 pub returns : goal.returns

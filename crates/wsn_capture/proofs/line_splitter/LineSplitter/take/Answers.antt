@@ -20,13 +20,11 @@ pub loop-taken-preserved : goal.loop-taken-preserved
 loop-taken-preserved c =
     let piece = c.args.piece.now in
     let at = c.loop-taken.taken in
-    let count = c.in_ok-taken.field-0 in
-    let size : length (take (length piece - at) (drop at piece)) ≡ length piece - at = ap length (rest_is at piece) ∙ length-drop at piece in
     record {
-      within = omega (arith, c.in_ok-taken.ensures.within.1, size, c.loop-taken-test.true);
+      within = omega (arith, c.in_ok-taken.ensures.within.1, ap length (rest_is at piece) ∙ length-drop at piece, c.loop-taken-test.true);
       few = c.in_ok-taken.ensures.few;
       short = c.in_ok-taken.ensures.short;
-      split = λ limits came split. subst (HasSplit limits c.take_prefix.new.self) (taken_more came piece at count)
+      split = λ limits came split. subst (HasSplit limits c.take_prefix.new.self) (taken_more came piece at c.in_ok-taken.field-0)
           (c.in_ok-taken.ensures.split limits (came ++ take at piece) (c.loop-taken.invariant.split limits came split));
       left = omega (arith, c.loop-taken.invariant.left, c.in_ok-taken.ensures.left);
     }

@@ -33,8 +33,7 @@ pub returns-in_ok-end_line-clause-left : goal.returns-in_ok-end_line-clause-left
 returns-in_ok-end_line-clause-left c =
     let ends = c.take-count.ensures.ends c.if-ended.true in
     let room = room_for_line c.args.self.now.begun c.take-count.new.self c.args.piece.now c.take-count.result.0 c.take-count.ensures.within.1 ends in
-    let none : length c.end_line.new.self.begun ≡ 0 = ap (λ (bs : List ℕ). length bs) c.in_ok-end_line.ensures.begun in
-    omega (arith, room, none, c.in_ok-end_line.ensures.count, c.requires.few)
+    omega (arith, room, ap (λ (bs : List ℕ). length bs) c.in_ok-end_line.ensures.begun, c.in_ok-end_line.ensures.count, c.requires.few)
 
 pub returns-else-ended-clause-split : goal.returns-else-ended-clause-split
 returns-else-ended-clause-split c limits came split =

@@ -15,8 +15,7 @@ before_lf (b ∷ bytes) (suc n) none = (
 pub returns-in-Some-clause-ends : goal.returns-in-Some-clause-ends
 returns-in-Some-clause-ends c = λ ended.
     let front = take c.min.result c.args.piece.now in
-    let found = c.in-Some.ensures in
-    let few : c.in-Some.end < length front = omega (arith, found.0.high) in
+    let few : c.in-Some.end < length front = omega (arith, c.in-Some.ensures.0.high) in
     let one : take (c.in-Some.end + 1) c.args.piece.now ≡ take c.in-Some.end front ++ 10 ∷ [] = first_of (search rules, grind (arith, common_steps)) in
     let added : c.add.new.self ≡ c.args.self.now ++ take c.in-Some.end front = c.add.ensures ∙ ap (λ (bs : List ℕ). bs ++ take c.in-Some.end front) c.self.view_is in
     let size : length c.add.new.self ≡ length c.args.self.now + length (take c.in-Some.end front) = ap (λ (bs : List ℕ). length bs) added ∙ length-append c.args.self.now (take c.in-Some.end front) in
@@ -24,35 +23,31 @@ returns-in-Some-clause-ends c = λ ended.
     record {
       bytes = take c.in-Some.end front;
       is = added;
-      in_line = before_lf front c.in-Some.end (λ k low high within. found.0.before k low high);
+      in_line = before_lf front c.in-Some.end (λ k low high within. c.in-Some.ensures.0.before k low high);
       ends = inl (one, short);
     }
 
 pub returns-in-None-clause-goes_on : goal.returns-in-None-clause-goes_on
 returns-in-None-clause-goes_on c = λ more.
     let front = take c.min.result c.args.piece.now in
-    let line : IsLine (take (length front) front) = before_lf front (length front) (λ k low high within. c.in-None.ensures k low high) in
     let all : take (length front) front ≡ front = take_all (length front) front (omega arith) in
     let same : take (length front) c.args.piece.now ≡ front = first_of (search rules, grind (arith, common_steps)) in
-    let added : c.add-in-None.new.self ≡ c.args.self.now ++ front = c.add-in-None.ensures ∙ ap (λ (bs : List ℕ). bs ++ front) c.self.view_is in
     let short : length c.add-in-None.new.self < 8196 = first_of (search rules, grind (arith, common_steps)) in
     record {
-      is = added ∙ ap (λ (bs : List ℕ). c.args.self.now ++ bs) (sym same);
-      in_line = subst IsLine (all ∙ sym same) line;
+      is = (c.add-in-None.ensures ∙ ap (λ (bs : List ℕ). bs ++ front) c.self.view_is) ∙ ap (λ (bs : List ℕ). c.args.self.now ++ bs) (sym same);
+      in_line = subst IsLine (all ∙ sym same) (before_lf front (length front) (λ k low high within. c.in-None.ensures k low high));
       short = short;
     }
 
 pub returns-in-None-clause-ends : goal.returns-in-None-clause-ends
 returns-in-None-clause-ends c = λ full.
     let front = take c.min.result c.args.piece.now in
-    let line : IsLine (take (length front) front) = before_lf front (length front) (λ k low high within. c.in-None.ensures k low high) in
     let all : take (length front) front ≡ front = take_all (length front) front (omega arith) in
     let same : take (length front) c.args.piece.now ≡ front = first_of (search rules, grind (arith, common_steps)) in
-    let added : c.add-in-None.new.self ≡ c.args.self.now ++ front = c.add-in-None.ensures ∙ ap (λ (bs : List ℕ). bs ++ front) c.self.view_is in
     let size : length c.add-in-None.new.self ≡ 8196 = first_of (search rules, grind (arith, common_steps)) in
     record {
       bytes = front;
-      is = added;
-      in_line = subst IsLine all line;
+      is = c.add-in-None.ensures ∙ ap (λ (bs : List ℕ). bs ++ front) c.self.view_is;
+      in_line = subst IsLine all (before_lf front (length front) (λ k low high within. c.in-None.ensures k low high));
       ends = inr (same, size);
     }

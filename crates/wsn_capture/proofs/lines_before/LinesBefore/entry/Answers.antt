@@ -10,20 +10,11 @@ returns-then-text-gt-LINE_MAX-clause-entry c = search rules
 pub entry_of-requires : goal.entry_of-requires
 entry_of-requires c = search rules
 
-pub returns-in_err-entry-clause-entry : goal.returns-in_err-entry-clause-entry
-returns-in_err-entry-clause-entry c = search rules
+pub returns-in_err-entry : goal.returns-in_err-entry
+returns-in_err-entry c = record { entry = search rules; few = search rules }
 
-pub returns-in_err-entry-clause-few : goal.returns-in_err-entry-clause-few
-returns-in_err-entry-clause-few c = search rules
+pub returns-in_err-check_running : goal.returns-in_err-check_running
+returns-in_err-check_running c = record { entry = search rules; few = search rules }
 
-pub returns-in_err-check_running-clause-entry : goal.returns-in_err-check_running-clause-entry
-returns-in_err-check_running-clause-entry c = search rules
-
-pub returns-in_err-check_running-clause-few : goal.returns-in_err-check_running-clause-few
-returns-in_err-check_running-clause-few c = search rules
-
-pub returns-clause-entry : goal.returns-clause-entry
-returns-clause-entry c = search rules
-
-pub returns-clause-few : goal.returns-clause-few
-returns-clause-few c = search rules
+pub returns : goal.returns
+returns c = record { entry = search rules; few = search rules }

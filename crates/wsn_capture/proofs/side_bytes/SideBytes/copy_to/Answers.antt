@@ -3,15 +3,19 @@ use Rattle.wsn_capture.specs.SideTexts.{sent_in_lines}
 use Rattle.wsn_capture.proofs.SideSteps.{given_out}
 use Rattle.wsn_capture.proofs.side_bytes.SideBytes.copy_to.Goals as goal
 
-pub returns-clause-left : goal.returns-clause-left
-returns-clause-left c lines =
-    let old = c.args.self.now in
-    let count = c.min-count.result in
-    let held = slice_range old.bytes old.start old.end in
-    let size : length held ≡ old.end - old.start = search rules in
-    let copied : length c.copy_from_slice.new.self ≡ count = search rules in
-    given_out old.fault old.bytes c.copy_from_slice.new.self c.args.into.now (sent_in_lines old.role old.before lines) old.start old.end count c.requires
-    (omega (arith, c.min-count.ensures, size)) copied (search rules)
+pub returns : goal.returns
+returns c = record {
+  left = λ lines.
+      let old = c.args.self.now in
+      let count = c.min-count.result in
+      let size : length (slice_range old.bytes old.start old.end) ≡ old.end - old.start = search rules in
+      let copied : length c.copy_from_slice.new.self ≡ count = search rules in
+      given_out old.fault old.bytes c.copy_from_slice.new.self c.args.into.now (sent_in_lines old.role old.before lines) old.start old.end count c.requires
+      (omega (arith, c.min-count.ensures, size)) copied (search rules);
+  within = search rules;
+  none = search rules;
+  unfaulted = search rules;
+}
 
 pub slice_bounds-held-count : goal.slice_bounds-held-count
 slice_bounds-held-count c = search rules
@@ -39,12 +43,3 @@ overflow_add-self c = search rules
 
 pub invariant_of-self : goal.invariant_of-self
 invariant_of-self c = search rules
-
-pub returns-clause-within : goal.returns-clause-within
-returns-clause-within c = search rules
-
-pub returns-clause-none : goal.returns-clause-none
-returns-clause-none c = search rules
-
-pub returns-clause-unfaulted : goal.returns-clause-unfaulted
-returns-clause-unfaulted c = search rules

@@ -13,14 +13,8 @@ overflow_add-number c = search rules
 pub invariant_of-self-in-Err : goal.invariant_of-self-in-Err
 invariant_of-self-in-Err c = search rules
 
-pub returns-in-Ok-clause-left : goal.returns-in-Ok-clause-left
-returns-in-Ok-clause-left c = search rules
+pub returns-in-Ok : goal.returns-in-Ok
+returns-in-Ok c = record { left = search rules; fewer = search rules }
 
-pub returns-in-Ok-clause-fewer : goal.returns-in-Ok-clause-fewer
-returns-in-Ok-clause-fewer c = search rules
-
-pub returns-in-Err-clause-left : goal.returns-in-Err-clause-left
-returns-in-Err-clause-left c = search rules
-
-pub returns-in-Err-clause-fewer : goal.returns-in-Err-clause-fewer
-returns-in-Err-clause-fewer c = search rules
+pub returns-in-Err : goal.returns-in-Err
+returns-in-Err c = record { left = search rules; fewer = search rules }

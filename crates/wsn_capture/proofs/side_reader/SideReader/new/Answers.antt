@@ -3,8 +3,5 @@ use Rattle.wsn_capture.specs.declared.side_bytes.FaultyLine.{FaultyLine}
 use Rattle.wsn_capture.specs.SideStates.{stop_of}
 use Rattle.wsn_capture.proofs.side_reader.SideReader.new.Goals as goal
 
-pub returns-clause-stop : goal.returns-clause-stop
-returns-clause-stop g c = ap (λ (f : Option FaultyLine). stop_of f false) c.new.ensures.unfaulted
-
-pub returns-clause-remaining : goal.returns-clause-remaining
-returns-clause-remaining g c = search rules
+pub returns : goal.returns
+returns g c = record { stop = ap (λ (f : Option FaultyLine). stop_of f false) c.new.ensures.unfaulted; remaining = search rules }

@@ -7,17 +7,11 @@ slice_bounds-read-end g c = search rules
 pub invariant_of-self : goal.invariant_of-self
 invariant_of-self g c = search rules
 
-pub returns-in_err-self-clause-left : goal.returns-in_err-self-clause-left
-returns-in_err-self-clause-left g c = search rules
+pub returns-in_err-self : goal.returns-in_err-self
+returns-in_err-self g c = record { left = search rules; fewer = search rules }
 
-pub returns-in_err-self-clause-fewer : goal.returns-in_err-self-clause-fewer
-returns-in_err-self-clause-fewer g c = search rules
-
-pub finish-requires-clause-ready : goal.finish-requires-clause-ready
-finish-requires-clause-ready g c = search rules
-
-pub finish-requires-clause-in_line : goal.finish-requires-clause-in_line
-finish-requires-clause-in_line g c = search rules
+pub finish-requires : goal.finish-requires
+finish-requires g c = record { ready = search rules; in_line = search rules }
 
 pub invariant_of-self-then-self-eq0 : goal.invariant_of-self-then-self-eq0
 invariant_of-self-then-self-eq0 g c = search rules
@@ -25,14 +19,8 @@ invariant_of-self-then-self-eq0 g c = search rules
 pub invariant_of-self-else-self-eq0 : goal.invariant_of-self-else-self-eq0
 invariant_of-self-else-self-eq0 g c = search rules
 
-pub returns-then-self-eq0-clause-left : goal.returns-then-self-eq0-clause-left
-returns-then-self-eq0-clause-left g c = search rules
+pub returns-then-self-eq0 : goal.returns-then-self-eq0
+returns-then-self-eq0 g c = record { left = search rules; fewer = search rules }
 
-pub returns-then-self-eq0-clause-fewer : goal.returns-then-self-eq0-clause-fewer
-returns-then-self-eq0-clause-fewer g c = search rules
-
-pub returns-else-self-eq0-clause-left : goal.returns-else-self-eq0-clause-left
-returns-else-self-eq0-clause-left g c = search rules
-
-pub returns-else-self-eq0-clause-fewer : goal.returns-else-self-eq0-clause-fewer
-returns-else-self-eq0-clause-fewer g c = search rules
+pub returns-else-self-eq0 : goal.returns-else-self-eq0
+returns-else-self-eq0 g c = record { left = search rules; fewer = search rules }

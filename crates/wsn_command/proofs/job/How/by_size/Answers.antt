@@ -1,14 +1,8 @@
 use Rattle.std.proofs.Common.{rules}
 use Rattle.wsn_command.proofs.job.How.by_size.Goals as goal
 
-pub returns-clause-may : goal.returns-clause-may
-returns-clause-may g c = search rules
-
-pub returns-clause-how : goal.returns-clause-how
-returns-clause-how g c = search rules
-
-pub returns-clause-none : goal.returns-clause-none
-returns-clause-none g c = search rules
+pub returns : goal.returns
+returns g c = record { may = search rules; how = search rules; none = search rules }
 
 pub returns-in-Server-Some-clause-none : goal.returns-in-Server-Some-clause-none
 returns-in-Server-Some-clause-none g c = search rules

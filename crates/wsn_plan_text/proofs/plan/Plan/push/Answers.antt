@@ -6,8 +6,5 @@ pub invariant_of-self : goal.invariant_of-self
 invariant_of-self g c =
     pushed_held c.self.inside.steps.items _ c.args.step _ c.push.ensures.items c.self.invariant c.law_step.ensures.key c.law_step.ensures.length
 
-pub returns-clause-pushed : goal.returns-clause-pushed
-returns-clause-pushed g c = search rules
-
-pub returns-clause-refused : goal.returns-clause-refused
-returns-clause-refused g c = search rules
+pub returns : goal.returns
+returns g c = record { pushed = search rules; refused = search rules }
