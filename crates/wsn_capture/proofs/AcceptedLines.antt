@@ -56,14 +56,7 @@ module _ (limits : Limits) (accepted : CaptureLines) (lines : List (List ℕ)) (
         → ((role : Role) → input_of role new ≡ input_of role accepted)
         → ((role : Role) → room_left role new + length (bytes_in role entry) ≡ room_left role accepted) → Fits limits given line entry
         → HasAccepted limits new (lines ++ line ∷ []) (given ++ entry ∷ [])
-    accepted_push new entry is before inputs room fits = record {
-      taken = taken_push limits [] lines given line entry has.taken (entry_accepted limits given line entry (after (Ok entry) is) fits);
-      before = before ∙ ap (λ (b : LinesBefore). with_entry b entry) has.before ∙ before-push given entry;
-      input = λ role. inputs role ∙ has.input role;
-      room = λ role.
-          let size = ap (λ (bs : List ℕ). length bs) (sent-push role given entry) ∙ length-append (sent role given) (bytes_in role entry) in
-          omega (arith, room role, has.room role, size);
-    }
+    accepted_push new entry is before inputs room fits = grind (arith, taken_push, entry_accepted, after, before-push, sent-push, length-append)
 
 -- ---- room
 
@@ -82,9 +75,7 @@ less_refused entry old role = grind arith
 -- so much less as the entry has bytes
 pub less_room : (entry : LineEntry) (old : CaptureLines) (held : List ℕ) → FitsRoom old entry → FitsInLine entry → length held ≡ 4096
     → (role : Role) → room_left role (with_room_less entry old) + length (bytes_in role (held_entry entry held)) ≡ room_left role old
-less_room (entries.Bytes Client count) old held fits short size Client = let all = length-take-le count held (omega (arith, short, size)) in omega (arith, all, fits)
-less_room (entries.Bytes Server count) old held fits short size Server = let all = length-take-le count held (omega (arith, short, size)) in omega (arith, all, fits)
-less_room _ old held fits short size role = grind arith
+less_room entry old held fits short size role = grind (arith, length-take-le)
 
 -- the same of a state that is known by equations
 pub room_by : (limits : Limits) (old : CaptureLines) (entry : LineEntry) (less : CaptureLines) (before : LinesBefore) (held : List ℕ) → less ≡ with_room_less entry old → FitsRoom old entry → FitsInLine entry → length held ≡ 4096
@@ -93,22 +84,17 @@ room_by limits old entry less before held is fits short size Client = ap (λ (l 
 room_by limits old entry less before held is fits short size Server = ap (λ (l : CaptureLines). l.server.room + length (bytes_in Server (held_entry entry held))) is ∙ less_room entry old held fits short size Server
 
 pub closes_by : (old : CaptureLines) (entry : LineEntry) (less : CaptureLines) (before : LinesBefore) → less ≡ with_room_less entry old → (role : Role) → close_line_of role (record less { before = before }) ≡ close_line_of role old
-closes_by old entry less before is Client = ap (λ (l : CaptureLines). l.client.close_line) is ∙ less_closes entry old Client
-closes_by old entry less before is Server = ap (λ (l : CaptureLines). l.server.close_line) is ∙ less_closes entry old Server
+closes_by old entry less before is role = grind (arith, less_closes)
 
 pub inputs_by : (old : CaptureLines) (entry : LineEntry) (less : CaptureLines) (before : LinesBefore) → less ≡ with_room_less entry old → (role : Role) → input_of role (record less { before = before }) ≡ input_of role old
-inputs_by old entry less before is Client = ap (λ (l : CaptureLines). l.client.input) is ∙ less_inputs entry old Client
-inputs_by old entry less before is Server = ap (λ (l : CaptureLines). l.server.input) is ∙ less_inputs entry old Server
+inputs_by old entry less before is role = grind (arith, less_inputs)
 
 pub refused_by : (old : CaptureLines) (entry : LineEntry) (less : CaptureLines) (before : LinesBefore) → less ≡ with_room_less entry old → (role : Role) → refused_line_of role (record less { before = before }) ≡ refused_line_of role old
-refused_by old entry less before is Client = ap (λ (l : CaptureLines). l.client.refused) is ∙ less_refused entry old Client
-refused_by old entry less before is Server = ap (λ (l : CaptureLines). l.server.refused) is ∙ less_refused entry old Server
+refused_by old entry less before is role = grind (arith, less_refused)
 
 pub fits_given : (limits : Limits) (old : CaptureLines) (lines : List (List ℕ)) (given : List Entry) (line : List ℕ) (entry : LineEntry) (held : List ℕ) → HasAccepted limits old lines given → FitsRoom old entry
     → Fits limits given line (held_entry entry held)
-fits_given limits old lines given line (entries.Bytes role count) held has fits =
-    omega (arith, has.room role, fits, length-take count held)
-fits_given limits old lines given line _ held has fits = tt
+fits_given limits old lines given line entry held has fits = grind (arith, length-take)
 
 pub exceeds_given : (limits : Limits) (old : CaptureLines) (lines : List (List ℕ)) (given : List Entry) (line : List ℕ) (entry : LineEntry) (held : List ℕ) → HasAccepted limits old lines given → FitsInLine entry → length held ≡ 4096
     → entry_after old.before line ≡ Ok (held_entry entry held) → ExceedsRoom old entry → IsFaultAfter limits lines line InputLimit
@@ -124,14 +110,10 @@ pub noted_same : (limits : Limits) (old new : CaptureLines) (given : List Entry)
 noted_same limits old new given same also noted role = (subst (IsCloseLine role limits given) (sym (same role)) (noted role).0, subst (IsRefusedLine role limits given) (sym (also role)) (noted role).1)
 
 pub noted_kept : (limits : Limits) (noted : CaptureLines) (given : List Entry) (entry : Entry) → ((role : Role) → bytes_in role entry ≡ []) → HasNotedCloses limits noted given → HasNotedCloses limits noted (given ++ entry ∷ [])
-noted_kept limits noted given entry none has role = (
-  line_kept role limits given entry (close_line_of role noted) (none role) (has role).0,
-  refused_kept role limits given entry (refused_line_of role noted) (none role) (has role).1,
-)
+noted_kept limits noted given entry none has role = grind (arith, line_kept, refused_kept)
 
 pub no_bytes_in_nothing : (role : Role) → bytes_in role Nothing ≡ []
-no_bytes_in_nothing Client = refl
-no_bytes_in_nothing Server = refl
+no_bytes_in_nothing role = grind arith
 
 pub no_bytes_in_mark : (other role : Role) → bytes_in role (Mark other) ≡ []
 no_bytes_in_mark other role = grind arith
@@ -144,8 +126,7 @@ noted_up_to limits noted given (entries.Mark role) held has = noted_kept limits 
 
 -- the verdict on a stream with these bytes
 pub judged_push : (role : Role) (limits : Limits) (given : List Entry) (bytes : List ℕ) (verdict : Verdict) → ((fs : List Frame) × IsVerdict role limits (sent role given ++ bytes) fs verdict) → IsJudged role limits (given ++ Bytes role bytes ∷ []) verdict
-judged_push role limits given bytes verdict found =
-    (found.0, subst (λ (bs : List ℕ). IsVerdict role limits bs found.0 verdict) (sym (sent-push role given (Bytes role bytes) ∙ ap (λ (bs : List ℕ). sent role given ++ bs) (own_bytes role bytes))) found.1)
+judged_push role limits given bytes verdict found = grind (arith, sent-push)
 
 -- what is noted of the endpoint whose bytes came
 pub line_noted : (role : Role) (limits : Limits) (given : List Entry) (bytes : List ℕ) (known : Option ℕ) (line : ℕ) (closed : Bool) → line ≡ length given → IsCloseLine role limits given known
@@ -159,38 +140,20 @@ line_noted role limits given bytes None line false count is came =
 
 -- the number of lines before the last one
 pub line_number : (limits : Limits) (accepted : CaptureLines) (lines : List (List ℕ)) (given : List Entry) (entry : Entry) → HasAccepted limits accepted lines (given ++ entry ∷ []) → count_of accepted - 1 ≡ length given
-line_number limits accepted lines given entry has =
-    omega (arith, ap (λ (b : LinesBefore). b.count) has.before, length-append given (entry ∷ []))
+line_number limits accepted lines given entry has = grind (arith, length-append)
 
 -- ---- what is noted in one endpoint's part
 
 pub client_kept : (limits : Limits) (old : CaptureLines) (client : SentBytes) (lines : List (List ℕ)) (given : List Entry) → client.input ≡ old.client.input → client.room ≡ old.client.room → HasAccepted limits old lines given → HasAccepted limits (record old { client = client }) lines given
-client_kept limits old client lines given inputs same has = record { taken = has.taken; before = has.before; input = input; room = room }
-  where
-    input : (role : Role) → input_of role (record old { client = client }) ≡ limits.input
-    input Client = inputs ∙ has.input Client
-    input Server = has.input Server
-
-    room : (role : Role) → room_left role (record old { client = client }) + length (sent role given) ≡ limits.input
-    room Client = ap (λ (n : ℕ). n + length (sent Client given)) same ∙ has.room Client
-    room Server = has.room Server
+client_kept limits old client lines given inputs same has = record { taken = has.taken; before = has.before; input = λ role. grind (arith, has.input role); room = λ role. grind (arith, has.room role) }
 
 pub server_kept : (limits : Limits) (old : CaptureLines) (server : SentBytes) (lines : List (List ℕ)) (given : List Entry) → server.input ≡ old.server.input → server.room ≡ old.server.room → HasAccepted limits old lines given → HasAccepted limits (record old { server = server }) lines given
-server_kept limits old server lines given inputs same has = record { taken = has.taken; before = has.before; input = input; room = room }
-  where
-    input : (role : Role) → input_of role (record old { server = server }) ≡ limits.input
-    input Client = has.input Client
-    input Server = inputs ∙ has.input Server
-
-    room : (role : Role) → room_left role (record old { server = server }) + length (sent role given) ≡ limits.input
-    room Client = has.room Client
-    room Server = ap (λ (n : ℕ). n + length (sent Server given)) same ∙ has.room Server
+server_kept limits old server lines given inputs same has = record { taken = has.taken; before = has.before; input = λ role. grind (arith, has.input role); room = λ role. grind (arith, has.room role) }
 
 -- the line with the offending byte, once the bytes of a line are judged
 module _ (role : Role) (limits : Limits) (given : List Entry) (bytes line : List ℕ) (old : SentBytes) (new : Option RefusedLine) (was : IsRefusedLine role limits given old.refused) where
   unrefused_still : (known : Option RefusedLine) → IsRefusedLine role limits given known → IsUnrefused role limits (sent role (given ++ Bytes role bytes ∷ [])) → IsRefusedLine role limits (given ++ Bytes role bytes ∷ []) known
-  unrefused_still (Some known) kept none = refused_stays role limits given (Bytes role bytes) known kept
-  unrefused_still None kept none = none
+  unrefused_still known kept none = grind (arith, refused_stays)
 
   module _ (short : length (without_cr line) ≤ line_most) (gives : text_entry (without_cr line) ≡ Ok (Bytes role bytes)) (input : old.input ≡ limits.input)
       (room : old.room + length (sent role (given ++ Bytes role bytes ∷ [])) ≡ limits.input) where
@@ -270,14 +233,7 @@ module _ (limits : Limits) (old : CaptureLines) (lines : List (List ℕ)) (given
 
 pub noted_from : (old mid : SentBytes) (line : List ℕ) (verdict : Verdict) (refusal : Refusal) (new : Option RefusedLine) → verdict ≡ Refused refusal → mid.input ≡ old.input → mid.room ≡ old.room → mid.refused ≡ old.refused
     → IsNotedLine mid line refusal.place new → IsNotedRefusal old line verdict new
-noted_from old mid line verdict refusal new is input room refused noted =
-    subst (λ (v : Verdict). IsNotedRefusal old line v new) (sym is) (
-      (λ some. noted.0 (subst IsSome (sym refused) some) ∙ refused),
-      (λ none role bytes short gives fits. subst (λ (n : ℕ). IsKeptOf (n - old.room - length bytes) bytes refusal.place new) input
-          (subst (λ (n : ℕ). IsKeptOf (mid.input - n - length bytes) bytes refusal.place new) room
-          (noted.1 (refused ∙ none) role bytes short gives (omega (arith, input, room, fits))))),
-    )
+noted_from old mid line verdict refusal new is input room refused noted = grind arith
 
 pub none_noted : (old : SentBytes) (line : List ℕ) (verdict : Verdict) (new : Option RefusedLine) → new ≡ old.refused → ((refusal : Refusal) → verdict ≡ Refused refusal → ⊥) → IsNotedRefusal old line verdict new
-none_noted old line (Refused refusal) new same other = absurd (other refusal refl)
-none_noted old line _ new same other = same
+none_noted old line verdict new same other = grind arith

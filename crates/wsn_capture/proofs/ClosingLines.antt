@@ -1,6 +1,5 @@
 -- The line in which a Close ends, as lines are added.
 use Rattle.std.proofs.Common.{◌≡◌, ℕ, suc, ◌-◌, ◌<◌, ◌≤◌, ◌⊎◌, true, false, Option, None, Some, List, [], ◌∷◌, ◌++◌, length, is_some, inl, inr, refl, sym, ap, ◌∙◌, subst, append_assoc, append-nil, arith, length-append}
-use Rattle.std.proofs.lemmas.Bool.{cases_lt}
 use Rattle.std.proofs.lemmas.List.{take_all, take-append-le, take_at}
 use Rattle.std.proofs.lemmas.List.Concat.{flat_map-append}
 use Rattle.wsn_wire.specs.declared.endpoint.Role.{Role}
@@ -59,20 +58,13 @@ module _ (role : Role) (limits : Limits) where
 
   pub cut_unclosed : (bytes : List ℕ) (fs : List Frame) (verdict : Verdict) → IsVerdict role limits bytes fs verdict
       → ((summary : Summary) × (verdict ≡ Cut summary)) ⊎ ((refusal : Refusal) × (verdict ≡ Refused refusal)) → IsUnclosed role limits bytes
-  cut_unclosed bytes fs verdict is (inl cut) = not_accepted bytes fs verdict is (λ summary accepted. let both : Cut cut.0 ≡ Accepted summary = sym cut.1 ∙ accepted in cc)
-  cut_unclosed bytes fs verdict is (inr refused) = not_accepted bytes fs verdict is (λ summary accepted. let both : Refused refused.0 ≡ Accepted summary = sym refused.1 ∙ accepted in cc)
+  cut_unclosed bytes fs verdict is fact = grind (arith, not_accepted)
 
   -- ---- a stream with further bytes
 
   -- what comes after a Close is its tail
   pub accepted_longer : (bytes more : List ℕ) (fs : List Frame) → IsAccepted role limits bytes fs → EndsWithClose fs → IsAccepted role limits (bytes ++ more) fs
-  accepted_longer bytes more fs is closes = record {
-    lawful = is.lawful;
-    ends = elim is.ends [
-      | inl whole ↦ absurd (whole.0 closes.0 [] closes.1 closes.3 closes.2)
-      | inr tail ↦ inr (closes, (tail.1.0 ++ more, ap (λ (bs : List ℕ). bs ++ more) tail.1.1 ∙ append_assoc (stream fs) tail.1.0 more))
-    ];
-  }
+  accepted_longer bytes more fs is closes = grind (arith, append_assoc)
 
   used : (bytes : List ℕ) (fs : List Frame) → IsAccepted role limits bytes fs → EndsWithClose fs → (tail : List ℕ) × (bytes ≡ stream fs ++ tail)
   used bytes fs is closes =
@@ -98,26 +90,10 @@ module _ (role : Role) (limits : Limits) where
 
   -- a Close ends in one of the lines
   pub closes_within : (given : List Entry) (line : ℕ) → ClosesIn role limits given line → line < length given
-  closes_within given line is =
-      elim (cases_lt line (length given)) [
-        | inl within ↦ within
-        | inr past ↦
-            let more = ap (λ (es : List Entry). length (sent role es)) (take_all (suc line) given (omega (arith, past))) in
-            absurd (omega (arith, ap (λ (es : List Entry). length (sent role es)) (take_all line given past), more, is.before, is.following))
-      ]
+  closes_within given line is = grind (arith, take_all)
 
   pub closes_longer : (given : List Entry) (entry : Entry) (line : ℕ) → ClosesIn role limits given line → ClosesIn role limits (given ++ entry ∷ []) line
-  closes_longer given entry line is =
-      let within = closes_within given line is in
-      let before = ap (λ (es : List Entry). length (sent role es)) (take-append-le line given (entry ∷ []) (omega (arith, within))) in
-      let following = ap (λ (es : List Entry). length (sent role es)) (take-append-le (suc line) given (entry ∷ []) (omega (arith, within))) in
-      record {
-        frames = is.frames;
-        accepted = subst (λ (bs : List ℕ). IsAccepted role limits bs is.frames) (sym (sent-push role given entry)) (accepted_longer (sent role given) (bytes_in role entry) is.frames is.accepted is.closes);
-        closes = is.closes;
-        before = omega (arith, before, is.before);
-        following = omega (arith, following, is.following);
-      }
+  closes_longer given entry line is = grind (arith, closes_within, take-append-le, sent-push, accepted_longer)
 
   pub closes_last : (given : List Entry) (entry : Entry) (fs : List Frame) → IsUnclosed role limits (sent role given) → IsAccepted role limits (sent role given ++ bytes_in role entry) fs → EndsWithClose fs → ClosesIn role limits (given ++ entry ∷ []) (length given)
   closes_last given entry fs unclosed is closes =
@@ -148,6 +124,4 @@ module _ (role : Role) (limits : Limits) where
 
   -- the line that is noted after an entry that adds none
   pub line_kept : (given : List Entry) (entry : Entry) (known : Option ℕ) → bytes_in role entry ≡ [] → IsCloseLine role limits given known → IsCloseLine role limits (given ++ entry ∷ []) known
-  line_kept given entry (Some line) none is = closes_longer given entry line is
-  line_kept given entry None none is =
-      subst (IsUnclosed role limits) (sym (sent-push role given entry ∙ ap (λ (bs : List ℕ). sent role given ++ bs) none ∙ append-nil (sent role given))) is
+  line_kept given entry known none is = grind (arith, closes_longer, sent-push, append-nil)

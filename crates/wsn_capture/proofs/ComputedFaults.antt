@@ -1,5 +1,5 @@
 -- The first faults of lines that are written out.
-use Rattle.std.proofs.Common.{◌≡◌, ◌≢◌, ℕ, ◌+◌, ◌<◌, ◌≤◌, false, true, Result, Ok, Err, List, ◌∷◌, ◌++◌, length, inl, inr, sym, ap, ◌∙◌, arith}
+use Rattle.std.proofs.Common.{◌≡◌, ◌≢◌, ℕ, ◌+◌, ◌<◌, ◌≤◌, false, true, Result, Ok, Err, List, ◌∷◌, ◌++◌, length, inl, sym, ap, ◌∙◌, arith}
 use Rattle.hex.specs.Hex.{decode_of}
 use Rattle.hex.specs.declared.error.FromHexError.{FromHexError}
 use Rattle.wsn_wire.specs.declared.endpoint.Role.{Role}
@@ -14,11 +14,7 @@ use Rattle.wsn_capture.proofs.OneFault.{NoneBefore, none_at_first, none_further,
 
 -- a line that begins with neither an endpoint's letter nor # has no form
 pub no_form : (b : ℕ) (rest : List ℕ) → b ≢ 35 → b ≢ 67 → b ≢ 83 → HasNoForm (b ∷ rest)
-no_form b rest no_comment no_client no_server = (something, no_side b rest no_client no_server)
-  where
-    something : GivesEntry (b ∷ rest) Nothing → ⊥
-    something (inl empty) = cc empty
-    something (inr comment) = no_comment (head_same _ _ _ _ comment.1)
+no_form b rest no_comment no_client no_server = grind (arith, no_side, head_same)
 
 -- digits that decode to an error encode no bytes
 abbrev pub is_error : Result (List ℕ) FromHexError → Type 0
@@ -26,19 +22,14 @@ is_error (Ok bytes) = ⊥
 is_error (Err e) = Unit {0}
 
 pub no_hex : (digits : List ℕ) → is_error (decode_of digits) → (bytes : List ℕ) → IsHex digits bytes → ⊥
-no_hex digits bad bytes hex = by_result (decode_of digits) bad hex.1
-  where
-    by_result : (r : Result (List ℕ) FromHexError) → is_error r → r ≡ Ok bytes → ⊥
-    by_result (Ok other) bad is = bad
-    by_result (Err e) bad is = cc is
+no_hex digits bad bytes hex = grind arith
 
 module _ (limits : Limits) (given : List Entry) (line : List ℕ) where
   pub first_of_many : lines_most ≤ length given → IsFirstLineFault limits given line TooManyLines
   first_of_many many = record { held = many; first = λ other held. none_at_first limits given (without_cr line) 0 other held (omega arith) }
 
   after_many : length given < lines_most → NoneBefore limits given (without_cr line) 0 1
-  after_many few =
-      none_further limits given (without_cr line) 0 0 (none_at_first limits given (without_cr line) 0) (λ many. omega (arith, few, many))
+  after_many few = grind (arith, none_further, none_at_first)
 
   pub first_of_long : length given < lines_most → line_most < length (without_cr line) → IsFirstLineFault limits given line TooLong
   first_of_long few long = record { held = long; first = λ other held. after_many few other held (omega arith) }
@@ -63,10 +54,7 @@ module _ (limits : Limits) (given : List Entry) (line : List ℕ) (few : length 
   }
 
   pub first_of_mark : (role : Role) → without_cr line ≡ end_mark role → has_ended role given ≡ true → IsFirstLineFault limits given line AfterEnd
-  first_of_mark role is over = record {
-    held = (role, inr is, over);
-    first = λ other held. mark_formed limits given (without_cr line) 0 role is after_long other held (omega arith);
-  }
+  first_of_mark role is over = grind (arith, mark_formed, after_long)
 
   pub first_of_limit : (role : Role) (digits bytes : List ℕ) → without_cr line ≡ bytes_prefix role ++ digits → IsHex digits bytes → has_ended role given ≡ false → limits.input < length (sent role given) + length bytes → IsFirstLineFault limits given line InputLimit
   first_of_limit role digits bytes is hex going more = record {
@@ -78,10 +66,7 @@ module _ (limits : Limits) (given : List Entry) (line : List ℕ) (few : length 
   }
 
   pub takes_nothing : GivesEntry (without_cr line) Nothing → IsAcceptedLine limits given line Nothing
-  takes_nothing is = record {
-    gives = is;
-    none = λ fault held. let less = none_at_all limits given (without_cr line) 0 (nothing_bad limits given (without_cr line) 0 is after_long) fault held in omega (arith, less);
-  }
+  takes_nothing is = grind (arith, none_at_all, nothing_bad, after_long)
 
   pub takes_bytes : (role : Role) (digits bytes : List ℕ) → without_cr line ≡ bytes_prefix role ++ digits → IsHex digits bytes → has_ended role given ≡ false → length (sent role given) + length bytes ≤ limits.input → IsAcceptedLine limits given line (Bytes role bytes)
   takes_bytes role digits bytes is hex going room = record {
@@ -93,10 +78,4 @@ module _ (limits : Limits) (given : List Entry) (line : List ℕ) (few : length 
   }
 
   pub takes_mark : (role : Role) → without_cr line ≡ end_mark role → has_ended role given ≡ false → IsAcceptedLine limits given line (Mark role)
-  takes_mark role is going = record {
-    gives = is;
-    none = λ fault held.
-        let less = none_at_all limits given (without_cr line) 0
-        (mark_taken limits given (without_cr line) 0 role is (mark_formed limits given (without_cr line) 0 role is after_long) going) fault held in
-        omega (arith, less);
-  }
+  takes_mark role is going = grind (arith, none_at_all, mark_taken, mark_formed, after_long)

@@ -42,8 +42,7 @@ agrees None value = leb 16 value
 agrees (Some v) value = eqb value v
 
 agrees_is : (o : Option ℕ) (value : ℕ) → agrees o value ≡ true → MatchOption o (16 ≤ value) (λ v. value ≡ v)
-agrees_is None value h = leb-true 16 value h
-agrees_is (Some v) value h = eqb-true value v h
+agrees_is o value h = grind (arith, leb-true, eqb-true)
 
 abbrev agree_below : ℕ → Bool
 agree_below zero = true
@@ -117,8 +116,7 @@ digit_at digits k a i fits one lt = picked_at _ 32 a i lt ∙ joined_at digits k
 
 by_options : (c d k h l : ℕ) (o p : Option ℕ) → MatchOption o (16 ≤ h) (λ v. h ≡ v) → MatchOption p (16 ≤ l) (λ v. l ≡ v) → h < 16 → l < 16
     → pair_of c d k o p ≡ Ok (add (h * 16 % 2 ^ 8) l)
-by_options c d k h l (Some v) (Some w) is_h is_l small_h small_l = ap Ok (omega (arith, is_h, is_l))
-by_options c d k h l _ _ is_h is_l small_h small_l = absurd (omega arith)
+by_options c d k h l o p is_h is_l small_h small_l = grind arith
 
 pair_decoded : (c d k h l : ℕ) → IsValueOf c h → IsValueOf d l → h < 16 → l < 16 → pair_value c d k ≡ Ok (add (h * 16 % 2 ^ 8) l)
 pair_decoded c d k h l is_h is_l small_h small_l = by_options c d k h l (hex_digit_value c) (hex_digit_value d) is_h is_l small_h small_l
@@ -127,8 +125,7 @@ pub small_value : (c v : ℕ) → hex_digit_value c ≡ Some v → v < 16
 small_value c v h = grind (arith)
 
 bad_option : (o : Option ℕ) (h : ℕ) → ((v : ℕ) → o ≡ Some v → v < 16) → MatchOption o (16 ≤ h) (λ v. h ≡ v) → 16 ≤ h → is_some o ≡ false
-bad_option None h small is big = refl
-bad_option (Some v) h small is big = absurd (omega (arith, small v refl))
+bad_option o h small is big = grind arith
 
 bad_digit : (c h : ℕ) → IsValueOf c h → 16 ≤ h → is_hex_digit c ≡ false
 bad_digit c h is big = bad_option (hex_digit_value c) h (small_value c) is big

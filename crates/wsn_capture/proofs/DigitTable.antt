@@ -1,5 +1,5 @@
 -- The table of the values of digits.
-use Rattle.std.proofs.Common.{◌≡◌, ℕ, zero, suc, ◌<◌, ◌&&◌, Bool, true, false, eqb, bit_and, slice_index, unwrap_or, refl, sym, subst, inl, inr, arith, eqb-true}
+use Rattle.std.proofs.Common.{◌≡◌, ℕ, zero, suc, ◌<◌, ◌&&◌, Bool, true, eqb, bit_and, slice_index, unwrap_or, refl, sym, subst, inl, inr, arith, eqb-true}
 use Rattle.std.specs.Prelude.{not}
 use Rattle.std.proofs.lemmas.Bool.{and_parts, cases_lt}
 use mathlib.Core.Bool.{beq}
@@ -24,9 +24,7 @@ listed_at (suc n) c h lt =
     ]
 
 same : (a b : Bool) → beq a b ≡ true → a ≡ b
-same true false h = cc h
-same false true h = cc h
-same _ _ h = refl
+same a b h = grind arith
 
 pub is_digit_at : (c : ℕ) → c < 256 → not (eqb (slice_index DIGIT_VALUES c) 240) ≡ is_hex_digit c
 is_digit_at c lt = same _ _ (and_parts (beq (not (eqb (slice_index DIGIT_VALUES c) 240)) (is_hex_digit c)) _ (listed_at 256 c refl lt)).0

@@ -1,13 +1,12 @@
 -- Every list of entries has a report, if the limits are in range.
-use Rattle.std.proofs.Common.{◌≡◌, ℕ, ◌+◌, ◌*◌, ◌%◌, ◌==◌, ◌<◌, Bool, true, false, cond, Option, None, Some, is_some, Result, Ok, Err, List, [], ◌∷◌, ◌++◌, length, inl, inr, refl, sym, ap, ◌∙◌, subst, append_assoc, append-nil, arith}
+use Rattle.std.proofs.Common.{◌≡◌, ℕ, ◌+◌, ◌<◌, Bool, true, false, Option, None, Some, is_some, Result, Ok, Err, List, [], ◌∷◌, ◌++◌, length, inl, inr, refl, sym, ◌∙◌, subst, append_assoc, append-nil, arith}
 use Rattle.std.proofs.lemmas.List.Concat.{flat_map-append}
 use Rattle.hex.specs.Hex.{decode_of, decode_pairs, hex_digit_value, pair_value}
 use Rattle.hex.specs.declared.error.FromHexError.{FromHexError}
-use Rattle.hex.specs.declared.error.FromHexError.TheVariants.{OddLength}
 use Rattle.hex.proofs.Pairs.{cons_byte, decode_pairs-ok_pair, decode_pairs-err_pair}
 use Rattle.wsn_wire.specs.declared.endpoint.Role.{Role}
 use Rattle.wsn_wire.specs.declared.endpoint.Role.TheVariants.{Client, Server}
-use Rattle.wsn_wire.specs.Frame.{Frame, IsBytes, frame_bytes, stream}
+use Rattle.wsn_wire.specs.Frame.{Frame, IsBytes}
 use Rattle.wsn_wire.proofs.FrameLemmas.{IsBytes-append, IsBytes-left}
 use Rattle.wsn_rules.specs.declared.verdict.Verdict.{Verdict}
 use Rattle.wsn_rules.specs.declared.verdict.Verdict.TheVariants.{Accepted, Cut, Refused}
@@ -18,7 +17,6 @@ use Rattle.wsn_rules.proofs.Prefixes.{nil-push, nil-parts}
 use Rattle.wsn_rules.specs.declared.report.Side.{Side}
 use Rattle.wsn_rules.specs.declared.report.Report.{Report}
 use Rattle.wsn_rules.specs.Entries.{Entry, GivesEntry, AreEntries}
-use Rattle.wsn_rules.specs.Entries.Entry.{Nothing, Bytes, Mark}
 use Rattle.wsn_rules.specs.Sides.{bytes_in, sent, has_ended, side_of, IsSide}
 use Rattle.wsn_rules.specs.Reports.{echo_of, seen_of, IsReport}
 use Rattle.wsn_capture.specs.Closes.{IsUnclosed, IsClosedBy, IsCloseLine, earlier_of}
@@ -31,10 +29,7 @@ use Rattle.wsn_capture.proofs.DigitBlocks.{small_value}
 -- ---- digits encode bytes
 
 pair_small : (high low i : ℕ) (h l : Option ℕ) (v : ℕ) → ((d : ℕ) → h ≡ Some d → d < 16) → ((d : ℕ) → l ≡ Some d → d < 16) → pair_of high low i h l ≡ Ok v → v < 256
-pair_small high low i (Some d) (Some e) v small also is =
-    let whole : d * 16 + e ≡ v = cc in
-    omega (arith, whole, small d refl, also e refl)
-pair_small high low i _ _ v small also is = absurd (cc is)
+pair_small high low i h l v small also is = grind arith
 
 decoded_bytes : (i : ℕ) (digits bytes : List ℕ) → decode_pairs i digits ≡ Ok bytes → IsBytes bytes
 unfolding decode_pairs
@@ -43,8 +38,7 @@ decoded_bytes i (digit ∷ []) bytes is = absurd (cc is)
 decoded_bytes i (high ∷ low ∷ rest) bytes is = by_pair (decoded_bytes (i + 2) rest) (pair_value high low i) refl
   where
     by_rest : (v : ℕ) (r : Result (List ℕ) FromHexError) → ((more : List ℕ) → r ≡ Ok more → IsBytes more) → v < 256 → cons_byte v r ≡ Ok bytes → IsBytes bytes
-    by_rest v (Ok more) following small whole = let same : v ∷ more ≡ bytes = cc in subst IsBytes same (small, following more refl)
-    by_rest v (Err e) following small whole = absurd (cc whole)
+    by_rest v r following small whole = grind arith
 
     by_pair : ((more : List ℕ) → decode_pairs (i + 2) rest ≡ Ok more → IsBytes more) → (r : Result ℕ FromHexError) → pair_value high low i ≡ r → IsBytes bytes
     by_pair following (Ok v) pair =
@@ -53,16 +47,10 @@ decoded_bytes i (high ∷ low ∷ rest) bytes is = by_pair (decoded_bytes (i + 2
     by_pair following (Err e) pair = let both : Err e ≡ Ok bytes = sym (decode_pairs-err_pair i high low e rest pair) ∙ is in absurd (cc both)
 
 encoded_bytes : (digits bytes : List ℕ) → decode_of digits ≡ Ok bytes → IsBytes bytes
-encoded_bytes digits bytes is = by_parity (length digits % 2 == 1) is
-  where
-    by_parity : (odd : Bool) → cond odd (Err OddLength) (decode_pairs 0 digits) ≡ Ok bytes → IsBytes bytes
-    by_parity true whole = absurd (cc whole)
-    by_parity false whole = decoded_bytes 0 digits bytes whole
+encoded_bytes digits bytes is = grind (arith, decoded_bytes)
 
 entry_bytes : (role : Role) (text : List ℕ) (entry : Entry) → GivesEntry text entry → IsBytes (bytes_in role entry)
-entry_bytes Client text (Bytes Client bytes) is = encoded_bytes is.0 bytes is.2.1
-entry_bytes Server text (Bytes Server bytes) is = encoded_bytes is.0 bytes is.2.1
-entry_bytes _ text _ is = tt
+entry_bytes role text entry is = grind (arith, encoded_bytes)
 
 pub sent_bytes : (role : Role) (lines : List (List ℕ)) (entries : List Entry) → AreEntries lines entries → IsBytes (sent role entries)
 sent_bytes role [] [] are = tt
@@ -73,13 +61,7 @@ sent_bytes role _ _ are = absurd are
 -- ---- where a Close ends
 
 pub nothing_closed : (role : Role) (limits : Limits) → IsUnclosed role limits []
-nothing_closed role limits fs is closes =
-    elim is.ends [
-      | inl whole ↦ whole.0 closes.0 [] closes.1 closes.3 closes.2
-      | inr tail ↦
-          let parts : stream fs ≡ stream closes.0 ++ (frame_bytes closes.1 ++ []) = ap stream closes.3 ∙ flat_map-append frame_bytes closes.0 (closes.1 ∷ []) in
-          nil-push (stream closes.0) _ _ ((sym (nil-parts (stream fs) tail.1.0 tail.1.1).0) ∙ parts)
-    ]
+nothing_closed role limits fs is closes = grind (arith, flat_map-append, nil-push, nil-parts)
 
 module _ (role : Role) (limits : Limits) (range : InRange limits) where
   closed_or_not : (bytes : List ℕ) → IsBytes bytes → (closed : Bool) × IsClosedBy role limits bytes closed

@@ -1,5 +1,5 @@
 -- The answer to a capture's text fits the bytes that came.
-use Rattle.std.proofs.Common.{◌≡◌, ℕ, ◌+◌, ◌*◌, ◌≤◌, Option, None, Some, false, true, Result, Ok, Err, List, [], ◌∷◌, ◌++◌, length, inl, inr, refl, sym, ap, ◌∙◌, subst, append_assoc, append-nil, length-append, arith}
+use Rattle.std.proofs.Common.{◌≡◌, ℕ, ◌+◌, ◌*◌, ◌≤◌, Option, Some, false, true, Result, Ok, Err, List, [], ◌∷◌, ◌++◌, length, inl, inr, sym, ap, ◌∙◌, subst, append_assoc, append-nil, length-append, arith}
 use Rattle.std.specs.Prelude.{◌↔◌}
 use Rattle.std.specs.Io.KnownBytes.{Consumes, IsAtEnd}
 use Rattle.wsn_io.specs.Transfer.{Incoming, IsConsumed, IsKept}
@@ -31,11 +31,7 @@ module _ (limits : Limits) (old mid new : Incoming) (splitter : LineSplitter) (r
 
   -- a read failed
   pub stopped : IsKept mid new → new.failed ≡ true → IsCaptureJudged limits old new (Err Read)
-  stopped keeps failed = record {
-    came = read.came;
-    received = received_of (1000001 * 8196 + 4095) old new read.came (consumed_kept old mid new read.came read.consumed keeps) (omega (arith, bounded));
-    answer = (failed, unfaulted limits read.split.lines splitter.begun read.came read.split.passed);
-  }
+  stopped keeps failed = grind (arith, received_of, consumed_kept, bounded, unfaulted)
 
   at_end : (result : Result CaptureReport CaptureStop) → IsAtEnd new.remaining → new.failed ≡ false → IsCaptureAnswerOf limits read.came result → IsCaptureAnswer limits new read.came result
   at_end (Ok report) ends unfailed is = (is, ends, unfailed)
@@ -44,11 +40,7 @@ module _ (limits : Limits) (old mid new : Incoming) (splitter : LineSplitter) (r
 
   -- the input ended
   pub ended : (result : Result CaptureReport CaptureStop) → IsConsumed mid new [] → IsAtEnd new.remaining → new.failed ≡ false → IsCaptureAnswerOf limits read.came result → IsCaptureJudged limits old new result
-  ended result nothing ends unfailed is = record {
-    came = read.came;
-    received = received_of (1000001 * 8196 + 4095) old new read.came (consumed_end old mid new read.came read.consumed nothing) (omega (arith, bounded));
-    answer = at_end result ends unfailed is;
-  }
+  ended result nothing ends unfailed is = grind (arith, received_of, consumed_end, bounded, at_end)
 
   -- a chunk was consumed
   pub goes_on : (piece : List ℕ) (further : LineSplitter) → IsConsumed mid new piece → HasSplit limits further (read.came ++ piece) → HasRead limits old new further
@@ -87,36 +79,15 @@ module _ (limits : Limits) (old mid new : Incoming) (splitter : LineSplitter) (r
 -- ---- what follows from an answer
 
 pub failed_by : (limits : Limits) (old new : Incoming) (result : Result CaptureReport CaptureStop) → IsCaptureJudged limits old new result → (result ≡ Err Read) ↔ (new.failed ≡ true)
-failed_by limits old new (Ok report) judged = ((λ is. cc is), (λ failed. let both : true ≡ false = sym failed ∙ judged.answer.2 in cc))
-failed_by limits old new (Err (Line number fault)) judged = ((λ is. cc is), (λ failed. let both : true ≡ false = sym failed ∙ judged.answer.1 in cc))
-failed_by limits old new (Err Read) judged = ((λ is. judged.answer.0), (λ failed. refl))
+failed_by limits old new result judged = grind arith
 
 left_all : (came all : List ℕ) (left : Option (List ℕ)) → Consumes (Some all) left came → (rest : List ℕ) × (left ≡ Some rest) × (all ≡ came ++ rest)
-left_all came all None gone = absurd gone
-left_all came all (Some rest) is = (rest, refl, is)
+left_all came all left gone = grind arith
 
 pub whole_answer : (limits : Limits) (old new : Incoming) (result : Result CaptureReport CaptureStop) (all : List ℕ) → old.remaining ≡ Some all → new.failed ≡ false → IsCaptureJudged limits old new result → IsCaptureAnswerOf limits all result
-whole_answer limits old new result all known unfailed judged =
-    let left = left_all judged.came all new.remaining (subst (λ (o : Option (List ℕ)). Consumes o new.remaining judged.came) known judged.received.consumed.consumed) in
-    by_answer result left.0 left.1 left.2 judged.answer
-  where
-    ended_there : (rest : List ℕ) → new.remaining ≡ Some rest → all ≡ judged.came ++ rest → IsAtEnd new.remaining → judged.came ≡ all
-    ended_there rest left is ends = let none : rest ≡ [] = subst IsAtEnd left ends in sym (is ∙ ap (λ (bs : List ℕ). judged.came ++ bs) none ∙ append-nil judged.came)
-
-    by_answer : (result : Result CaptureReport CaptureStop) (rest : List ℕ) → new.remaining ≡ Some rest → all ≡ judged.came ++ rest → IsCaptureAnswer limits new judged.came result → IsCaptureAnswerOf limits all result
-    by_answer (Ok report) rest left is answer = subst (λ (bs : List ℕ). IsCaptureAnswerOf limits bs (Ok report)) (ended_there rest left is answer.1) answer.0
-    by_answer (Err (Line number fault)) rest left is answer =
-        elim answer.0 [
-          | inl prompt ↦
-              let same : prompt.earlier ++ prompt.last ∷ (prompt.ahead ++ rest) ≡ all =
-              sym (append_assoc prompt.earlier (prompt.last ∷ prompt.ahead) rest) ∙ ap (λ (bs : List ℕ). bs ++ rest) (sym prompt.whole) ∙ sym is in
-              subst (λ (bs : List ℕ). IsFaulty limits bs number fault) same (prompt.is_faulty (prompt.ahead ++ rest))
-          | inr there ↦ subst (λ (bs : List ℕ). IsFaulty limits bs number fault) (ended_there rest left is there.2) there.0
-        ]
-    by_answer (Err Read) rest left is answer = let both : true ≡ false = sym answer.0 ∙ unfailed in cc
+whole_answer limits old new result all known unfailed judged = grind (arith, left_all, append-nil, append_assoc)
 
 -- ---- the report alone
 
 pub failed_alone : (limits : Limits) (old new : Incoming) (result : Result Report CaptureStop) (read : Result CaptureReport CaptureStop) → result ≡ without_tails read → (read ≡ Err Read) ↔ (new.failed ≡ true) → (result ≡ Err Read) ↔ (new.failed ≡ true)
-failed_alone limits old new result (Ok read) is failed = ((λ stopped. let both : Err Read ≡ Ok read.report = sym stopped ∙ is in absurd (cc both)), (λ was. let both : Ok read ≡ Err Read = failed.1 was in absurd (cc both)))
-failed_alone limits old new result (Err stop) is failed = ((λ stopped. failed.0 (let both : Err stop ≡ Err Read = sym is ∙ stopped in cc)), (λ was. let both : Err stop ≡ Err Read = failed.1 was in cc))
+failed_alone limits old new result read is failed = grind arith

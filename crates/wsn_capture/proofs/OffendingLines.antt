@@ -1,5 +1,5 @@
 -- The line with the offending byte of a stream: there is exactly one if the stream is refused, and it stays.
-use Rattle.std.proofs.Common.{◌≡◌, ℕ, ◌+◌, ◌-◌, ◌<◌, ◌≤◌, ◌⊎◌, Option, None, Some, List, [], ◌∷◌, ◌++◌, length, take, drop, inl, inr, refl, sym, ap, ◌∙◌, subst, append_assoc, append-nil, arith, length-append}
+use Rattle.std.proofs.Common.{◌≡◌, ℕ, ◌+◌, ◌-◌, ◌<◌, ◌≤◌, Option, None, Some, List, [], ◌∷◌, ◌++◌, length, take, drop, inl, inr, refl, sym, ap, ◌∙◌, subst, append_assoc, append-nil, arith, length-append}
 use Rattle.std.specs.Prelude.{min, replicate, slice_index_or}
 use Rattle.std.proofs.lemmas.Bool.{cases_lt}
 use Rattle.std.proofs.lemmas.List.{take-append-le, take-append-drop, take_all, take_at, drop_all, drop_more, take-replicate, drop-replicate, length-take, length-drop, length-replicate}
@@ -13,11 +13,11 @@ use Rattle.wsn_rules.specs.declared.verdict.Verdict.TheVariants.{Accepted, Cut, 
 use Rattle.wsn_rules.specs.Limits.{Limits, InRange}
 use Rattle.wsn_rules.specs.Verdict.{IsVerdict}
 use Rattle.wsn_rules.specs.Entries.{Entry, AreEntries}
-use Rattle.wsn_rules.specs.Entries.Entry.{Nothing, Bytes, Mark}
+use Rattle.wsn_rules.specs.Entries.Entry.{Bytes}
 use Rattle.wsn_rules.specs.Sides.{bytes_in, sent}
 use Rattle.wsn_rules.proofs.OneVerdict.{one_verdict}
 use Rattle.wsn_rules.proofs.EveryInput.{has_verdict}
-use Rattle.wsn_rules.proofs.Prefixes.{two_fronts, head_same, tail_same}
+use Rattle.wsn_rules.proofs.Prefixes.{two_fronts, head_same}
 use Rattle.wsn_rules.proofs.StaysRefused.{place_within, refused_alike, stays_refused}
 use Rattle.wsn_capture.specs.declared.refused_line.RefusedLine.{RefusedLine}
 use Rattle.wsn_capture.specs.declared.refused_line.RefusedLines.{RefusedLines}
@@ -82,15 +82,7 @@ some_kept start bytes place from within =
     )
 
 one_kept : (start : ℕ) (bytes : List ℕ) (place : ℕ) (line other : RefusedLine) → IsKept start bytes place line → IsKept start bytes place other → line ≡ other
-one_kept start bytes place line other is also =
-    let starts : line.start ≡ other.start = is.starts ∙ sym also.starts in
-    let bytes_are : line.byte ≡ other.byte = head_same line.byte other.byte is.offending.0 also.offending.0 (sym is.offending.1 ∙ also.offending.1) in
-    let counts : line.count ≡ other.count = is.counted ∙ sym also.counted in
-    let firsts : line.first ≡ other.first = is.firsts ∙ sym also.firsts in
-    ap (λ (n : ℕ). record { start = n; byte = line.byte; count = line.count; first = line.first }) starts
-    ∙ ap (λ (n : ℕ). record { start = other.start; byte = n; count = line.count; first = line.first }) bytes_are
-    ∙ ap (λ (n : ℕ). record { start = other.start; byte = other.byte; count = n; first = line.first }) counts
-    ∙ ap (λ (bs : List ℕ). record { start = other.start; byte = other.byte; count = other.count; first = bs }) firsts
+one_kept start bytes place line other is also = grind (arith, head_same)
 
 kept_within : (start : ℕ) (bytes : List ℕ) (place : ℕ) (line : RefusedLine) → IsKept start bytes place line → place < start + length bytes
 kept_within start bytes place line is =
@@ -100,13 +92,10 @@ kept_within start bytes place line is =
 
 -- an entry with bytes is the endpoint's
 has_bytes : (role : Role) (entry : Entry) → 0 < length (bytes_in role entry) → entry ≡ Bytes role (bytes_in role entry)
-has_bytes Client (Bytes Client bytes) some = refl
-has_bytes Server (Bytes Server bytes) some = refl
-has_bytes _ _ some = absurd (omega (arith, some))
+has_bytes role entry fact = grind arith
 
 pub own_bytes : (role : Role) (bytes : List ℕ) → bytes_in role (Bytes role bytes) ≡ bytes
-own_bytes Client bytes = refl
-own_bytes Server bytes = refl
+own_bytes role bytes = grind arith
 
 -- The entries have this one, with the byte at the offset.
 record HasEntry (role : Role) (entries : List Entry) (place : ℕ) : Type 0 where
@@ -197,10 +186,7 @@ one_line role limits given None None is also = refl
 -- ---- both endpoints
 
 pub one_refused_lines : (limits : Limits) (entries : List Entry) (lines others : RefusedLines) → AreRefusedLines limits entries lines → AreRefusedLines limits entries others → lines ≡ others
-one_refused_lines limits entries lines others are also =
-    let client = one_line Client limits entries lines.client others.client are.0 also.0 in
-    let server = one_line Server limits entries lines.server others.server are.1 also.1 in
-    ap (λ (l : Option RefusedLine). record { client = l; server = lines.server }) client ∙ ap (λ (l : Option RefusedLine). record { client = others.client; server = l }) server
+one_refused_lines limits entries lines others are also = grind (arith, one_line)
 
 pub has_refused_lines : (limits : Limits) (lines : List (List ℕ)) (entries : List Entry) → InRange limits → AreEntries lines entries → (refused : RefusedLines) × AreRefusedLines limits entries refused
 has_refused_lines limits lines entries range are =
@@ -258,9 +244,7 @@ module _ (role : Role) (limits : Limits) (given : List Entry) (bytes : List ℕ)
       ]
 
   pub refused_new : (line : Option RefusedLine) → IsKeptOf (length (sent role given)) bytes refusal.place line → IsRefusedLine role limits (given ++ Bytes role bytes ∷ []) line
-  refused_new (Some line) kept = record { frames = fs; refusal = refusal; refused = is; before = given; bytes = bytes; after = []; whole = refl; kept = kept }
-  refused_new None (inl earlier) = let from = place_least in absurd (omega (arith, earlier, from))
-  refused_new None (inr later) = let within = place_less in absurd (omega (arith, later, within))
+  refused_new line kept = grind (arith, place_least, place_less)
 
 -- no byte is offending
 pub none_offending : (role : Role) (limits : Limits) → IsUnrefused role limits []

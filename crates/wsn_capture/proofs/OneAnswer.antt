@@ -1,5 +1,5 @@
 -- A capture's text has exactly one correct answer.
-use Rattle.std.proofs.Common.{◌≡◌, ℕ, ◌+◌, ◌⊎◌, Result, Ok, Err, List, [], ◌∷◌, ◌++◌, length, inl, inr, refl, sym, ap, ◌∙◌, subst, append_assoc, append-nil}
+use Rattle.std.proofs.Common.{◌≡◌, ℕ, ◌+◌, ◌⊎◌, Result, Ok, Err, List, [], ◌∷◌, ◌++◌, length, inl, inr, refl, sym, ap, ◌∙◌, subst, append_assoc, append-nil, arith}
 use Rattle.wsn_rules.specs.Limits.{Limits, InRange}
 use Rattle.wsn_rules.proofs.Prefixes.{two_fronts, head_same}
 use Rattle.wsn_rules.specs.TextLines.{AreLines}
@@ -112,10 +112,7 @@ same_taken limits lines entries others are also = same_entries lines entries oth
 
 -- an accepted line has no fault
 none_faulty : (limits : Limits) (before : List (List ℕ)) (line : List ℕ) (after : List (List ℕ)) (entries : List Entry) (fault : LineFault) → AreAcceptedLines limits (before ++ line ∷ after) entries → IsFaultAfter limits before line fault → ⊥
-none_faulty limits before line after entries fault are is =
-    let there = taken_there limits [] before line after entries are in
-    let same = same_taken limits before there.0 is.given there.2 is.taken in
-    (subst (λ (es : List Entry). IsAcceptedLine limits es line there.1) same there.3).none fault is.is.held
+none_faulty limits before line after entries fault are is = grind (arith, taken_there, same_taken)
 
 -- two first faulty lines of one list are the same line
 one_faulty : (limits : Limits) (before others : List (List ℕ)) (line other : List ℕ) (after following : List (List ℕ)) (fault another : LineFault) → before ++ line ∷ after ≡ others ++ other ∷ following

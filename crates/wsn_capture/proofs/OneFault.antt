@@ -26,19 +26,16 @@ fault_at (suc (suc (suc (suc zero)))) = AfterEnd
 fault_at (suc (suc (suc (suc (suc n))))) = InputLimit
 
 at_its_place : (fault : LineFault) → fault_at (fault_order fault) ≡ fault
-at_its_place TooManyLines = refl
-at_its_place _ = refl
+at_its_place fault = grind arith
 
 placed : (fault : LineFault) → fault_order fault < 6
-placed TooManyLines = omega arith
-placed _ = omega arith
+placed fault = grind arith
 
 pub same_fault : (fault other : LineFault) → fault_order fault ≡ fault_order other → fault ≡ other
 same_fault fault other same = sym (at_its_place fault) ∙ ap fault_at same ∙ at_its_place other
 
 pub one_first_fault : (limits : Limits) (given : List Entry) (line : List ℕ) (fault other : LineFault) → IsFirstLineFault limits given line fault → IsFirstLineFault limits given line other → fault ≡ other
-one_first_fault limits given line fault other is also =
-    same_fault fault other (omega (arith, is.first other also.held, also.first fault is.held))
+one_first_fault limits given line fault other is also = grind (arith, same_fault)
 
 -- The faults from the number `from` on.
 module _ (limits : Limits) (given : List Entry) (text : List ℕ) (from : ℕ) where
@@ -50,19 +47,11 @@ module _ (limits : Limits) (given : List Entry) (text : List ℕ) (from : ℕ) w
   none_at_first other held le = le
 
   pub none_further : (n : ℕ) → NoneBefore n → (HasFault limits given text (fault_at n) → ⊥) → NoneBefore (suc n)
-  none_further n before none other held le =
-      elim (cases_eq (fault_order other) n) [
-        | inl here ↦ absurd (none (subst (HasFault limits given text) (sym (at_its_place other) ∙ ap fault_at here) held))
-        | inr there ↦ omega (arith, before other held le, there)
-      ]
+  none_further n before none other held le = grind (arith, at_its_place)
 
   -- the text has none of these faults
   pub none_at_all : NoneBefore 6 → (other : LineFault) → HasFault limits given text other → fault_order other < from
-  none_at_all before other held =
-      elim (cases_lt (fault_order other) from) [
-        | inl less ↦ less
-        | inr le ↦ let following = before other held le in let few = placed other in absurd (omega (arith, following, few))
-      ]
+  none_at_all before other held = grind (arith, placed)
 
 -- ---- the form of a line
 
@@ -75,23 +64,11 @@ pub data Form (text : List ℕ) : Type 0 where
 
 -- a line that begins with no endpoint's letter is of no endpoint
 pub no_side : (b : ℕ) (rest : List ℕ) → b ≢ 67 → b ≢ 83 → (role : Role) → IsOfEndpoint role (b ∷ rest) → ⊥
-no_side b rest no_client no_server role is = by_letter role (first role is)
-  where
-    first : (role : Role) → IsOfEndpoint role (b ∷ rest) → b ≡ letter_of role
-    first role (inl of) = head_same _ _ _ _ (of.1 ∙ front_is role of.0)
-    first role (inr mark) = head_same _ _ _ _ (mark ∙ mark_is role)
-
-    by_letter : (role : Role) → b ≡ letter_of role → ⊥
-    by_letter Client same = no_client same
-    by_letter Server same = no_server same
+no_side b rest no_client no_server role is = grind (arith, letter_of, head_same, front_is, mark_is)
 
 -- a line has a form only if its endpoint's letter is followed by a space, or by a dot alone
 pub second_byte : (role : Role) (rest : List ℕ) → ((digits : List ℕ) → rest ≡ 32 ∷ digits → ⊥) → (rest ≡ 46 ∷ [] → ⊥) → HasNoForm (letter_of role ∷ rest)
-second_byte role rest no_bytes no_mark = (not_nothing role rest (letter_of role ∷ rest) refl, of_none)
-  where
-    of_none : (other : Role) → IsOfEndpoint other (letter_of role ∷ rest) → ⊥
-    of_none other (inl of) = no_bytes of.0 (tail_same _ _ _ _ (of.1 ∙ front_is other of.0))
-    of_none other (inr mark) = no_mark (tail_same _ _ _ _ (mark ∙ mark_is other))
+second_byte role rest no_bytes no_mark = grind (arith, not_nothing, letter_of, tail_same, front_is, mark_is)
 
 of_letter : (role : Role) (rest : List ℕ) → Form (letter_of role ∷ rest)
 of_letter role [] = NoForm (second_byte role [] (λ digits is. cc is) (λ is. cc is))
@@ -125,8 +102,7 @@ form_of (b ∷ rest) =
     ]
   where
     something : b ≢ 35 → GivesEntry (b ∷ rest) Nothing → ⊥
-    something other (inl empty) = cc empty
-    something other (inr comment) = other (head_same _ _ _ _ comment.1)
+    something other fact = grind (arith, head_same)
 
 -- ---- every line is accepted or has a fault
 
@@ -139,31 +115,19 @@ hex_or_not (d ∷ digits) = by_result (decode_of (d ∷ digits)) refl
     by_result (Err e) is = inr (λ bytes hex. let both : Ok bytes ≡ Err e = sym hex.1 ∙ is in cc)
 
 pub true_or_false : (b : Bool) → (b ≡ true) ⊎ (b ≡ false)
-true_or_false true = inl refl
-true_or_false false = inr refl
+true_or_false b = grind arith
 
 -- a line is of one endpoint
 pub same_side : (role other : Role) (text digits : List ℕ) → text ≡ bytes_prefix role ++ digits → IsOfEndpoint other text → role ≡ other
-same_side role other text digits is (inl of) = (same_bytes_line role other digits of.0 (sym is ∙ of.1)).0
-same_side role other text digits is (inr mark) = absurd (not_mark role other digits (sym is ∙ mark))
+same_side role other text digits is fact = grind (arith, same_bytes_line, not_mark)
 
 pub same_side_marked : (role other : Role) (text : List ℕ) → text ≡ end_mark role → IsOfEndpoint other text → role ≡ other
-same_side_marked role other text is (inl of) = absurd (not_mark other role of.0 (sym of.1 ∙ is))
-same_side_marked role other text is (inr mark) = same_mark role other (sym is ∙ mark)
+same_side_marked role other text is fact = grind (arith, not_mark, same_mark)
 
 module _ (limits : Limits) (given : List Entry) (text : List ℕ) (from : ℕ) where
   -- a text that gives nothing has none of the faults from BadForm on
   pub nothing_bad : GivesEntry text Nothing → NoneBefore limits given text from 2 → NoneBefore limits given text from 6
-  nothing_bad is before =
-      none_further limits given text from 5 (none_further limits given text from 4 (none_further limits given text from 3 (none_further limits given text from 2 before
-      (λ bad. bad.0 is))
-      (λ bad. not_nothing bad.0 (32 ∷ bad.1) text (bad.2 ∙ front_is bad.0 bad.1) is))
-      (λ bad. of_none bad.0 bad.1))
-      (λ bad. let same : Nothing ≡ Bytes bad.0 bad.1 = one_given text Nothing (Bytes bad.0 bad.1) is bad.2 in cc)
-    where
-      of_none : (role : Role) → IsOfEndpoint role text → ⊥
-      of_none role (inl of) = not_nothing role (32 ∷ of.0) text (of.1 ∙ front_is role of.0) is
-      of_none role (inr mark) = not_nothing role (46 ∷ []) text (mark ∙ mark_is role) is
+  nothing_bad is before = grind (arith, none_further, not_nothing, front_is, one_given, mark_is)
 
   -- bytes that digits encode have a form
   pub bytes_formed : (role : Role) (digits bytes : List ℕ) → text ≡ bytes_prefix role ++ digits → IsHex digits bytes → NoneBefore limits given text from 2 → NoneBefore limits given text from 4
@@ -175,30 +139,14 @@ module _ (limits : Limits) (given : List Entry) (text : List ℕ) (from : ℕ) w
   -- they have no fault if their endpoint hasn't ended and has room
   pub bytes_taken : (role : Role) (digits bytes : List ℕ) → text ≡ bytes_prefix role ++ digits → IsHex digits bytes → NoneBefore limits given text from 4 → has_ended role given ≡ false
       → length (sent role given) + length bytes ≤ limits.input → NoneBefore limits given text from 6
-  bytes_taken role digits bytes is hex before going room =
-      none_further limits given text from 5 (none_further limits given text from 4 before
-      (λ bad. let same = same_side role bad.0 text digits is bad.1 in let both : true ≡ false = sym (ap (λ (r : Role). has_ended r given) same ∙ bad.2) ∙ going in cc))
-      (λ bad. let same : Bytes role bytes ≡ Bytes bad.0 bad.1 = one_given text (Bytes role bytes) (Bytes bad.0 bad.1) (digits, is, hex) bad.2 in over bad.0 bad.1 same bad.3)
-    where
-      over : (other : Role) (others : List ℕ) → Bytes role bytes ≡ Bytes other others → limits.input < length (sent other given) + length others → ⊥
-      over other others same =
-          let sides : role ≡ other = cc in
-          let all : bytes ≡ others = cc in
-          subst (λ (r : Role). limits.input < length (sent r given) + length others → ⊥) sides
-          (subst (λ (bs : List ℕ). limits.input < length (sent role given) + length bs → ⊥) all (λ more. omega (arith, room, more)))
+  bytes_taken role digits bytes is hex before going room = grind (arith, none_further, same_side, one_given)
 
   -- an end mark has no fault if its endpoint hasn't ended
   pub mark_formed : (role : Role) → text ≡ end_mark role → NoneBefore limits given text from 2 → NoneBefore limits given text from 4
-  mark_formed role is before =
-      none_further limits given text from 3 (none_further limits given text from 2 before
-      (λ bad. bad.1 role (inr is)))
-      (λ bad. not_mark bad.0 role bad.1 (sym bad.2 ∙ is))
+  mark_formed role is before = grind (arith, none_further, not_mark)
 
   pub mark_taken : (role : Role) → text ≡ end_mark role → NoneBefore limits given text from 4 → has_ended role given ≡ false → NoneBefore limits given text from 6
-  mark_taken role is before going =
-      none_further limits given text from 5 (none_further limits given text from 4 before
-      (λ bad. let same = same_side_marked role bad.0 text is bad.1 in let both : true ≡ false = sym (ap (λ (r : Role). has_ended r given) same ∙ bad.2) ∙ going in cc))
-      (λ bad. let same : Mark role ≡ Bytes bad.0 bad.1 = one_given text (Mark role) (Bytes bad.0 bad.1) is bad.2 in cc)
+  mark_taken role is before going = grind (arith, none_further, same_side_marked, one_given)
 
 module _ (limits : Limits) (given : List Entry) (text : List ℕ) where
   -- the text is accepted, or its first fault is known

@@ -1,5 +1,5 @@
 -- Pairs of digits that are decoded one after another, without an early exit.
-use Rattle.std.proofs.Common.{◌≡◌, ℕ, ◌+◌, ◌*◌, ◌<◌, ◌≤◌, ◌&&◌, Bool, true, false, List, length, take, drop, slice_index, slice_set, Option, Some, None, is_some, unwrap_or, Result, Ok, Err, refl, sym, ◌∙◌, subst, arith}
+use Rattle.std.proofs.Common.{◌≡◌, ℕ, ◌+◌, ◌*◌, ◌<◌, ◌≤◌, ◌&&◌, Bool, true, false, List, length, take, drop, slice_index, slice_set, Option, Some, is_some, unwrap_or, Result, Ok, Err, sym, ◌∙◌, arith}
 use Rattle.std.specs.Prelude.{MatchBool}
 use Rattle.hex.specs.Hex.{decode_of, decode_pairs, digit_or_error, hex_digit_value, is_hex_digit, pair_value, ◌>>=◌}
 use Rattle.hex.specs.declared.error.FromHexError.{FromHexError}
@@ -28,9 +28,7 @@ pub decoded_more : (valid : Bool) (digits bytes : List ℕ) (i : ℕ) → 2 * i 
     → AreDecoded valid digits bytes i
     → AreDecoded (valid && is_hex_digit (slice_index digits (2 * i)) && is_hex_digit (slice_index digits (2 * i + 1))) digits
     (slice_set bytes i (unwrap_or (hex_digit_value (slice_index digits (2 * i))) 0 * 16 + unwrap_or (hex_digit_value (slice_index digits (2 * i + 1))) 0)) (i + 1)
-decoded_more true digits bytes i fits room so_far =
-    by_values (hex_digit_value (slice_index digits (2 * i))) (hex_digit_value (slice_index digits (2 * i + 1))) digits bytes i fits room refl so_far
-decoded_more false digits bytes i fits room so_far = so_far
+decoded_more valid digits bytes i fits room so_far = grind (arith, by_values)
 
 -- one more pair, by what the code found of its digits
 pub decoded_step : (valid : Bool) (digits bytes : List ℕ) (i : ℕ) (a b : Bool) (v w : ℕ) → 2 * i + 1 < length digits → i < length bytes
@@ -38,12 +36,7 @@ pub decoded_step : (valid : Bool) (digits bytes : List ℕ) (i : ℕ) (a b : Boo
     → v ≡ unwrap_or (hex_digit_value (slice_index digits (2 * i))) 0 → w ≡ unwrap_or (hex_digit_value (slice_index digits (2 * i + 1))) 0
     → AreDecoded valid digits bytes i
     → AreDecoded (valid && a && b) digits (slice_set bytes i (v * 16 + w)) (i + 1)
-decoded_step valid digits bytes i a b v w fits room is_a is_b is_v is_w so_far =
-    subst (λ (x : Bool). AreDecoded (valid && x && b) digits (slice_set bytes i (v * 16 + w)) (i + 1)) (sym is_a)
-    (subst (λ (x : Bool). AreDecoded (valid && is_hex_digit (slice_index digits (2 * i)) && x) digits (slice_set bytes i (v * 16 + w)) (i + 1)) (sym is_b)
-    (subst (λ (x : ℕ). AreDecoded (valid && is_hex_digit (slice_index digits (2 * i)) && is_hex_digit (slice_index digits (2 * i + 1))) digits (slice_set bytes i (x * 16 + w)) (i + 1)) (sym is_v)
-    (subst (λ (x : ℕ). AreDecoded (valid && is_hex_digit (slice_index digits (2 * i)) && is_hex_digit (slice_index digits (2 * i + 1))) digits (slice_set bytes i (unwrap_or (hex_digit_value (slice_index digits (2 * i))) 0 * 16 + x)) (i + 1)) (sym is_w)
-    (decoded_more valid digits bytes i fits room so_far))))
+decoded_step valid digits bytes i a b v w fits room is_a is_b is_v is_w so_far = grind (arith, decoded_more)
 
 even : (digits : List ℕ) (n : ℕ) → length digits ≡ 2 * n → decode_of digits ≡ decode_pairs 0 digits
 even digits n size = grind (arith)
@@ -54,6 +47,4 @@ no_hex digits e is bytes hex = let both : Ok bytes ≡ Err e = sym hex.1 ∙ is 
 -- all pairs
 pub decoded_all : (valid : Bool) (digits bytes : List ℕ) (i : ℕ) → length digits ≡ 2 * length bytes → length bytes ≤ i
     → AreDecoded valid digits bytes i → MatchBool valid (decode_of digits ≡ Ok bytes) (HasNoHex digits)
-decoded_all true digits bytes i size all so_far =
-    even digits (length bytes) size ∙ decode_done digits bytes i all (omega (arith, size, all)) so_far
-decoded_all false digits bytes i size all so_far = no_hex digits so_far.0 (even digits (length bytes) size ∙ so_far.1)
+decoded_all valid digits bytes i size all so_far = grind (arith, even, decode_done, no_hex)

@@ -22,9 +22,7 @@ last_of (b ∷ c ∷ bytes) some = let rest = last_of (c ∷ bytes) (omega arith
 
 -- what is consumed of the rest next
 pub taken_more : (came piece : List ℕ) (at count : ℕ) → (came ++ take at piece) ++ take count (take (length piece - at) (drop at piece)) ≡ came ++ take (at + count) piece
-taken_more came piece at count =
-    append_assoc came (take at piece) (take count (take (length piece - at) (drop at piece)))
-    ∙ ap (λ (bs : List ℕ). came ++ bs) (ap (λ (bs : List ℕ). take at piece ++ take count bs) (rest_is at piece) ∙ sym (take-add at count piece))
+taken_more came piece at count = grind (arith, append_assoc, rest_is, take-add)
 
 -- ---- stops
 
@@ -65,10 +63,7 @@ stop_in_rest limits came piece at stop within =
 module _ (limits : Limits) (lines : List (List ℕ)) (begun came : List ℕ) (split : HasPassedOn limits lines begun came) where
   -- it goes on with the line
   pub goes_on : (after piece : List ℕ) (count : ℕ) → GoesOn begun after piece count → HasPassedOn limits lines after (came ++ take count piece)
-  goes_on after piece count goes =
-      subst (λ (bs : List ℕ). HasPassedOn limits lines bs (came ++ take count piece)) (sym goes.is)
-      (split_more limits lines begun came split (take count piece) goes.in_line
-      (omega (arith, goes.short, ap (λ (bs : List ℕ). length bs) goes.is, length-append begun (take count piece))))
+  goes_on after piece count goes = grind (arith, split_more, length-append)
 
   module _ (line piece : List ℕ) (count : ℕ) (ends : EndsLine begun line piece count) where
     size : length line ≡ length begun + length ends.bytes
@@ -76,14 +71,7 @@ module _ (limits : Limits) (lines : List (List ℕ)) (begun came : List ℕ) (sp
 
     -- it ends the line
     pub ends_line : (given : List Entry) → AreAcceptedLines limits (lines ++ line ∷ []) given → HasPassedOn limits (lines ++ line ∷ []) [] (came ++ take count piece)
-    ends_line given consumes =
-        elim ends.ends [
-          | inl lf ↦
-              subst (λ (bs : List ℕ). HasPassedOn limits (lines ++ line ∷ []) [] (came ++ bs)) (sym lf.0)
-              (subst (λ (bs : List ℕ). HasPassedOn limits (lines ++ bs ∷ []) [] (came ++ (ends.bytes ++ 10 ∷ []))) (sym ends.is)
-              (split_line limits lines begun came split ends.bytes given ends.in_line (omega (arith, size, lf.1)) (subst (λ (bs : List ℕ). AreAcceptedLines limits (lines ++ bs ∷ []) given) ends.is consumes)))
-          | inr long ↦ absurd (no_long limits lines begun came split given line long.1 consumes)
-        ]
+    ends_line given consumes = grind (arith, split_line, size, no_long)
 
     -- the line that it ends isn't accepted
     pub stops_at_line : (stop : CaptureStop) → IsStopAt limits lines line stop → IsStopWithin limits came piece stop

@@ -3,8 +3,6 @@ use Rattle.std.proofs.Common.{◌≡◌, ◌≢◌, ℕ, ◌+◌, ◌<◌, ◌�
 use Rattle.std.specs.Prelude.{nat_le, nat_lt, ⊤}
 use Rattle.std.proofs.lemmas.Bool.{cases_eq}
 use Rattle.std.proofs.lemmas.Bool.Decides.{nat_tests}
-use Rattle.hex.specs.Hex.{decode_of}
-use Rattle.hex.specs.declared.error.FromHexError.{FromHexError}
 use Rattle.wsn_wire.specs.declared.endpoint.Role.{Role}
 use Rattle.wsn_wire.specs.declared.endpoint.Role.TheVariants.{Client, Server}
 use Rattle.wsn_rules.specs.Limits.{Limits}
@@ -16,7 +14,7 @@ use Rattle.wsn_capture.specs.declared.line_fault.LineFault.TheVariants.{TooManyL
 use Rattle.wsn_capture.specs.declared.lines_before.LinesBefore.{LinesBefore}
 use Rattle.wsn_capture.specs.LineFaults.{fault_order, IsOfEndpoint, HasNoForm, HasFault, IsFirstLineFault, IsAcceptedLine, line_most, lines_most}
 use Rattle.wsn_capture.specs.LineEntries.{HasNoHex}
-use Rattle.wsn_capture.specs.SideTexts.{decoded_entry, digits_entry, dot_entry, endpoint_entry, text_entry, ended_before, unless_ended, entry_unless_ended, entry_after, lines_giving}
+use Rattle.wsn_capture.specs.SideTexts.{digits_entry, dot_entry, endpoint_entry, text_entry, ended_before, unless_ended, entry_unless_ended, entry_after, lines_giving}
 use Rattle.hex.proofs.HexLemmas.{decode_of-ok}
 use Rattle.wsn_rules.proofs.OneEntry.{letter_of, front_is, mark_is}
 use Rattle.wsn_capture.proofs.OneFault.{hex_or_not, true_or_false, taken_or_faulty}
@@ -44,28 +42,19 @@ else_lt m n x y is = let test : nat_lt m n ≡ false = grind (arith, nat_tests) 
 -- ---- the entry of a text
 
 pub nothing_text : (text : List ℕ) → GivesEntry text Nothing → text_entry text ≡ Ok Nothing
-nothing_text text (inl empty) = ap text_entry empty
-nothing_text text (inr comment) = ap text_entry comment.1
+nothing_text text is = grind arith
 
 digits_text : (role : Role) (digits : List ℕ) → text_entry (bytes_prefix role ++ digits) ≡ digits_entry role digits
-digits_text Client digits = refl
-digits_text Server digits = refl
+digits_text role digits = grind arith
 
 pub mark_text : (role : Role) → text_entry (end_mark role) ≡ Ok (Mark role)
-mark_text Client = refl
-mark_text Server = refl
+mark_text role = grind arith
 
 hex_digits : (role : Role) (digits bytes : List ℕ) → IsHex digits bytes → digits_entry role digits ≡ Ok (Bytes role bytes)
-hex_digits role [] bytes is = absurd (is.0 refl)
-hex_digits role (digit ∷ digits) bytes is = ap (decoded_entry role) is.1
+hex_digits role digits bytes is = grind arith
 
 other_digits : (role : Role) (digits : List ℕ) → HasNoHex digits → digits_entry role digits ≡ Err BadHex
-other_digits role [] none = refl
-other_digits role (digit ∷ digits) none = by_result (decode_of (digit ∷ digits)) refl
-  where
-    by_result : (r : Result (List ℕ) FromHexError) → decode_of (digit ∷ digits) ≡ r → digits_entry role (digit ∷ digits) ≡ Err BadHex
-    by_result (Ok bytes) is = absurd (none bytes ((λ empty. cc empty), is))
-    by_result (Err e) is = ap (decoded_entry role) is
+other_digits role digits none = grind arith
 
 pub hex_text : (role : Role) (digits bytes : List ℕ) → IsHex digits bytes → text_entry (bytes_prefix role ++ digits) ≡ Ok (Bytes role bytes)
 hex_text role digits bytes is = digits_text role digits ∙ hex_digits role digits bytes is
@@ -91,8 +80,7 @@ no_endpoint role (b ∷ rest) none =
     after_dot (c ∷ rest) none = by_test (b == 46)
       where
         by_test : (t : Bool) → cond t (dot_entry role (c ∷ rest)) (Err BadForm) ≡ Err BadForm
-        by_test true = refl
-        by_test false = refl
+        by_test t = grind arith
 
 pub no_form_text : (text : List ℕ) → HasNoForm text → text_entry text ≡ Err BadForm
 no_form_text [] none = absurd (none.0 (inl refl))
@@ -126,12 +114,10 @@ module _ (before : LinesBefore) (line : List ℕ) where
 
   pub entry_by_text : (entry : Result Entry LineFault) → before.count < lines_most → length (without_cr line) ≤ line_most → text_entry (without_cr line) ≡ entry
       → entry_after before line ≡ entry_unless_ended before entry
-  entry_by_text entry few short is =
-      not_too_many few ∙ else_lt line_most (length (without_cr line)) (Err TooLong) (entry_unless_ended before (text_entry (without_cr line))) short ∙ ap (entry_unless_ended before) is
+  entry_by_text entry few short is = grind (arith, not_too_many, else_lt)
 
 pub ended_lines_giving : (role : Role) (given : List Entry) → ended_before role (lines_giving given) ≡ has_ended role given
-ended_lines_giving Client given = refl
-ended_lines_giving Server given = refl
+ended_lines_giving role given = grind arith
 
 module _ (before : LinesBefore) (role : Role) where
   pub bytes_ended : (bytes : List ℕ) → ended_before role before ≡ true → unless_ended before (Bytes role bytes) ≡ Err AfterEnd
@@ -148,8 +134,7 @@ module _ (before : LinesBefore) (role : Role) where
 
 -- bytes that the digits of a line encode are at most 4,096
 pub few_bytes : (role : Role) (text digits bytes : List ℕ) → length text ≤ line_most → text ≡ bytes_prefix role ++ digits → IsHex digits bytes → length bytes ≤ 4096
-few_bytes role text digits bytes short is hex =
-    omega (arith, short, ap (λ (bs : List ℕ). length bs) (is ∙ front_is role digits), (decode_of-ok digits bytes hex.1).2)
+few_bytes role fact digits bytes short is hex = grind (arith, front_is, decode_of-ok)
 
 -- The endpoints' streams leave room for one more line.
 abbrev pub HasRoom : Limits → List Entry → Type 0
@@ -185,14 +170,10 @@ module _ (limits : Limits) (given : List Entry) (line : List ℕ) where
 
   -- an entry that the line gives
   pub read_entry : (entry : Entry) → GivesEntry text entry → text_entry text ≡ Ok entry
-  read_entry Nothing is = nothing_text text is
-  read_entry (Bytes role bytes) is = ap text_entry is.1 ∙ hex_text role is.0 bytes is.2
-  read_entry (Mark role) is = ap text_entry is ∙ mark_text role
+  read_entry entry is = grind (arith, nothing_text, hex_text, mark_text)
 
   going_entry : (entry : Entry) → GivesEntry text entry → (Has AfterEnd → ⊥) → unless_ended before entry ≡ Ok entry
-  going_entry Nothing is none = refl
-  going_entry (Bytes role bytes) is none = bytes_going before role bytes (going_before role (inl (is.0, is.1)) none)
-  going_entry (Mark role) is none = mark_going before role (going_before role (inr is) none)
+  going_entry entry is none = grind (arith, bytes_going, going_before, mark_going)
 
   given_entry : (entry : Entry) → GivesEntry text entry → (Has TooManyLines → ⊥) → (Has TooLong → ⊥) → (Has AfterEnd → ⊥) → entry_after (lines_giving given) line ≡ Ok entry
   given_entry entry is few short going = by_text (Ok entry) few short (read_entry entry is) ∙ going_entry entry is going
@@ -254,8 +235,7 @@ module _ (limits : Limits) (given : List Entry) (line : List ℕ) where
   over_limit entry role bytes is fits more = let within : length (sent role given) + length bytes ≤ limits.input = subst Fits is fits in omega (arith, within, more)
 
   by_fault : (entry : Entry) → entry_after (lines_giving given) line ≡ Ok entry → Fits entry → (fault : LineFault) → Reads fault → ⊥
-  by_fault entry is fits InputLimit reads = let same : entry ≡ Bytes reads.0 reads.1 = cc (is, reads.2) in over_limit entry reads.0 reads.1 same fits reads.4
-  by_fault entry is fits _ reads = cc (is, reads)
+  by_fault entry is fits fault reads = grind (arith, over_limit)
 
   pub entry_accepted : (entry : Entry) → entry_after (lines_giving given) line ≡ Ok entry → Fits entry → IsAcceptedLine limits given line entry
   entry_accepted entry is fits =
@@ -265,8 +245,7 @@ module _ (limits : Limits) (given : List Entry) (line : List ℕ) where
       ]
 
   same_fault_read : (fault other : LineFault) → entry_after (lines_giving given) line ≡ Err fault → Reads other → fault ≡ other
-  same_fault_read fault InputLimit is reads = absurd (cc (is, reads.2))
-  same_fault_read fault _ is reads = cc (is, reads)
+  same_fault_read fault other is reads = grind arith
 
   pub fault_first : (fault : LineFault) → entry_after (lines_giving given) line ≡ Err fault → IsFirstLineFault limits given line fault
   fault_first fault is =
@@ -276,8 +255,7 @@ module _ (limits : Limits) (given : List Entry) (line : List ℕ) where
       ]
 
   limit_read : (fault : LineFault) (role : Role) (bytes : List ℕ) → entry_after (lines_giving given) line ≡ Ok (Bytes role bytes) → Reads fault → fault ≡ InputLimit
-  limit_read InputLimit role bytes is reads = refl
-  limit_read _ role bytes is reads = absurd (cc (is, reads))
+  limit_read fault role bytes is reads = grind arith
 
   -- bytes past the limit
   pub entry_limited : (role : Role) (bytes : List ℕ) → entry_after (lines_giving given) line ≡ Ok (Bytes role bytes) → limits.input < length (sent role given) + length bytes → IsFirstLineFault limits given line InputLimit

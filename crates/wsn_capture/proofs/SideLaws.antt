@@ -1,10 +1,9 @@
 -- A side of a text is what its entries give, up to the first faulty line.
-use Rattle.std.proofs.Common.{◌≡◌, ℕ, ◌+◌, ◌*◌, ◌<◌, ◌≤◌, ◌||◌, Bool, true, false, Result, Ok, Err, List, [], ◌∷◌, ◌++◌, length, inl, inr, refl, sym, ap, ◌∙◌, subst, append_assoc, append-nil, length-append, arith}
+use Rattle.std.proofs.Common.{◌≡◌, ℕ, ◌+◌, ◌*◌, ◌<◌, ◌≤◌, ◌||◌, Bool, false, Result, Ok, Err, List, [], ◌∷◌, ◌++◌, length, inl, inr, refl, sym, ap, ◌∙◌, subst, append_assoc, append-nil, length-append, arith}
 use Rattle.std.specs.List.{AllByRecursion}
 use Rattle.std.proofs.lemmas.List.Concat.{flat_map-append}
 use Rattle.std.proofs.lemmas.List.Folds.{list_any-append}
 use Rattle.wsn_wire.specs.declared.endpoint.Role.{Role}
-use Rattle.wsn_wire.specs.declared.endpoint.Role.TheVariants.{Client, Server}
 use Rattle.wsn_wire.specs.Frame.{IsBytes}
 use Rattle.wsn_wire.proofs.FrameLemmas.{IsBytes-right}
 use Rattle.wsn_rules.specs.Limits.{Limits}
@@ -12,10 +11,10 @@ use Rattle.wsn_rules.specs.TextLines.{IsLine, ended, AreLines, lines_of}
 use Rattle.wsn_rules.proofs.Prefixes.{nil-push, split_push}
 use Rattle.wsn_rules.proofs.TextLines.{lines_are, lines_first, are_lines_of}
 use Rattle.wsn_rules.specs.Entries.{without_cr, Entry, GivesEntry}
-use Rattle.wsn_rules.specs.Entries.Entry.{Nothing, Bytes, Mark}
+use Rattle.wsn_rules.specs.Entries.Entry.{Bytes}
 use Rattle.wsn_rules.specs.Sides.{bytes_in, is_mark, sent, has_ended}
 use Rattle.wsn_capture.specs.declared.line_fault.LineFault.{LineFault}
-use Rattle.wsn_capture.specs.declared.line_fault.LineFault.TheVariants.{TooManyLines, TooLong, BadForm, BadHex, AfterEnd, InputLimit}
+use Rattle.wsn_capture.specs.declared.line_fault.LineFault.TheVariants.{TooLong}
 use Rattle.wsn_capture.specs.declared.lines_before.LinesBefore.{LinesBefore}
 use Rattle.wsn_capture.specs.LineFaults.{fault_order, IsAcceptedLine, AreAcceptedAfter, AreAcceptedLines, IsFaultAfter, line_most}
 use Rattle.wsn_capture.specs.CaptureAnswers.{IsFaulty}
@@ -44,25 +43,18 @@ module _ (role : Role) (before : LinesBefore) (line : List ℕ) (lines : List (L
 -- ---- the lines before
 
 or_swap : (a b : Bool) → (a || (b || false)) ≡ (b || a)
-or_swap true true = refl
-or_swap _ _ = refl
+or_swap a b = grind arith
 
 ended-push : (role : Role) (given : List Entry) (entry : Entry) → has_ended role (given ++ entry ∷ []) ≡ (is_mark role entry || has_ended role given)
 ended-push role given entry = list_any-append (is_mark role) given (entry ∷ []) ∙ or_swap (has_ended role given) (is_mark role entry)
 
 pub before-push : (given : List Entry) (entry : Entry) → with_entry (lines_giving given) entry ≡ lines_giving (given ++ entry ∷ [])
-before-push given entry =
-    let count : length given + 1 ≡ length (given ++ entry ∷ []) = omega (arith, length-append given (entry ∷ [])) in
-    let client = sym (ended-push Client given entry) in
-    let server = sym (ended-push Server given entry) in
-    cc
+before-push given entry = grind (arith, length-append, ended-push)
 
 -- ---- the number of bytes
 
 in_entry : (role : Role) (entry : Entry) (n : ℕ) → ((sender : Role) (bytes : List ℕ) → entry ≡ Bytes sender bytes → length bytes ≤ n) → length (bytes_in role entry) ≤ n
-in_entry Client (Bytes Client bytes) n few = few Client bytes refl
-in_entry Server (Bytes Server bytes) n few = few Server bytes refl
-in_entry _ _ n few = omega arith
+in_entry role entry n few = grind arith
 
 entry_short : (limits : Limits) (given : List Entry) (line : List ℕ) (entry : Entry) (role : Role) → IsAcceptedLine limits given line entry → length (bytes_in role entry) ≤ 4096
 entry_short limits given line entry role is = in_entry role entry 4096 few
@@ -135,9 +127,7 @@ module _ (limits : Limits) (most : side_most ≤ limits.input) where
       ap (sent_in_lines role no_lines) (lines_are text lines are ∙ sym (append-nil lines)) ∙ side-accepted role lines entries [] taken ∙ append-nil (sent role entries)
 
   pub sent_in-faulty : (role : Role) (text : List ℕ) (number : ℕ) (fault : LineFault) → (is : IsFaulty limits text number fault) → sent_in role text ≡ sent role is.is.given ++ sentinel number fault ∷ []
-  sent_in-faulty role text number fault is =
-      ap (sent_in_lines role no_lines) (lines_are text (is.before ++ is.line ∷ is.after) is.are) ∙ side-faulty role is.before is.line is.after fault is.is
-      ∙ ap (λ (n : ℕ). sent role is.is.given ++ sentinel n fault ∷ []) (sym is.at)
+  sent_in-faulty role text number fault is = grind (arith, lines_are, side-faulty)
 
   -- whole lines, and what comes after them
   pub sent_in-longer : (role : Role) (lines : List (List ℕ)) (entries : List Entry) (later : List ℕ) → AllByRecursion IsLine lines → AreAcceptedLines limits lines entries
@@ -146,35 +136,25 @@ module _ (limits : Limits) (most : side_most ≤ limits.input) where
 
   pub sent_in-stopped : (role : Role) (lines : List (List ℕ)) (line : List ℕ) (fault : LineFault) (later : List ℕ) → AllByRecursion IsLine (lines ++ line ∷ []) → (is : IsFaultAfter limits lines line fault)
       → sent_in role (ended (lines ++ line ∷ []) ++ later) ≡ sent role is.given ++ sentinel (length lines + 1) fault ∷ []
-  sent_in-stopped role lines line fault later each is =
-      ap (sent_in_lines role no_lines) (lines_first (lines ++ line ∷ []) later each ∙ append_assoc lines (line ∷ []) (lines_of later)) ∙ side-faulty role lines line (lines_of later) fault is
+  sent_in-stopped role lines line fault later each is = grind (arith, lines_first, append_assoc, side-faulty)
 
 -- ---- sentinels
 
 order_small : (fault : LineFault) → fault_order fault < 8
-order_small TooManyLines = omega arith
-order_small _ = omega arith
+order_small fault = grind arith
 
 pub sentinel-same : (number other : ℕ) (fault another : LineFault) → sentinel number fault ≡ sentinel other another → (number ≡ other) × (fault ≡ another)
-sentinel-same number other fault another is =
-    let small = order_small fault in
-    let little = order_small another in
-    (omega (arith, is, small, little), same_fault fault another (omega (arith, is, small, little)))
+sentinel-same number other fault another is = grind (arith, order_small, same_fault)
 
 pub sentinel_big : (number : ℕ) (fault : LineFault) → 256 ≤ sentinel number fault
 sentinel_big number fault = omega arith
 
 last_same : (xs ys : List ℕ) (x y : ℕ) → xs ++ x ∷ [] ≡ ys ++ y ∷ [] → x ≡ y
-last_same xs ys x y is =
-    elim (split_push xs x ys y [] is) [
-      | inl here ↦ sym here.1
-      | inr there ↦ absurd (nil-push there.0 x [] there.2)
-    ]
+last_same xs ys x y is = grind (arith, split_push, nil-push)
 
 -- no sentinel is among bytes
 no_sentinel : (came bytes : List ℕ) (number : ℕ) (fault : LineFault) → IsBytes bytes → bytes ≡ came ++ sentinel number fault ∷ [] → ⊥
-no_sentinel came bytes number fault all is =
-    omega (arith, (IsBytes-right came (sentinel number fault ∷ []) (subst IsBytes is all)).0, sentinel_big number fault)
+no_sentinel came bytes number fault all is = grind (arith, IsBytes-right, sentinel_big)
 
 -- a side that ends with a sentinel has this faulty line
 pub sentinel_found : (limits : Limits) (role : Role) (text came : List ℕ) (number : ℕ) (fault : LineFault) → side_most ≤ limits.input → sent_in role text ≡ came ++ sentinel number fault ∷ [] → IsFaulty limits text number fault

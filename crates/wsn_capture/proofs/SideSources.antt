@@ -1,5 +1,5 @@
 -- What is left of a side, as its text is read.
-use Rattle.std.proofs.Common.{◌≡◌, ℕ, ◌+◌, ◌-◌, ◌≤◌, Bool, true, false, cond, Option, None, Some, List, [], ◌++◌, take, drop, slice_range, refl, sym, ap, ◌∙◌, arith}
+use Rattle.std.proofs.Common.{◌≡◌, ℕ, ◌+◌, ◌-◌, ◌≤◌, Bool, true, false, cond, Option, None, Some, List, [], ◌++◌, take, drop, slice_range, sym, ap, ◌∙◌, arith}
 use Rattle.std.specs.Prelude.{IsSome, is_some}
 use Rattle.std.specs.Option.{option_map}
 use Rattle.std.proofs.lemmas.List.{drop-take}
@@ -8,15 +8,13 @@ use Rattle.wsn_rules.specs.TextLines.{lines_of}
 use Rattle.wsn_capture.specs.declared.side_lines.SideLines.{SideLines}
 use Rattle.wsn_capture.specs.declared.side_bytes.FaultyLine.{FaultyLine}
 use Rattle.wsn_capture.specs.declared.side_bytes.SideBytes.{SideBytes}
-use Rattle.wsn_capture.specs.SideStates.{unless_faulty, side_left, IsReady, text_left, stop_of, IsLineStop}
+use Rattle.wsn_capture.specs.SideStates.{side_left, IsReady, text_left, stop_of, IsLineStop}
 
 keeps_mapped : (known : Option (List ℕ)) (f g : List ℕ → List ℕ) → ((text : List ℕ) → g text ≡ f text) → Keeps (option_map f known) (option_map g known)
-keeps_mapped None f g same = tt
-keeps_mapped (Some text) f g same = same text
+keeps_mapped known f g same = grind arith
 
 pub keeps_going : (ended : Bool) (known x y : Option (List ℕ)) (f g : List ℕ → List ℕ) → ended ≡ false → ((text : List ℕ) → g text ≡ f text) → Keeps (cond ended x (option_map f known)) (cond ended y (option_map g known))
-keeps_going true known x y f g going same = absurd (cc going)
-keeps_going false known x y f g going same = keeps_mapped known f g same
+keeps_going ended known x y f g going same = grind (arith, keeps_mapped)
 
 range_is : (xs : List ℕ) (start end : ℕ) → start ≤ end → drop start (take end xs) ≡ slice_range xs start end
 range_is xs start end within = ap (λ n. drop start (take n xs)) {y = start + (end - start)} (omega arith) ∙ drop-take start (end - start) xs
@@ -32,14 +30,10 @@ taken_from old new chunk start end count within left later =
 -- ---- bytes that are given out
 
 keeps_consumes : (a b c : Option (List ℕ)) (bs : List ℕ) → Keeps a b → Consumes b c bs → Consumes a c bs
-keeps_consumes None b c bs keeps consumes = tt
-keeps_consumes (Some x) None c bs keeps consumes = absurd keeps
-keeps_consumes (Some x) (Some y) None bs keeps consumes = absurd consumes
-keeps_consumes (Some x) (Some y) (Some z) bs keeps consumes = sym keeps ∙ consumes
+keeps_consumes a b c bs keeps consumes = grind arith
 
 mapped_consumes : (known : Option (List ℕ)) (f g : List ℕ → List ℕ) (bs : List ℕ) → ((text : List ℕ) → f text ≡ bs ++ g text) → Consumes (option_map f known) (option_map g known) bs
-mapped_consumes None f g bs same = tt
-mapped_consumes (Some text) f g bs same = same text
+mapped_consumes known f g bs same = grind arith
 
 module _ (ended : Bool) (known : Option (List ℕ)) (begun chunk : List ℕ) where
   abbrev left_of : SideBytes → Option (List ℕ)
@@ -53,9 +47,7 @@ given_consumes false known before begun chunk bs old new keeps left =
     (mapped_consumes known (λ text. side_left old (lines_of (begun ++ (chunk ++ text)))) (λ text. side_left new (lines_of (begun ++ (chunk ++ text)))) bs (λ text. left (lines_of (begun ++ (chunk ++ text)))))
 
 nothing_left : (side : SideBytes) → IsReady side → side_left side [] ≡ []
-nothing_left side ready =
-    ap (λ (f : Option FaultyLine). unless_faulty f (slice_range side.bytes side.start side.end ++ [])) ready.unfaulted
-    ∙ ap (λ (n : ℕ). take n (drop side.start side.bytes) ++ []) {y = 0} (let same = ready.empty in omega (arith, same))
+nothing_left side ready = grind arith
 
 -- no byte was given out at the end of the text
 pub nothing_given : (ended : Bool) (known : Option (List ℕ)) (begun chunk into : List ℕ) (count : ℕ) (old new : SideBytes) → ended ≡ true → IsReady old → count ≡ 0
@@ -67,18 +59,13 @@ nothing_given true known begun chunk into count old new over ready none left =
 -- ---- stops
 
 pub line_is_some : (fault : Option FaultyLine) (failed : Bool) → IsLineStop (stop_of fault failed) → IsSome fault
-line_is_some (Some faulty) failed is = refl
-line_is_some None true is = absurd is
-line_is_some None false is = absurd is
+line_is_some fault failed is = grind arith
 
 pub none_is : (fault : Option FaultyLine) → is_some fault ≡ false → fault ≡ None
-none_is None is = refl
-none_is (Some faulty) is = absurd (cc is)
+none_is fault is = grind arith
 
 pub unfaulted_before : (old new : Option FaultyLine) → (IsSome old → new ≡ old) → new ≡ None → old ≡ None
-unfaulted_before None new kept none = refl
-unfaulted_before (Some faulty) new kept none = let both : None ≡ Some faulty = sym none ∙ kept refl in absurd (cc both)
+unfaulted_before old new kept none = grind arith
 
 pub not_both : (fault : Option FaultyLine) → IsSome fault → fault ≡ None → ⊥
-not_both None some none = absurd (cc some)
-not_both (Some faulty) some none = cc none
+not_both fault fact none = grind arith

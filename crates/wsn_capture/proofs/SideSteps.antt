@@ -13,7 +13,7 @@ use Rattle.wsn_capture.specs.SideTexts.{sent_in_lines}
 use Rattle.wsn_capture.specs.declared.side_bytes.FaultyLine.{FaultyLine}
 use Rattle.wsn_capture.specs.declared.side_bytes.SideBytes.{SideBytes}
 use Rattle.wsn_capture.specs.SplitLines.{EndsLine}
-use Rattle.wsn_capture.specs.SideStates.{unless_faulty, side_left, IsReady, lines_ahead, lines_ahead_by}
+use Rattle.wsn_capture.specs.SideStates.{unless_faulty, side_left, IsReady, lines_ahead}
 use Rattle.wsn_capture.proofs.SideEntries.{too_many_lines, too_long_line}
 use Rattle.wsn_capture.proofs.SideLaws.{side-fault}
 use Rattle.wsn_capture.proofs.SplitLines.{too_long, line_join}
@@ -31,12 +31,7 @@ parts bytes start end count within =
 
 pub given_out : (fault : Option FaultyLine) (bytes copied into later : List ℕ) (start end count : ℕ) → fault ≡ None → start + count ≤ end → length copied ≡ count → copied ≡ take count (slice_range bytes start end)
     → unless_faulty fault (slice_range bytes start end ++ later) ≡ take count (copied ++ drop count into) ++ unless_faulty fault (slice_range bytes (start + count) end ++ later)
-given_out fault bytes copied into later start end count none within size copy =
-    let held = slice_range bytes start end in
-    let rest = slice_range bytes (start + count) end in
-    subst (λ (f : Option FaultyLine). unless_faulty f (held ++ later) ≡ take count (copied ++ drop count into) ++ unless_faulty f (rest ++ later)) (sym none)
-    (ap (λ (bs : List ℕ). bs ++ later) (parts bytes start end count within) ∙ append_assoc (take count held) rest later
-    ∙ ap (λ (bs : List ℕ). bs ++ (rest ++ later)) (sym (take_at copied (drop count into) count size ∙ copy)))
+given_out fault bytes copied into later start end count none within size copy = grind (arith, parts, append_assoc, take_at)
 
 -- ---- a line that is too long whatever follows
 
@@ -54,8 +49,7 @@ long_after role before line more lines others long =
     ]
 
 long_left : (side : SideBytes) (line more : List ℕ) (lines others : List (List ℕ)) → 8196 ≤ length line → side_left side (line ∷ lines) ≡ side_left side ((line ++ more) ∷ others)
-long_left side line more lines others long =
-    ap (λ (bs : List ℕ). unless_faulty side.fault (slice_range side.bytes side.start side.end ++ bs)) (long_after side.role side.before line more lines others long)
+long_left side line more lines others long = grind (arith, long_after)
 
 -- the first line of a text begins with these bytes
 first_of : (front later : List ℕ) → IsLine front → 0 < length front → (more : List ℕ) × (rest : List (List ℕ)) × (lines_of (front ++ later) ≡ (front ++ more) ∷ rest)
@@ -71,8 +65,7 @@ long_text side line later lines is long =
 
 -- a line, its LF, and what follows
 pub line_text : (side : SideBytes) (begun bytes later : List ℕ) → IsLine (begun ++ bytes) → side_left side ((begun ++ bytes) ∷ lines_of later) ≡ side_left side (lines_of (begun ++ (bytes ++ 10 ∷ later)))
-line_text side begun bytes later is =
-    ap (side_left side) (sym (line_first (begun ++ bytes) later is) ∙ ap lines_of (append_assoc begun bytes (10 ∷ later)))
+line_text side begun bytes later is = grind (arith, line_first, append_assoc)
 
 -- the last line, without LF
 pub last_text : (side : SideBytes) (begun : List ℕ) → IsLine begun → (begun ≡ [] → ⊥) → side_left side (begun ∷ []) ≡ side_left side (lines_of (begun ++ []))
@@ -97,6 +90,4 @@ ended_text side begun line chunk later count is ends =
 
 -- A line that goes on leaves fewer bytes ahead.
 pub fewer_ahead : (side : SideBytes) (begun after : List ℕ) → IsReady side → length after < 8196 → length begun < length after → lines_ahead side * 8197 - length after < lines_ahead side * 8197 - length begun
-fewer_ahead side begun after ready short more =
-    let some : 1 ≤ lines_ahead side = subst (λ (f : Option FaultyLine). 1 ≤ lines_ahead_by f side.before.count) (sym ready.unfaulted) (omega arith) in
-    omega (arith, some, short, more)
+fewer_ahead side begun after ready short more = grind arith

@@ -3,7 +3,7 @@ use Rattle.std.proofs.Common.{◌≡◌, ◌≢◌, ℕ, ◌+◌, ◌<◌, ◌�
 use Rattle.std.proofs.lemmas.Bool.{eqb-true}
 use Rattle.wsn_rules.specs.Limits.{Limits}
 use Rattle.wsn_capture.specs.declared.line_fault.LineFault.{LineFault}
-use Rattle.wsn_capture.specs.declared.line_fault.LineFault.TheVariants.{TooManyLines, TooLong, BadForm, BadHex, AfterEnd, InputLimit}
+use Rattle.wsn_capture.specs.declared.line_fault.LineFault.TheVariants.{TooManyLines, TooLong}
 use Rattle.wsn_capture.specs.declared.capture_stop.CaptureStop.{CaptureStop}
 use Rattle.wsn_capture.specs.declared.capture_stop.CaptureStop.TheVariants.{Read, Line}
 use Rattle.wsn_capture.specs.declared.capture_report.CaptureReport.{CaptureReport}
@@ -27,16 +27,10 @@ pub too_long : (line more : List ℕ) → 8196 ≤ length line → 8194 < length
 too_long line more long = let kept = without_cr_long (line ++ more) in omega (arith, kept, length-append line more, long)
 
 after_first : (limits : Limits) (given : List Entry) (text : List ℕ) → (HasFault limits given text TooManyLines → ⊥) → (other : LineFault) → HasFault limits given text other → 1 ≤ fault_order other
-after_first limits given text few TooManyLines held = absurd (few held)
-after_first limits given text few _ held = omega arith
+after_first limits given text few other held = grind arith
 
 still_first : (limits : Limits) (given : List Entry) (line more : List ℕ) (fault : LineFault) → 8196 ≤ length line → fault_order fault ≤ 1 → IsFirstLineFault limits given line fault → IsFirstLineFault limits given (line ++ more) fault
-still_first limits given line more TooManyLines long low is = record { held = is.held; first = λ other held. omega arith }
-still_first limits given line more TooLong long low is = record {
-  held = too_long line more long;
-  first = after_first limits given (without_cr (line ++ more)) (λ many. let up = is.first TooManyLines many in omega (arith, up));
-}
-still_first limits given line more _ long low is = absurd (omega (arith, low))
+still_first limits given line more fault long low is = grind (arith, too_long, after_first)
 
 still_faulty : (limits : Limits) (lines : List (List ℕ)) (line more : List ℕ) (fault : LineFault) → 8196 ≤ length line → IsFaultAfter limits lines line fault → IsFaultAfter limits lines (line ++ more) fault
 still_faulty limits lines line more fault long is =
@@ -72,30 +66,14 @@ line_right (b ∷ line) more is = line_right line more is.1
 module _ (limits : Limits) (lines : List (List ℕ)) (begun came : List ℕ) (split : HasPassedOn limits lines begun came) where
   -- the line isn't finished
   pub split_more : (bytes : List ℕ) → IsLine bytes → length begun + length bytes < 8196 → HasPassedOn limits lines (begun ++ bytes) (came ++ bytes)
-  split_more bytes line size = record {
-    given = split.given;
-    whole = ap (λ (bs : List ℕ). bs ++ bytes) split.whole ∙ append_assoc (ended lines) begun bytes;
-    each = split.each;
-    in_line = line_join begun bytes split.in_line line;
-    short = omega (arith, size, length-append begun bytes);
-    taken = split.taken;
-    few = omega (arith, split.few, length-append begun bytes, length-append came bytes);
-  }
+  split_more bytes line size = grind (arith, append_assoc, line_join, length-append)
 
   with_lf : came ++ 10 ∷ [] ≡ ended (lines ++ begun ∷ [])
   with_lf = ap (λ (bs : List ℕ). bs ++ 10 ∷ []) split.whole ∙ append_assoc (ended lines) begun (10 ∷ []) ∙ sym (ended-push lines begun)
 
   -- an LF ends it
   split_lf : (given : List Entry) → AreAcceptedLines limits (lines ++ begun ∷ []) given → HasPassedOn limits (lines ++ begun ∷ []) [] (came ++ 10 ∷ [])
-  split_lf given consumes = record {
-    given = given;
-    whole = with_lf ∙ sym (append-nil (ended (lines ++ begun ∷ [])));
-    each = each_join lines (begun ∷ []) split.each (split.in_line, tt);
-    in_line = tt;
-    short = omega arith;
-    taken = consumes;
-    few = omega (arith, split.few, split.short, length-append came (10 ∷ []), length-append lines (begun ∷ []));
-  }
+  split_lf given consumes = grind (arith, with_lf, append-nil, each_join, length-append)
 
   stop_lf : (stop : CaptureStop) → IsStopAt limits lines begun stop → IsStopBy limits (came ++ 10 ∷ []) stop
   stop_lf Read is = is
@@ -148,15 +126,7 @@ module _ (limits : Limits) (lines : List (List ℕ)) (begun came : List ℕ) (sp
   -- ---- the end of the text
 
   pub reported_whole : (given : List Entry) (read : CaptureReport) → begun ≡ [] → AreAcceptedLines limits lines given → IsReport limits lines read.report → AreTails limits given read.tails → AreRefusedLines limits given read.refused → IsReported limits came read
-  reported_whole given read none taken is tails refused = record {
-    lines = lines;
-    are = record { each = split.each; joined = inl (split.whole ∙ ap (λ (bs : List ℕ). ended lines ++ bs) none ∙ append-nil (ended lines)) };
-    given = given;
-    taken = taken;
-    is = is;
-    tails = tails;
-    refused = refused;
-  }
+  reported_whole given read none taken is tails refused = grind (arith, append-nil)
 
   at_end : begun ≢ [] → AreLines came (lines ++ begun ∷ [])
   at_end some = subst (λ (bs : List ℕ). AreLines bs (lines ++ begun ∷ [])) (sym split.whole) (lines_at_end lines begun split.each split.in_line some)
@@ -168,8 +138,7 @@ module _ (limits : Limits) (lines : List (List ℕ)) (begun came : List ℕ) (sp
   faulty_last number fault some is = record { before = lines; line = begun; after = []; are = at_end some; at = is.0; is = is.1 }
 
   pub stop_last : (stop : CaptureStop) → begun ≢ [] → IsStopAt limits lines begun stop → IsCaptureAnswerOf limits came (Err stop)
-  stop_last Read some is = is
-  stop_last (Line number fault) some is = faulty_last number fault some is
+  stop_last stop fact is = grind (arith, faulty_last)
 
 -- ---- the prefix of a piece
 

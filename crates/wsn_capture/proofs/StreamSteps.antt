@@ -1,12 +1,11 @@
 -- A stream that is scanned up to a refusal, and its further bytes.
-use Rattle.std.proofs.Common.{◌≡◌, ℕ, ◌+◌, ◌≤◌, ◌⊎◌, inl, inr, Bool, true, false, Option, None, Some, List, [], ◌∷◌, ◌++◌, length, take, drop, refl, sym, ap, ◌∙◌, subst, append_assoc, append-nil, arith, length-append, take-append-drop}
+use Rattle.std.proofs.Common.{◌≡◌, ℕ, ◌+◌, ◌≤◌, ◌⊎◌, inl, inr, true, false, Option, None, List, [], ◌∷◌, ◌++◌, length, take, drop, sym, ap, ◌∙◌, subst, append_assoc, append-nil, arith, length-append, take-append-drop}
 use Rattle.std.specs.Option.{is_some}
 use Rattle.std.proofs.lemmas.List.{drop_all as drop_none}
 use Rattle.wsn_wire.specs.declared.endpoint.Role.{Role}
 use Rattle.wsn_wire.specs.declared.endpoint.Role.TheVariants.{Client, Server}
 use Rattle.wsn_wire.specs.Frame.{Frame}
 use Rattle.wsn_rules.specs.declared.verdict.Verdict.{Verdict}
-use Rattle.wsn_rules.specs.declared.verdict.Verdict.TheVariants.{Accepted, Cut, Refused}
 use Rattle.wsn_rules.specs.declared.verdict.Refusal.{Refusal}
 use Rattle.wsn_rules.specs.Limits.{Limits}
 use Rattle.wsn_rules.specs.Verdict.{IsVerdict}
@@ -33,8 +32,7 @@ pub refused_by : (scan : Scan) (refusal : Option Refusal) → refusal ≡ refusa
 refused_by scan refusal is some none = let both : true ≡ false = sym some ∙ ap is_some (is ∙ none) in cc
 
 pub unrefused_by : (scan : Scan) (refusal : Option Refusal) → refusal ≡ refusal_in scan → is_some refusal ≡ false → refusal_in scan ≡ None
-unrefused_by scan None is none = sym is
-unrefused_by scan (Some refusal) is none = absurd (cc none)
+unrefused_by scan refusal is none = grind arith
 
 -- bytes after a refusal change nothing
 pub streamed_after : (role : Role) (limits : Limits) (scan : Scan) (came more : List ℕ) → (refusal_in scan ≡ None → ⊥) → HasStreamed role limits scan came → HasStreamed role limits scan (came ++ more)
@@ -69,9 +67,7 @@ running_of role limits scan came s = record { role = role; limits = limits; byte
 
 -- the verdict on what the scan consumed is the verdict on all bytes that came
 pub verdict_on_all : (role : Role) (limits : Limits) (came following : List ℕ) (fs : List Frame) (verdict : Verdict) → (refusal_judged verdict ≡ None → following ≡ []) → IsVerdict role limits came fs verdict → IsVerdict role limits (came ++ following) fs verdict
-verdict_on_all role limits came following fs (Accepted summary) all is = subst (λ (bs : List ℕ). IsVerdict role limits bs fs (Accepted summary)) (sym (ap (λ (bs : List ℕ). came ++ bs) (all refl) ∙ append-nil came)) is
-verdict_on_all role limits came following fs (Cut summary) all is = subst (λ (bs : List ℕ). IsVerdict role limits bs fs (Cut summary)) (sym (ap (λ (bs : List ℕ). came ++ bs) (all refl) ∙ append-nil came)) is
-verdict_on_all role limits came following fs (Refused refusal) all is = stays_refused role limits fs came following refusal.place refusal.reason is
+verdict_on_all role limits came following fs verdict all is = grind (arith, append-nil, stays_refused)
 
 -- the verdict on all bytes that came
 pub judged : (role : Role) (limits : Limits) (scan : Scan) (came : List ℕ) (verdict : Verdict) → HasStreamed role limits scan came
@@ -97,23 +93,11 @@ room_for role limits scan accepted lines given bytes line has s =
 module _ (limits : Limits) (capture : Captured) (lines : List (List ℕ)) (has : HasAcceptedLines limits capture lines) (noted : CaptureLines) (line : List ℕ) where
   pub client_line : (scan : Scan) (bytes : List ℕ) → HasAccepted limits noted (lines ++ line ∷ []) (has.entries ++ Bytes Client bytes ∷ []) → HasNotedCloses limits noted (has.entries ++ Bytes Client bytes ∷ [])
       → HasStreamed Client limits scan (sent Client has.entries ++ bytes) → HasAcceptedLines limits (record { lines = noted; client = scan; server = capture.server }) (lines ++ line ∷ [])
-  client_line scan bytes accepted closes came = record {
-    entries = has.entries ++ Bytes Client bytes ∷ [];
-    accepted = accepted;
-    noted = closes;
-    client = subst (HasStreamed Client limits scan) (sym (sent-push Client has.entries (Bytes Client bytes))) came;
-    server = subst (HasStreamed Server limits capture.server) (sym (sent-push Server has.entries (Bytes Client bytes) ∙ append-nil (sent Server has.entries))) has.server;
-  }
+  client_line scan bytes accepted closes came = grind (arith, sent-push, append-nil)
 
   pub server_line : (scan : Scan) (bytes : List ℕ) → HasAccepted limits noted (lines ++ line ∷ []) (has.entries ++ Bytes Server bytes ∷ []) → HasNotedCloses limits noted (has.entries ++ Bytes Server bytes ∷ [])
       → HasStreamed Server limits scan (sent Server has.entries ++ bytes) → HasAcceptedLines limits (record { lines = noted; client = capture.client; server = scan }) (lines ++ line ∷ [])
-  server_line scan bytes accepted closes came = record {
-    entries = has.entries ++ Bytes Server bytes ∷ [];
-    accepted = accepted;
-    noted = closes;
-    client = subst (HasStreamed Client limits capture.client) (sym (sent-push Client has.entries (Bytes Server bytes) ∙ append-nil (sent Client has.entries))) has.client;
-    server = subst (HasStreamed Server limits scan) (sym (sent-push Server has.entries (Bytes Server bytes))) came;
-  }
+  server_line scan bytes accepted closes came = grind (arith, sent-push, append-nil)
 
   -- a line without bytes
   pub other_line : (entry : Entry) → ((role : Role) → bytes_in role entry ≡ []) → HasAccepted limits noted (lines ++ line ∷ []) (has.entries ++ entry ∷ []) → HasNotedCloses limits noted (has.entries ++ entry ∷ [])
@@ -191,5 +175,4 @@ module _ (capture : Captured) (line : List ℕ) (accepted : CaptureLines) (entry
 
 pub counted : (capture : Captured) (old accepted noted : CaptureLines) → old ≡ capture.lines → (count_of accepted ≡ count_of old + 1) × (count_of accepted ≤ 1000000) → count_of noted ≡ count_of accepted
     → (count_of noted ≡ count_of capture.lines + 1) × (count_of noted ≤ 1000000)
-counted capture old accepted noted is more same =
-    (omega (arith, ap count_of is, more.0, same), omega (arith, more.1, same))
+counted capture old accepted noted is more same = grind arith

@@ -1,5 +1,5 @@
 -- The number of bytes after a Close, by the verdict.
-use Rattle.std.proofs.Common.{◌≡◌, ℕ, ◌+◌, ◌-◌, ◌⊎◌, List, [], ◌++◌, length, inl, inr, refl, sym, ap, ◌∙◌, subst, arith, length-append}
+use Rattle.std.proofs.Common.{◌≡◌, ℕ, ◌-◌, List, [], length, inl, inr, refl, sym, ap, ◌∙◌, subst, arith, length-append}
 use Rattle.wsn_wire.specs.declared.endpoint.Role.{Role}
 use Rattle.wsn_wire.specs.declared.endpoint.Role.TheVariants.{Client, Server}
 use Rattle.wsn_wire.specs.Frame.{Frame, stream}
@@ -15,7 +15,6 @@ use Rattle.wsn_rules.specs.Sides.{sent}
 use Rattle.wsn_rules.proofs.OneVerdict.{one_verdict}
 use Rattle.wsn_rules.proofs.EveryInput.{has_verdict}
 use Rattle.wsn_capture.specs.declared.tails.Tails.{Tails}
-use Rattle.wsn_capture.specs.Closes.{IsUnclosed}
 use Rattle.wsn_capture.specs.Tails.{HasTail, AreTails}
 use Rattle.wsn_capture.proofs.ClosingLines.{cut_unclosed}
 use Rattle.wsn_capture.proofs.EveryReport.{sent_bytes}

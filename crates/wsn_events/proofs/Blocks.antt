@@ -1,6 +1,6 @@
 -- Blocks of bytes that are compared at once.
 use Rattle.std.specs.Prelude.{IsTrue, nat_eq}
-use Rattle.std.proofs.Common.{◌≡◌, ℕ, ◌+◌, ◌^◌, ◌%◌, ◌<◌, ◌≤◌, ◌↔◌, Bool, true, false, not, cond, eqb, List, [], ◌∷◌, ◌++◌, map, length, take, drop, get_or, drop-cons, refl, sym, ap, ◌∙◌, arith, w8, eqb-true, eq-eqb}
+use Rattle.std.proofs.Common.{◌≡◌, ℕ, ◌+◌, ◌^◌, ◌%◌, ◌≤◌, ◌↔◌, Bool, not, cond, eqb, List, [], ◌∷◌, ◌++◌, map, length, take, drop, refl, sym, ap, ◌∙◌, arith, w8, eqb-true, eq-eqb}
 use Rattle.std.proofs.lemmas.Simd.{tops_compared, mask_l-mod, length-zip2}
 use Rattle.std.proofs.lemmas.List.{length-drop, take-take, take_all, take-append-drop}
 use lib.Seq.{take-add}
@@ -9,13 +9,11 @@ use lib.Lanes.{zip2, mask_l, top}
 -- No lane differs exactly if the lanes are the same.
 same_of_mask : (xs ys : List ℕ) → length xs ≡ length ys → mask_l (zip2 (λ (a b : ℕ). not (eqb a b)) xs ys) ≡ 0 → xs ≡ ys
 same_of_mask [] [] size none = refl
-same_of_mask [] (y ∷ ys) size none = absurd (omega (arith, size))
-same_of_mask (x ∷ xs) [] size none = absurd (omega (arith, size))
 same_of_mask (x ∷ xs) (y ∷ ys) size none = go (eqb x y) refl none (λ none. same_of_mask xs ys (omega (arith, size)) none)
   where
     go : (t : Bool) → eqb x y ≡ t → mask_l (not t ∷ zip2 (λ (a b : ℕ). not (eqb a b)) xs ys) ≡ 0 → (mask_l (zip2 (λ (a b : ℕ). not (eqb a b)) xs ys) ≡ 0 → xs ≡ ys) → x ∷ xs ≡ y ∷ ys
-    go true is zero rest = ap (λ (n : ℕ). n ∷ xs) (eqb-true _ _ is) ∙ ap (λ (ns : List ℕ). y ∷ ns) (rest (omega (arith, zero)))
-    go false is zero rest = absurd (omega (arith, zero))
+    go t is fact rest = grind (arith, eqb-true)
+same_of_mask _ _ size none = absurd (omega (arith, size))
 
 mask_of_same : (xs : List ℕ) → mask_l (zip2 (λ (a b : ℕ). not (eqb a b)) xs xs) ≡ 0
 mask_of_same [] = refl
@@ -46,9 +44,3 @@ same_to_end n at last xs ys both size reached front block =
     let end : drop last xs ≡ drop last ys =
     sym (take_all n (drop last xs) (omega (arith, length-drop last xs, size))) ∙ block ∙ take_all n (drop last ys) (omega (arith, length-drop last ys, size, both)) in
     sym (take-append-drop last xs) ∙ ap (λ (bs : List ℕ). bs ++ drop last xs) start ∙ ap (λ (bs : List ℕ). take last ys ++ bs) end ∙ take-append-drop last ys
-
--- One byte more is the same.
-pub same_byte : (at : ℕ) (xs ys : List ℕ) → at < length xs → at < length ys → take at xs ≡ take at ys → get_or xs at 0 ≡ get_or ys at 0 → take (at + 1) xs ≡ take (at + 1) ys
-same_byte at xs ys one two front same =
-    same_further 1 at xs ys front
-    (ap (λ (bs : List ℕ). take 1 bs) (drop-cons xs at 0 one) ∙ ap (λ (b : ℕ). b ∷ []) same ∙ sym (ap (λ (bs : List ℕ). take 1 bs) (drop-cons ys at 0 two)))

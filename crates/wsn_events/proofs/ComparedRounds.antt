@@ -40,15 +40,10 @@ falls_by (OfVerdict verdict) = 0
 
 -- an event or two
 some_alike : (turn other : MeantTurn) → IsRoundOf turn other Alike → 0 < falls_by turn + falls_by other
-some_alike (OfEvent event) (OfEvent other) is = omega arith
-some_alike (OfEvent event) (OfVerdict verdict) is = omega arith
-some_alike (OfVerdict verdict) (OfEvent event) is = absurd is
-some_alike (OfVerdict verdict) (OfVerdict other) is = absurd is
+some_alike turn other is = grind arith
 
 some_unlike : (turn other : MeantTurn) → IsRoundOf turn other Unlike → 0 < falls_by turn + falls_by other
-some_unlike (OfEvent event) other is = omega arith
-some_unlike (OfVerdict verdict) (OfEvent event) is = omega arith
-some_unlike (OfVerdict verdict) (OfVerdict other) is = absurd is
+some_unlike turn other is = grind arith
 
 module _ {A : Type 0} (role : Role) (limits : Limits) where
   -- the first difference stays
@@ -71,13 +66,11 @@ module _ {A : Type 0} (role : Role) (limits : Limits) where
 
   -- at most a round for each byte of the input limit, and one for the verdict
   pub few_rounds : (reading : EventReader A) → HasGiven role limits reading [] [] → pending reading ≤ 2 ^ 41 + 2
-  few_rounds reading has =
-      omega (arith, pending_going reading has.going, left_few role limits reading.reader [] has.frames has.position has.has_taken, has.has_taken.has_scanned.has_consumed.in_range.input)
+  few_rounds reading has = grind (arith, pending_going, left_few)
 
   falls : (before reading : EventReader A) (given events : List MeantEvent) (turn : MeantTurn)
       → Gives before reading given events turn → pending reading + falls_by turn ≤ pending before
-  falls before reading given events (OfEvent event) gives = omega (arith, pending_going before gives.1, pending_going reading gives.2, gives.3)
-  falls before reading given events (OfVerdict verdict) gives = omega (arith, pending_done reading (Ok verdict) gives.1)
+  falls before reading given events turn gives = grind (arith, pending_going, pending_done)
 
   -- ---- what comes after the same events, or after a difference
 
@@ -94,15 +87,7 @@ module _ {A : Type 0} (role : Role) (limits : Limits) where
   same_next : (before reading other_before other : EventReader A) (given events other_given others : List MeantEvent) (turn other_turn : MeantTurn) (index : ℕ)
       → Gives before reading given events turn → Gives other_before other other_given others other_turn
       → given ≡ other_given → length given ≡ index → IsRoundOf turn other_turn Alike → IsDifferenceSoFar reading other (index + 1) events others None
-  same_next before reading other_before other given events other_given others (OfEvent event) (OfEvent that) index gives other_gives same size is = (
-    gives.2,
-    other_gives.2,
-    gives.0 ∙ ap (λ (es : List MeantEvent). es ++ event ∷ []) same ∙ ap (λ (e : MeantEvent). other_given ++ e ∷ []) is ∙ sym other_gives.0,
-    omega (arith, ap (λ (es : List MeantEvent). length es) gives.0, length-append given (event ∷ [])),
-  )
-  same_next before reading other_before other given events other_given others (OfEvent event) (OfVerdict verdict) index gives other_gives same size is = absurd is
-  same_next before reading other_before other given events other_given others (OfVerdict verdict) (OfEvent that) index gives other_gives same size is = absurd is
-  same_next before reading other_before other given events other_given others (OfVerdict verdict) (OfVerdict that) index gives other_gives same size is = absurd is
+  same_next before reading other_before other given events other_given others turn other_turn index gives other_gives same size is = grind (arith, length-append)
 
   unlike_next : (before reading other_before other : EventReader A) (given events other_given others : List MeantEvent) (turn other_turn : MeantTurn) (index : ℕ)
       → Gives before reading given events turn → Gives other_before other other_given others other_turn
@@ -159,15 +144,9 @@ module _ {A : Type 0} (role : Role) (limits : Limits) where
     -- the same event on both sides
     pub on_alike : (index : ℕ) (difference now : Option ℕ) → IsDifferenceSoFar before other_before index left other_left difference → now ≡ difference → IsRoundOf turn other_turn Alike
         → IsDifferenceSoFar reading other (index + 1) left_now other_left_now now × (pending reading + pending other < pending before + pending other_before)
-    on_alike index difference now so_far is round = (
-      subst (λ (d : Option ℕ). IsDifferenceSoFar reading other (index + 1) left_now other_left_now d) (sym is) (alike_on index difference so_far round),
-      fewer (some_alike turn other_turn round),
-    )
+    on_alike index difference now so_far is round = grind (arith, alike_on, fewer, some_alike)
 
     -- two events, or an event where the other side has none
     pub on_unlike : (index : ℕ) (difference now : Option ℕ) → IsDifferenceSoFar before other_before index left other_left difference → now ≡ option_or difference (Some index)
         → IsRoundOf turn other_turn Unlike → IsDifferenceSoFar reading other (index + 1) left_now other_left_now now × (pending reading + pending other < pending before + pending other_before)
-    on_unlike index difference now so_far is round = (
-      subst (λ (d : Option ℕ). IsDifferenceSoFar reading other (index + 1) left_now other_left_now d) (sym is) (unlike_on index difference so_far round),
-      fewer (some_unlike turn other_turn round),
-    )
+    on_unlike index difference now so_far is round = grind (arith, unlike_on, fewer, some_unlike)

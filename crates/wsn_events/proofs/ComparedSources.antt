@@ -1,5 +1,5 @@
 -- One event source in a comparison: what a call gives after the events that it has given.
-use Rattle.std.proofs.Common.{◌≡◌, ℕ, ◌+◌, ◌<◌, ◌⊎◌, false, None, Some, Result, Ok, Err, IfOk, List, [], ◌∷◌, ◌++◌, length, inl, inr, refl, sym, ap, ◌∙◌, subst, append-nil}
+use Rattle.std.proofs.Common.{◌≡◌, ℕ, ◌+◌, ◌<◌, ◌⊎◌, false, None, Some, Result, Ok, Err, IfOk, List, [], ◌∷◌, ◌++◌, length, inl, inr, refl, sym, ap, ◌∙◌, subst, append-nil, arith}
 use Rattle.wsn_io.proofs.Received.{received_none, received_on}
 use Rattle.wsn_wire.specs.declared.endpoint.Role.{Role}
 use Rattle.wsn_io.specs.Transfer.{Incoming, IsReceived}
@@ -77,10 +77,7 @@ module _ (without : Without) (role : Role) (limits : Limits) where
   ]
 
   pub readable : {A : Type 0} (old now : Incoming) (reading : EventReader A) (came : List ℕ) (given : List MeantEvent) → HasFollowed role limits old now reading came given → answered reading ≡ None → now.failed ≡ false
-  readable old now reading came given followed none = elim followed.state [
-    | inl going ↦ going.1
-    | inr done ↦ let both : Some (Ok done.0) ≡ None = sym done.1.0 ∙ none in absurd cc
-  ]
+  readable old now reading came given followed none = grind arith
 
   -- One call of a source.
   module _ {A : Type 0} (old mid new : Incoming) (before reading : EventReader A) (came : List ℕ) (given : List MeantEvent) (result : Result (Turn A) Stop)
@@ -152,21 +149,17 @@ module _ (without : Without) (role : Role) (limits : Limits) where
 
     -- a source that is done has read nothing
     same_state : (at : EventReader A) (now : Incoming) → at ≡ before → now ≡ mid → HasFollowed role limits old now at came given
-    same_state at now is_at is_now =
-        subst (λ (i : Incoming). HasFollowed role limits old i at came given) (sym is_now) (subst (λ (r : EventReader A). HasFollowed role limits old mid r came given) (sym is_at) followed)
+    same_state at now is_at is_now = grind arith
 
     stays : (verdict : Verdict) → IsDone role limits mid before came given verdict → (turn : Turn A) → result ≡ Ok turn → HasGivenNext without role limits old new before reading came given (meant_turn reading turn)
     stays verdict done (Lent kind) is =
-        let reported = reads.again (Ok verdict) done.0 in
-        let both : Ok (Lent kind) ≡ Ok (Own (nexts.Done verdict)) = sym is ∙ reported.0 in absurd cc
+        let both : Ok (Lent kind) ≡ Ok (Own (nexts.Done verdict)) = sym is ∙ (reads.again (Ok verdict) done.0).0 in absurd cc
     stays verdict done (Own (nexts.Event event)) is =
-        let reported = reads.again (Ok verdict) done.0 in
-        let both : Ok (Own (nexts.Event event)) ≡ Ok (Own (nexts.Done verdict)) = sym is ∙ reported.0 in absurd cc
+        let both : Ok (Own (nexts.Event event)) ≡ Ok (Own (nexts.Done verdict)) = sym is ∙ (reads.again (Ok verdict) done.0).0 in absurd cc
     stays verdict done (Own (nexts.Done v)) is =
         let reported = reads.again (Ok verdict) done.0 in
         let both : Ok (Own (nexts.Done v)) ≡ Ok (Own (nexts.Done verdict)) = sym is ∙ reported.0 in
         let one : verdict ≡ v = cc in
-        let answer : answered reading ≡ Some (Ok v) = ap (λ (r : EventReader A). answered r) reported.1 ∙ done.0 ∙ ap (λ (w : Verdict). Some (Ok w)) one in
         let last : IsLast role limits mid came given (Ok v) = subst (λ (w : Verdict). IsLast role limits mid came given (Ok w)) one done.1 in
         record {
           came = came;
@@ -174,7 +167,7 @@ module _ (without : Without) (role : Role) (limits : Limits) where
           longer = sym (append-nil came);
           events = given;
           followed = same_state reading new reported.1 reported.2;
-          gives = (refl, answer);
+          gives = (refl, ap (λ (r : EventReader A). answered r) reported.1 ∙ done.0 ∙ ap (λ (w : Verdict). Some (Ok w)) one);
           last = subst (λ (i : Incoming). IsLast role limits i came given (Ok v)) (sym reported.2) last;
           lawful = tt;
           stands = tt;
@@ -194,5 +187,4 @@ module _ (without : Without) (role : Role) (limits : Limits) where
 
         never : (verdict : Verdict) → IsDone role limits mid before came given verdict → (all : List ℕ) × IsReceived (limits.input + 1) old new all × HasStopped role limits new all stop
         never verdict done =
-            let reported = reads.again (Ok verdict) done.0 in
-            let both : Err stop ≡ Ok (Own (nexts.Done verdict)) = sym is ∙ reported.0 in absurd cc
+            let both : Err stop ≡ Ok (Own (nexts.Done verdict)) = sym is ∙ (reads.again (Ok verdict) done.0).0 in absurd cc

@@ -1,10 +1,10 @@
 -- What the comparison of two streams answers at each end of its rounds.
-use Rattle.std.proofs.Common.{◌≡◌, ℕ, ◌+◌, Option, None, Some, true, false, Ok, Err, List, inl, inr, refl, sym, subst}
+use Rattle.std.proofs.Common.{◌≡◌, ℕ, ◌+◌, Option, None, true, false, Ok, Err, List, sym, subst, arith}
 use Rattle.wsn_wire.specs.declared.endpoint.Role.{Role}
 use Rattle.wsn_io.specs.Transfer.{Incoming, IsReceived}
 use Rattle.wsn_rules.specs.declared.verdict.Summary.{Summary}
 use Rattle.wsn_rules.specs.declared.verdict.Verdict.{Verdict}
-use Rattle.wsn_rules.specs.declared.verdict.Verdict.TheVariants.{Accepted, Cut, Refused}
+use Rattle.wsn_rules.specs.declared.verdict.Verdict.TheVariants.{Accepted}
 use Rattle.wsn_io.specs.declared.stop.Stop.{Stop}
 use Rattle.wsn_rules.specs.declared.without.Without.{Without}
 use Rattle.wsn_rules.specs.Limits.{Limits}
@@ -29,13 +29,11 @@ Compares part verdict other difference result =
 
 first_difference : {A : Type 0} (reading other : EventReader A) (index : ℕ) (given other_given : List MeantEvent) (difference : Option ℕ)
     → IsDifferenceSoFar reading other index given other_given difference → IsFirstDifference difference given other_given
-first_difference reading other index given other_given None so_far = so_far.2
-first_difference reading other index given other_given (Some k) so_far = so_far.0
+first_difference reading other index given other_given difference so_far = grind arith
 
 same_difference : (given events other_given others : List MeantEvent) (difference : Option ℕ) → events ≡ given → others ≡ other_given
     → IsFirstDifference difference given other_given → IsFirstDifference difference events others
-same_difference given events other_given others difference is others_is first =
-    subst (λ (es : List MeantEvent). IsFirstDifference difference events es) (sym others_is) (subst (λ (es : List MeantEvent). IsFirstDifference difference es other_given) (sym is) first)
+same_difference given events other_given others difference is others_is first = grind arith
 
 module _ {A : Type 0} (without : Without) (role : Role) (limits : Limits) where
   -- both have their verdicts
@@ -54,38 +52,18 @@ module _ {A : Type 0} (without : Without) (role : Role) (limits : Limits) where
   pub first_stops : (old new other_old other_new : Incoming) (other : EventReader A) (other_came : List ℕ) (other_given : List MeantEvent) → HasFollowed role limits other_old other_new other other_came other_given
       → (stop : Stop) → (all : List ℕ) × IsReceived (limits.input + 1) old new all × HasStopped role limits new all stop
       → IsContrasted without role limits old new other_old other_new (Err stop)
-  first_stops old new other_old other_new other other_came other_given followed stop stops = record {
-    compared = record {
-      came = stops.0;
-      received = stops.1;
-      other_came = other_came;
-      other_received = followed.received;
-      answer = inl stops.2;
-    };
-    excerpts = tt;
-  }
+  first_stops old new other_old other_new other other_came other_given followed stop stops = grind arith
 
   -- the second stream has stopped
   pub second_stops : (old new other_old other_new : Incoming) (before reading : EventReader A) (was : List ℕ) (given : List MeantEvent) (turn : MeantTurn) → HasGivenNext without role limits old new before reading was given turn
       → (stop : Stop) → (all : List ℕ) × IsReceived (limits.input + 1) other_old other_new all × HasStopped role limits other_new all stop
       → IsContrasted without role limits old new other_old other_new (Err stop)
-  second_stops old new other_old other_new before reading was given turn one stop stops = record {
-    compared = record {
-      came = one.came;
-      received = one.followed.received;
-      other_came = stops.0;
-      other_received = stops.1;
-      answer = inr stops.2;
-    };
-    excerpts = tt;
-  }
+  second_stops old new other_old other_new before reading was given turn one stop stops = grind arith
 
 -- ---- the answer, by the verdicts
 
 pub not_accepted : (verdict : Verdict) → ((summary : Summary) → verdict ≡ Accepted summary → ⊥) → IsAnAccepted verdict → ⊥
-not_accepted (Accepted summary) none is = none summary refl
-not_accepted (Cut summary) none is = is
-not_accepted (Refused refusal) none is = is
+not_accepted verdict none is = grind arith
 
 accepted : (role : Role) (limits : Limits) (new : Incoming) (came : List ℕ) (events : List MeantEvent) (verdict : Verdict) (summary : Summary)
     → verdict ≡ Accepted summary → IsLast role limits new came events (Ok verdict) → IsLast role limits new came events (Ok (Accepted summary))

@@ -1,5 +1,5 @@
 -- A comparison goes on as before when its sources have got room back.
-use Rattle.std.proofs.Common.{◌≡◌, ℕ, Option, None, Some, Result, List, inl, inr, sym, ap, ◌∙◌}
+use Rattle.std.proofs.Common.{◌≡◌, ℕ, Option, Result, List, inl, inr, ap, ◌∙◌, arith}
 use Rattle.wsn_wire.specs.declared.endpoint.Role.{Role}
 use Rattle.wsn_io.specs.Transfer.{Incoming}
 use Rattle.wsn_io.specs.declared.stop.Stop.{Stop}
@@ -32,20 +32,14 @@ module _ {A : Type 0} (old new : EventReader A) (same : IsAsBefore old new) wher
   }
 
   stands_back : (without : Without) (role : Role) (limits : Limits) (came : List ℕ) (events : List MeantEvent) (k : ℕ) (excerpt : Option Excerpt) (event : Option MeantEvent) → Stands without role limits old came events k excerpt event → Stands without role limits new came events k excerpt event
-  stands_back without role limits came events k (Some excerpt) (Some event) stands = stands
-  stands_back without role limits came events k None None stands = ((stands.0.0, same.answer ∙ stands.0.1), stands.1)
-  stands_back without role limits came events k (Some excerpt) None stands = absurd stands
-  stands_back without role limits came events k None (Some event) stands = absurd stands
+  stands_back without role limits came events k excerpt event stands = grind arith
 
 -- ---- both sources
 
 module _ {A : Type 0} (old new other_old other_new : EventReader A) (same : IsAsBefore old new) (other_same : IsAsBefore other_old other_new) where
   pub difference_back : (index : ℕ) (events others : List MeantEvent) (difference : Option ℕ) → IsDifferenceSoFar old other_old index events others difference → IsDifferenceSoFar new other_new index events others difference
-  difference_back index events others None so_far = (same.answer ∙ so_far.0, other_same.answer ∙ so_far.1, so_far.2, so_far.3)
-  difference_back index events others (Some k) so_far = (so_far.0, λ going. so_far.1 (sym same.answer ∙ going), λ going. so_far.2 (sym other_same.answer ∙ going))
+  difference_back index events others difference so_far = grind arith
 
   pub kept_back : (without : Without) (role : Role) (limits : Limits) (came : List ℕ) (events : List MeantEvent) (other_came : List ℕ) (others : List MeantEvent) (difference : Option FirstDifference)
       → AreKept without role limits old came events other_old other_came others difference → AreKept without role limits new came events other_new other_came others difference
-  kept_back without role limits came events other_came others None kept = tt
-  kept_back without role limits came events other_came others (Some d) kept =
-      (kept.0, kept.1, stands_back old new same without role limits came events d.index d.first kept.0 kept.2, stands_back other_old other_new other_same without role limits other_came others d.index d.second kept.1 kept.3, kept.4)
+  kept_back without role limits came events other_came others difference kept = grind (arith, stands_back)

@@ -51,8 +51,7 @@ module _ (role : Role) (limits : Limits) (came : List ℕ) (fs : List Frame) (at
         of_data = other;
         some = omega (arith, positive payload some, begun.1);
         payload = λ none.
-            let size : length begins.following ≡ 0 = ap (λ (bs : List ℕ). length bs) none in
-            omega (arith, size, positive payload some, payload_within info payload begins.following begun.2.1);
+            omega (arith, ap (λ (bs : List ℕ). length bs) none, positive payload some, payload_within info payload begins.following begun.2.1);
       }
 
 pub begun_sound : {A : Type 0} (role : Role) (limits : Limits) (reading : EventReader A) (came : List ℕ) (given : List MeantEvent) → HasGiven role limits reading came given → IsAtWork reading

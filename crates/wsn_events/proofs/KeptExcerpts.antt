@@ -6,9 +6,9 @@ use Rattle.wsn_wire.specs.declared.endpoint.Role.{Role}
 use Rattle.wsn_io.specs.Transfer.{Incoming}
 use Rattle.wsn_rules.specs.declared.verdict.Summary.{Summary}
 use Rattle.wsn_rules.specs.declared.verdict.Verdict.{Verdict}
-use Rattle.wsn_rules.specs.declared.verdict.Verdict.TheVariants.{Accepted, Cut, Refused}
+use Rattle.wsn_rules.specs.declared.verdict.Verdict.TheVariants.{Accepted}
 use Rattle.wsn_rules.specs.declared.compared.Compared.{Compared}
-use Rattle.wsn_rules.specs.declared.compared.Compared.TheVariants.{Equal, Different, NotAccepted}
+use Rattle.wsn_rules.specs.declared.compared.Compared.TheVariants.{Different}
 use Rattle.wsn_io.specs.declared.stop.Stop.{Stop}
 use Rattle.wsn_rules.specs.declared.without.Without.{Without}
 use Rattle.wsn_rules.specs.Limits.{Limits}
@@ -21,7 +21,6 @@ use Rattle.wsn_events.specs.declared.event_reader.EventReader.{EventReader}
 use Rattle.wsn_events.specs.declared.excerpt.Excerpt.{Excerpt}
 use Rattle.wsn_events.specs.declared.first_difference.FirstDifference.{FirstDifference}
 use Rattle.wsn_events.specs.Turns.{MeantTurn, OfEvent, OfVerdict}
-use Rattle.wsn_events.specs.EventReaders.{offset_of, frames_of}
 use Rattle.wsn_events.specs.Sources.{IsLast}
 use Rattle.wsn_events.specs.Comparing.{IsRoundOf, IsAnAccepted, IsComparedBy}
 use Rattle.wsn_events.specs.Excerpts.{IsKeptOf, HasKept, KeepsFirst, KeepsOf, index_in, AreExcerptsAt, HasExcerpts, answer_in, IsContrasted}
@@ -41,8 +40,7 @@ AreKept without role limits reading came events other other_came others (Some d)
 
 accepted_last : (role : Role) (limits : Limits) (new : Incoming) (came : List ℕ) (events : List MeantEvent) (v : Verdict) → IsAnAccepted v → IsLast role limits new came events (Ok v) → (summary : Summary) × IsLast role limits new came events (Ok (Accepted summary))
 accepted_last role limits new came events (Accepted summary) is last = (summary, last)
-accepted_last role limits new came events (Cut summary) is last = absurd is
-accepted_last role limits new came events (Refused refusal) is last = absurd is
+accepted_last role limits new came events _ is last = absurd is
 
 module _ {A : Type 0} (without : Without) (role : Role) (limits : Limits) where
   -- ---- of one source, with one result more
@@ -57,16 +55,11 @@ module _ {A : Type 0} (without : Without) (role : Role) (limits : Limits) where
   )
   stands_on old new before reading was given (OfEvent next) one k None None s = let both : Some (Ok s.0.0) ≡ None = sym s.0.1 ∙ one.gives.1 in absurd cc
   stands_on old new before reading was given (OfVerdict verdict) one k None None s = ((verdict, one.gives.1), subst (λ (es : List MeantEvent). length es ≤ k) (sym one.gives.0) s.1)
-  stands_on old new before reading was given turn one k (Some excerpt) None s = absurd s
-  stands_on old new before reading was given turn one k None (Some event) s = absurd s
+  stands_on old new before reading was given turn one k _ _ s = absurd s
 
   stands_first : (old new : Incoming) (before reading : EventReader A) (was : List ℕ) (given : List MeantEvent) (turn : MeantTurn) (one : HasGivenNext without role limits old new before reading was given turn) (k : ℕ)
       → k ≡ length (events_without without given) → (excerpt : Option Excerpt) → IsKeptOf reading turn excerpt → Stands without role limits reading one.came one.events k excerpt (event_given turn)
-  stands_first old new before reading was given (OfEvent event) one k index (Some excerpt) is =
-      (offset_of reading, frames_of reading, is, subst (λ (n : ℕ). StandsAt without role limits one.came n (offset_of reading) event (frames_of reading)) (sym index) one.stands)
-  stands_first old new before reading was given (OfEvent event) one k index None is = absurd is
-  stands_first old new before reading was given (OfVerdict verdict) one k index (Some excerpt) is = absurd is
-  stands_first old new before reading was given (OfVerdict verdict) one k index None is = ((verdict, one.gives.1), let sizes = ap (λ (es : List MeantEvent). length es) one.gives.0 in omega (arith, sizes, index))
+  stands_first old new before reading was given turn one k index excerpt is = grind arith
 
   -- ---- of both, in one round
 
@@ -100,12 +93,10 @@ module _ {A : Type 0} (without : Without) (role : Role) (limits : Limits) where
     kept_unlike index None now keeps so_far kept = kept_first index now (sym so_far.3) (sym so_far.3 ∙ ap (λ (es : List MeantEvent). length es) so_far.2) keeps
 
     has_index : (index : ℕ) (now : Option FirstDifference) → HasKept index reading turn other other_turn now → index_in now ≡ Some index
-    has_index index None has = absurd has
-    has_index index (Some d) has = ap (λ (n : ℕ). Some n) has.index_is
+    has_index index now has = grind arith
 
     index_after : (index : ℕ) (was now : Option FirstDifference) → KeepsFirst index reading turn other other_turn was now → index_in now ≡ option_or (index_in was) (Some index)
-    index_after index (Some d) now keeps = ap index_in keeps
-    index_after index None now keeps = has_index index now keeps
+    index_after index was now keeps = grind (arith, has_index)
 
     -- What holds after a round in which not both have their verdicts.
     pub record GoesOn (index : ℕ) (now : Option FirstDifference) : Type 0 where
@@ -142,8 +133,7 @@ module _ {A : Type 0} (without : Without) (role : Role) (limits : Limits) where
   contrasts old other_old new other_new before reading other_before other was other_was given other_given (OfEvent event) other_turn one two index difference so_far kept verdict other_verdict is result reported differs = absurd (no_event other_turn is)
     where
       no_event : (n : MeantTurn) → IsRoundOf (OfEvent event) n (Over verdict other_verdict) → ⊥
-      no_event (OfEvent that) round = round
-      no_event (OfVerdict w) round = round
+      no_event n round = grind arith
   contrasts old other_old new other_new before reading other_before other was other_was given other_given (OfVerdict v) (OfEvent event) one two index difference so_far kept verdict other_verdict is result reported differs = absurd is
   contrasts old other_old new other_new before reading other_before other was other_was given other_given (OfVerdict v) (OfVerdict w) one two index difference so_far kept verdict other_verdict is result reported differs = record {
     compared = record {
@@ -177,10 +167,7 @@ module _ {A : Type 0} (without : Without) (role : Role) (limits : Limits) where
 
       by_result : (r : Compared) (d : Option FirstDifference) → ((k : ℕ) → r ≡ Different k → (index_in d ≡ Some k) × IsAnAccepted verdict × IsAnAccepted other_verdict)
           → AreKept without role limits reading one.came one.events other two.came two.events d → HasExcerpts without role limits one.came two.came (Ok (r, d))
-      by_result (Different k) None found stand = let both : None ≡ Some k = (found k refl).0 in absurd cc
-      by_result (Different k) (Some d) found stand = at_index k d (found k refl) stand
-      by_result Equal d found stand = tt
-      by_result (NotAccepted second verdict) d found stand = tt
+      by_result r d found stand = grind (arith, at_index)
 
 -- ---- the answer alone
 
@@ -189,17 +176,13 @@ module _ (without : Without) (role : Role) (limits : Limits) (old new other_old 
   answered_with answer was = subst (λ (r : Result (Compared × Option FirstDifference) Stop). IsComparedBy (events_without without) role limits old new other_old other_new (answer_in r)) was is.compared
 
   pub stopped_at : (stop : Stop) → result ≡ Err stop → (other : Result Compared Stop) → other ≡ Err stop → IsComparedBy (events_without without) role limits old new other_old other_new other
-  stopped_at stop was other same =
-      subst (λ (r : Result Compared Stop). IsComparedBy (events_without without) role limits old new other_old other_new r) (sym same)
-      (subst (λ (r : Result (Compared × Option FirstDifference) Stop). IsComparedBy (events_without without) role limits old new other_old other_new (answer_in r)) was is.compared)
+  stopped_at stop was other same = grind arith
 
 -- a difference that was kept stays
 pub keeps_first : {A : Type 0} (index : ℕ) (reading : EventReader A) (turn : MeantTurn) (other : EventReader A) (other_turn : MeantTurn) (was : Option FirstDifference) → is_some was ≡ true → KeepsFirst index reading turn other other_turn was was
-keeps_first index reading turn other other_turn None some = cc
-keeps_first index reading turn other other_turn (Some d) some = refl
+keeps_first index reading turn other other_turn was fact = grind arith
 
 -- or these are kept
 pub keeps_new : {A : Type 0} (index : ℕ) (reading : EventReader A) (turn : MeantTurn) (other : EventReader A) (other_turn : MeantTurn) (was : Option FirstDifference) (d : FirstDifference) → is_some was ≡ false
     → d.index ≡ index → IsKeptOf reading turn d.first → IsKeptOf other other_turn d.second → ArePayloadsKept d.payloads (event_given turn) (event_given other_turn) → KeepsFirst index reading turn other other_turn was (Some d)
-keeps_new index reading turn other other_turn None d none index_is first second payloads = record { index_is = index_is; first = first; second = second; payloads = payloads }
-keeps_new index reading turn other other_turn (Some before) d none index_is first second payloads = cc
+keeps_new index reading turn other other_turn was d none index_is first second payloads = grind arith

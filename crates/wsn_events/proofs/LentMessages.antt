@@ -1,23 +1,21 @@
 -- A message that a source lends: the frame that its reader has taken, after frames that leave no message open.
 use Rattle.std.specs.Prelude.{◌↔◌, ◌+◌, ◌≤◌}
-use Rattle.std.proofs.Common.{◌≡◌, ◌≢◌, ℕ, Bool, true, false, cond, not, None, Some, Ok, Err, List, [], ◌∷◌, ◌++◌, length, drop, refl, sym, ap, ◌∙◌, subst, append-nil, length-append, arith}
+use Rattle.std.proofs.Common.{◌≡◌, ◌≢◌, ℕ, true, false, not, None, Some, Ok, Err, List, [], ◌∷◌, ◌++◌, length, drop, refl, sym, ap, ◌∙◌, subst, append-nil, length-append, arith}
 use Rattle.std.proofs.lemmas.Bool.{cond-false}
 use Rattle.wsn_wire.specs.declared.endpoint.Role.{Role}
 use Rattle.wsn_wire.specs.declared.opcode.Kind.{Kind}
-use Rattle.wsn_wire.specs.declared.opcode.Kind.TheVariants.{Text, Binary}
 use Rattle.wsn_wire.specs.declared.opcode.Op.{Op}
 use Rattle.wsn_wire.specs.declared.opcode.Op.TheVariants.{Continue}
 use Rattle.wsn_wire.specs.Frame.{Frame, is_control, stream}
 use Rattle.wsn_io.specs.Transfer.{Incoming}
 use Rattle.wsn_io.specs.declared.stop.Stop.TheVariants as stops
 use Rattle.wsn_rules.specs.declared.head_info.HeadInfo.{HeadInfo}
-use Rattle.wsn_rules.specs.Group.{unfinished, kind_at, kind_of, payload_of}
-use Rattle.wsn_rules.specs.Lawful.{LawAt}
+use Rattle.wsn_rules.specs.Group.{unfinished, kind_at, payload_of}
 use Rattle.wsn_rules.specs.LawfulEvents.{IsLawfulEvent}
 use Rattle.wsn_rules.specs.Limits.{Limits}
-use Rattle.wsn_rules.specs.Meaning.{MeantEvent, Message, Control, event_at, meaning}
+use Rattle.wsn_rules.specs.Meaning.{MeantEvent, Message, event_at, meaning}
 use Rattle.wsn_rules.specs.NormalForm.{op_of}
-use Rattle.wsn_rules.specs.ShownStream.{open_offset, event_offset, event_frames}
+use Rattle.wsn_rules.specs.ShownStream.{event_offset, event_frames}
 use Rattle.wsn_rules.proofs.Groups.{meaning_push, group_of_lawful, unfinished_final}
 use Rattle.wsn_rules.proofs.LawfulLists.{law_at_split}
 use Rattle.wsn_rules.proofs.LawfulMeaning.{lawful_event, event_of_data, event_of_control}
@@ -38,7 +36,7 @@ use Rattle.wsn_events.specs.declared.source.Next.TheVariants as nexts
 use Rattle.wsn_events.specs.EventsMeant.{meant}
 use Rattle.wsn_events.specs.EventReaders.{HasGiven, IsGiven, IsNextEvent, answered, held_of, offset_of, frames_of}
 use Rattle.wsn_events.specs.LentMessages.{LendsMessage, lent_message}
-use Rattle.wsn_events.specs.Reassembly.{IsReassembled, IsBetweenFrames, IsInFrame, IsPlacedAt, offset_given, frames_given}
+use Rattle.wsn_events.specs.Reassembly.{IsBetweenFrames, IsInFrame, IsPlacedAt, offset_given, frames_given}
 use Rattle.wsn_events.specs.TakenEvents.{held_bytes}
 use Rattle.wsn_events.proofs.GivenSoFar.{all_came, given_first}
 use Rattle.wsn_events.proofs.ReassembledFrames.{given_of_frame, message_ended, reassembled_alike}
@@ -71,8 +69,7 @@ given_event role limits reading came given event fs frame taken final ended mean
     }
 
 of_op : (kind : Kind) (op : Op) → op ≡ op_of kind → (is_control op ≡ false) × (op ≡ Continue → ⊥)
-of_op Text op is = (ap is_control is, λ other. cc)
-of_op Binary op is = (ap is_control is, λ other. cc)
+of_op kind op is = grind arith
 
 -- a frame that continues no message comes after no open message
 none_open : (fs : List Frame) (op : Op) → ((op ≡ Continue) ↔ (unfinished fs ≢ [])) → (op ≡ Continue → ⊥) → unfinished fs ≡ []
@@ -94,27 +91,16 @@ module _ {A : Type 0} (role : Role) (limits : Limits) (reading : EventReader A) 
 
   none_before : unfinished fs ≡ []
   none_before =
-      let law : LawAt role limits fs frame = law_at_split role limits fs frame [] taken.lawful in
-      none_open fs frame.op (law.group (ap not of_data)).continues (of_op kind frame.op op_is).1
+      none_open fs frame.op ((law_at_split role limits fs frame [] taken.lawful).group (ap not of_data)).continues (of_op kind frame.op op_is).1
 
   kind_is : kind ≡ kind_at frame.op
-  kind_is = by kind op_is
-    where
-      by : (k : Kind) → frame.op ≡ op_of k → k ≡ kind_at frame.op
-      by Text is = sym (ap kind_at is)
-      by Binary is = sym (ap kind_at is)
+  kind_is = grind arith
 
   event_is : lent_message new kind ≡ event_at fs frame
-  event_is =
-      (λ i. Message (kind_is i) (payload_is i))
-      ∙ ap (λ (bs : List ℕ). Message (kind_at frame.op) bs) (sym (append-nil frame.payload))
-      ∙ ap (λ (gs : List Frame). Message (kind_of (gs ++ frame ∷ [])) (payload_of (gs ++ frame ∷ []))) (sym none_before)
-      ∙ sym (event_of_data fs frame of_data)
+  event_is = grind (arith, kind_is, append-nil, none_before, event_of_data, of_data)
 
   means : given ++ lent_message new kind ∷ [] ≡ meaning (fs ++ frame ∷ [])
-  means =
-      ap (λ (es : List MeantEvent). es ++ lent_message new kind ∷ []) events ∙ ap (λ (m : MeantEvent). meaning fs ++ m ∷ []) event_is
-      ∙ ap (λ (b : Bool). meaning fs ++ cond b (event_at fs frame ∷ []) []) (sym final) ∙ sym (meaning_push fs frame)
+  means = grind (arith, event_is, meaning_push)
 
   between : IsBetweenFrames g (fs ++ frame ∷ [])
   between = message_ended g fs frame of_data final (message_now ∙ ap payload_of none_before)
@@ -123,14 +109,10 @@ module _ {A : Type 0} (role : Role) (limits : Limits) (reading : EventReader A) 
   begins = (of_op kind g.op op_now).1
 
   offset_is : offset_of new ≡ event_offset fs frame
-  offset_is =
-      given_of_frame g.op g.start g.place begins ∙ place_now ∙ sym (offset_of_none fs none_before)
-      ∙ sym (cond-false (is_control frame.op) (length (stream fs)) (open_offset fs) of_data)
+  offset_is = grind (arith, given_of_frame, begins, offset_of_none, none_before, cond-false, of_data)
 
   count_is : frames_of new ≡ event_frames fs frame
-  count_is =
-      given_of_frame g.op g.frames 1 begins ∙ ap (λ (gs : List Frame). length (gs ++ frame ∷ [])) (sym none_before)
-      ∙ sym (cond-false (is_control frame.op) 1 (length (unfinished fs ++ frame ∷ [])) of_data)
+  count_is = grind (arith, given_of_frame, begins, none_before, cond-false, of_data)
 
   lends_frame : LendsMessage role limits new came given kind
   lends_frame = record {
@@ -160,13 +142,11 @@ lends_part role limits reading reader part now came given has takes taken g kind
     let fs = has.frames in
     let payload = held_payload reader in
     let e = ended_by role limits now fs has.position part payload takes.frames takes.position takes.is_part taken whole.ends in
-    let op : part.head.op ≡ e.frame.op = ap (λ (h : HeadInfo). h.op) e.head_is in
-    let none : takes.is_part.before ≡ [] = (begins_at has.position part takes.is_part.before takes.is_part.is_at whole.begins).1 in
     let has_taken = subst (λ (at : Position). HasTaken role limits reader now (fs ++ e.frame ∷ []) at) e.position_is (subst (λ (gs : List Frame). HasTaken role limits reader now gs takes.position) e.frames_are takes.has_taken) in
     lends_frame role limits reading reader g kind now given fs e.frame has.events has.going has_taken e.taken
-    (sym (ap (λ (h : HeadInfo). h.fin) e.head_is) ∙ whole.final) (sym op ∙ whole.op)
+    (sym (ap (λ (h : HeadInfo). h.fin) e.head_is) ∙ whole.final) (sym (ap (λ (h : HeadInfo). h.op) e.head_is) ∙ whole.op)
     op_now place_now message_now
-    (sym (e.payload_is ∙ ap (λ (bs : List ℕ). bs ++ payload) none))
+    (sym (e.payload_is ∙ ap (λ (bs : List ℕ). bs ++ payload) ((begins_at has.position part takes.is_part.before takes.is_part.is_at whole.begins).1)))
     (subst (λ (gs : List Frame). length now ≤ length (stream gs) + chunk_size) e.frames_are (takes.soon whole.ends))
 
 -- the same after the part's frame has begun
@@ -182,11 +162,7 @@ lends_begun role limits reading reader part now came given has takes taken g kin
 -- ---- a message that is lent becomes an event of its own
 
 no_control : (kind : Kind) (text : List ℕ) (fs : List Frame) (frame : Frame) → Message kind text ≡ event_at fs frame → is_control frame.op ≡ false
-no_control kind text fs frame is = by (is_control frame.op) refl
-  where
-    by : (control : Bool) → is_control frame.op ≡ control → is_control frame.op ≡ false
-    by false other = other
-    by true control = let both : Message kind text ≡ Control frame.op frame.payload = is ∙ event_of_control fs frame control in absurd cc
+no_control kind text fs frame is = grind (arith, event_of_control)
 
 module _ {A : Type 0} (role : Role) (limits : Limits) (new : Incoming) (reading : EventReader A) (came : List ℕ) (given : List MeantEvent) (kind : Kind) (lends : LendsMessage role limits reading came given kind) (unfailed : new.failed ≡ false) where
   abbrev all_frames : List Frame
@@ -198,9 +174,7 @@ module _ {A : Type 0} (role : Role) (limits : Limits) (new : Incoming) (reading 
       (subst (λ (fs : List Frame). IsTakenOf role limits came fs lends.has.position) lends.last (reported_of role limits reading.reader came lends.has.frames lends.has.position lends.has.has_taken))
 
   was_between : IsBetweenFrames reading.reassembly all_frames
-  was_between =
-      subst (IsReassembled reading.reassembly all_frames) lends.between
-      (subst (λ (fs : List Frame). IsReassembled reading.reassembly fs lends.has.position) lends.last lends.has.reassembly)
+  was_between = grind (arith, between)
 
   is_data : is_control lends.frame.op ≡ false
   is_data = no_control kind (held_bytes reading) lends.before lends.frame lends.ended

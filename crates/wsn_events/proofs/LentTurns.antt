@@ -1,5 +1,5 @@
 -- The turn of a source that may have lent a message just now.
-use Rattle.std.proofs.Common.{◌≡◌, ℕ, ◌<◌, Option, None, Some, IfSome, IfNone, Result, Ok, List, [], ◌++◌, ◌+◌, ◌≤◌, length, false, refl, sym, ap, ◌∙◌, subst, append-nil}
+use Rattle.std.proofs.Common.{◌≡◌, ℕ, ◌<◌, Option, None, Some, IfSome, IfNone, Result, Ok, List, [], ◌++◌, ◌+◌, ◌≤◌, length, false, refl, sym, ap, ◌∙◌, subst, append-nil, arith}
 use Rattle.wsn_wire.specs.declared.endpoint.Role.{Role}
 use Rattle.wsn_wire.specs.declared.opcode.Kind.{Kind}
 use Rattle.wsn_io.specs.declared.stop.Stop.{Stop}
@@ -18,8 +18,7 @@ use Rattle.wsn_events.proofs.GivenSoFar.{begun_sound}
 
 -- what holds anyway
 pub if_any : {P : Type 0} (lent : Option Kind) → P → IfSome lent (λ kind. P)
-if_any None is = tt
-if_any (Some kind) is = is
+if_any lent is = grind arith
 
 module _ {A : Type 0} (before mid : EventReader A) (lent : Option Kind) (may : MayLend before mid lent) where
   same : lent ≡ None → mid ≡ before
@@ -29,8 +28,7 @@ module _ {A : Type 0} (before mid : EventReader A) (lent : Option Kind) (may : M
   going kind is = subst (λ (l : Option Kind). IfSome l (λ k. answered before ≡ None)) is may.going
 
   lends : (kind : Kind) → lent ≡ Some kind → (role : Role) (limits : Limits) (came : List ℕ) (given : List MeantEvent) → HasGiven role limits before came given → LendsMessage role limits mid came given kind
-  lends kind is =
-      subst (λ (l : Option Kind). IfSome l (λ k. (role : Role) (limits : Limits) (came : List ℕ) (given : List MeantEvent) → HasGiven role limits before came given → LendsMessage role limits mid came given k)) is may.taken
+  lends kind is = grind arith
 
   -- the source can be read on
   pub after_begun : HasBegunOrEnded before → HasBegunOrEnded mid
@@ -39,17 +37,12 @@ module _ {A : Type 0} (before mid : EventReader A) (lent : Option Kind) (may : M
       by : (l : Option Kind) → lent ≡ l → IsAtWork mid
       by (Some kind) is =
           let b = begun (going kind is) in
-          let one = lends kind is b.role b.limits b.came b.given b.has in
-          begun_sound b.role b.limits mid b.came _ one.has
+          begun_sound b.role b.limits mid b.came _ (lends kind is b.role b.limits b.came b.given b.has).has
       by None is = subst IsAtWork (sym (same is)) (begun (ap answered (sym (same is)) ∙ none))
 
   module _ (without : Without) (old : Incoming) (readable : answered before ≡ None → old.failed ≡ false) where
     pub after_readable : answered mid ≡ None → old.failed ≡ false
-    after_readable none = by lent refl
-      where
-        by : (l : Option Kind) → lent ≡ l → old.failed ≡ false
-        by (Some kind) is = readable (going kind is)
-        by None is = readable (ap answered (sym (same is)) ∙ none)
+    after_readable none = grind (arith, going, same)
 
     -- a message that it lends is its turn
     pub lent_reads : (kind : Kind) → lent ≡ Some kind → ReadsTurn without old old before mid (Ok (Lent kind))
@@ -77,14 +70,4 @@ module _ {A : Type 0} (before mid : EventReader A) (lent : Option Kind) (may : M
     -- the turn: that message, or what it reads on to
     pub turn_reads : (new : Incoming) (reading : EventReader A) (result : Result (Turn A) Stop) → IfSome lent (λ kind. (result ≡ Ok (Lent kind)) × (reading ≡ mid) × (new ≡ old)) → IfNone lent (ReadsTurn without old new mid reading result)
         → ReadsTurn without old new before reading result
-    turn_reads new reading result on own = by lent refl
-      where
-        by : (l : Option Kind) → lent ≡ l → ReadsTurn without old new before reading result
-        by (Some kind) is =
-            let lent_on = subst (λ (l : Option Kind). IfSome l (λ k. (result ≡ Ok (Lent k)) × (reading ≡ mid) × (new ≡ old))) is on in
-            subst (λ (r : Result (Turn A) Stop). ReadsTurn without old new before reading r) (sym lent_on.0)
-            (subst (λ (r : EventReader A). ReadsTurn without old new before r (Ok (Lent kind))) (sym lent_on.1)
-            (subst (λ (i : Incoming). ReadsTurn without old i before mid (Ok (Lent kind))) (sym lent_on.2) (lent_reads kind is)))
-        by None is =
-            subst (λ (r : EventReader A). ReadsTurn without old new r reading result) (same is)
-            (subst (λ (l : Option Kind). IfNone l (ReadsTurn without old new mid reading result)) is own)
+    turn_reads new reading result on own = grind (arith, lent_reads, same)

@@ -1,5 +1,5 @@
 -- A frame's bytes, and how they are written: head and payload in two calls.
-use Rattle.std.proofs.Common.{◌≡◌, ℕ, ◌<◌, Bool, Option, Result, List, ◌++◌, length, take, true, false, Ok, Err, inl, inr, refl, sym, ap, ◌∙◌, subst}
+use Rattle.std.proofs.Common.{◌≡◌, ℕ, ◌<◌, Bool, Option, Result, List, ◌++◌, length, take, true, false, Ok, Err, inl, inr, ◌∙◌, subst, arith}
 use Rattle.std.specs.Io.KnownBytes.{Appends}
 use Rattle.wsn_wire.specs.declared.endpoint.Role.{Role}
 use Rattle.wsn_wire.specs.declared.opcode.Op.{Op}
@@ -23,19 +23,13 @@ normal_bytes role o payload = frame_bytes (normal_frame role (Control o payload)
 -- the payload as it is sent, after its head
 pub frame_is : (fin : Bool) (o : Op) (key : Option (List ℕ)) (form : Form) (head wire payload : List ℕ) → head ≡ head_bytes fin o key form (length wire) → wire ≡ wire_payload key payload
     → head ++ wire ≡ frame_bytes (record { fin = fin; op = o; key = key; form = form; payload = payload })
-frame_is fin o key form head wire payload is same =
-    let size : length wire ≡ length payload = ap (λ (bs : List ℕ). length bs) same ∙ length-wire_payload key payload in
-    ap (λ (front : List ℕ). front ++ wire) (is ∙ ap (λ (n : ℕ). head_bytes fin o key form n) size)
-    ∙ ap (λ (bs : List ℕ). head_bytes fin o key form (length payload) ++ bs) same
+frame_is fin o key form head wire payload is same = grind (arith, length-wire_payload)
 
 -- a frame that was written is a normal one
 pub normal_written : (role : Role) (o op : Op) (key : Option (List ℕ)) (payload : List ℕ) (before after : Outgoing) (result : Result (Unit {0}) Stop) → op ≡ o → key ≡ normal_key role
     → ((text : List ℕ) → payload ≡ wire_payload key text → IsWrittenOrStops before after (frame_bytes (record { fin = true; op = op; key = key; form = Shortest; payload = text })) result)
     → IsWrittenOrStops before after (normal_bytes role o payload) result
-normal_written role o op key payload before after result op_is key_is written =
-    subst (λ (p : Op). IsWrittenOrStops before after (frame_bytes (record { fin = true; op = p; key = normal_key role; form = Shortest; payload = payload })) result) op_is
-    (subst (λ (k : Option (List ℕ)). IsWrittenOrStops before after (frame_bytes (record { fin = true; op = op; key = k; form = Shortest; payload = payload })) result) key_is
-    (written payload (subst (λ (k : Option (List ℕ)). payload ≡ wire_payload k payload) (sym key_is) (normal_wire role payload))))
+normal_written role o op key payload before after result op_is key_is written = grind (arith, normal_wire)
 
 -- ---- what a write did
 
@@ -49,23 +43,17 @@ front_out : (before after : Outgoing) (bytes : List ℕ) → after.failed ≡ tr
 front_out before after bytes failed (k, less, out) = inr (failed, (k, out))
 
 puts_ok : (before after : Outgoing) (text : List ℕ) → after.failed ≡ false → IsWrittenUpToFailure before after text → IsWrittenOrStops {A = Unit {0}} before after text (Ok tt)
-puts_ok before after text unfailed (inl went) = went
-puts_ok before after text unfailed (inr front) = let both : true ≡ false = sym front.0 ∙ unfailed in absurd cc
+puts_ok before after text unfailed fact = grind arith
 
 puts_err : (before after : Outgoing) (text : List ℕ) → after.failed ≡ true → IsWrittenUpToFailure before after text → IsWrittenOrStops {A = Unit {0}} before after text (Err stop.Write)
-puts_err before after text failed (inl went) = let both : false ≡ true = sym went.0 ∙ failed in absurd cc
-puts_err before after text failed (inr front) = (refl, front)
+puts_err before after text failed fact = grind arith
 
 -- ---- a frame in two calls
 
 module _ (head wire bytes : List ℕ) (before : Outgoing) (whole : head ++ wire ≡ bytes) (unfailed : before.failed ≡ false) where
   pub both_out : (mid after : Outgoing) → mid.failed ≡ before.failed → Appends before.written mid.written head → after.failed ≡ mid.failed → Appends mid.written after.written wire
       → IsWrittenOrStops {A = Unit {0}} before after bytes (Ok tt)
-  both_out mid after same head_out later wire_out =
-      let mid_fine : mid.failed ≡ false = same ∙ unfailed in
-      let fine : after.failed ≡ false = later ∙ mid_fine in
-      let joined = prints_on before mid after head wire mid_fine (all_out before mid head mid_fine head_out) (all_out mid after wire fine wire_out) in
-      puts_ok before after bytes fine (subst (IsWrittenUpToFailure before after) whole joined)
+  both_out mid after same head_out later wire_out = grind (arith, prints_on, all_out, puts_ok)
 
   pub head_and_front : (mid after : Outgoing) → mid.failed ≡ before.failed → Appends before.written mid.written head → after.failed ≡ true → FrontOf mid after wire
       → IsWrittenOrStops {A = Unit {0}} before after bytes (Err stop.Write)

@@ -1,5 +1,5 @@
 -- A stream's events, written one after the other: what was written at each answer.
-use Rattle.std.proofs.Common.{◌≡◌, ℕ, ◌+◌, Result, Ok, Err, false, List, [], ◌∷◌, ◌++◌, take, sym, ap, ◌∙◌, subst, append_assoc, append-nil}
+use Rattle.std.proofs.Common.{◌≡◌, ℕ, ◌+◌, Result, Ok, Err, false, List, [], ◌∷◌, ◌++◌, take, sym, ap, ◌∙◌, subst, append_assoc, append-nil, arith}
 use Rattle.std.proofs.KnownBytes.{Appends-nil, Appends-trans}
 use Rattle.wsn_io.proofs.Received.{received_none, received_on}
 use Rattle.std.specs.Io.KnownBytes.{Appends}
@@ -39,15 +39,7 @@ pub record HasWritten {A : Type 0} (role : Role) (limits : Limits) (old new : In
 module _ {A : Type 0} (role : Role) (limits : Limits) (old : Incoming) (before : Outgoing) where
   -- nothing has come yet
   pub begins : (source : EventReader A) → HasGiven role limits source [] [] → old.failed ≡ false → before.failed ≡ false → HasWritten role limits old old before before source
-  begins source has readable writable = record {
-    came = [];
-    given = [];
-    has = has;
-    received = received_none (limits.input + 1) old;
-    out = Appends-nil before.written;
-    readable = readable;
-    writable = writable;
-  }
+  begins source has readable writable = grind (arith, received_none, Appends-nil)
 
   -- a call changes nothing of what was read and given
   pub as_before : (new : Incoming) (after : Outgoing) (source next : EventReader A) → HasWritten role limits old new before after source
@@ -79,10 +71,7 @@ module _ {A : Type 0} (role : Role) (limits : Limits) (old : Incoming) (before :
     }
       where
         of : (s : Stop) → IsLast role limits new (written.came ++ on.more) written.given (Err s) → IsNormalFormWritten role limits new (written.came ++ on.more) before after (Err s)
-        of stop.Read last = (written.given, last, (written.writable, written.out))
-        of stop.InputLimit last = (written.given, last, (written.writable, written.out))
-        of stop.Memory last = (written.given, last, (written.writable, written.out))
-        of stop.Write last = absurd last.0
+        of s last = grind arith
 
     -- an event, which is written
     module _ (answer : Next A) (event : Event A) (is : answer ≡ nexts.Event event) (goes : GoesOn role limits mid new next written.came written.given (Ok answer)) where

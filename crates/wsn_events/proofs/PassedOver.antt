@@ -1,5 +1,5 @@
 -- A call that passes over the events that are left out.
-use Rattle.std.proofs.Common.{◌≡◌, ℕ, ◌+◌, ◌≤◌, true, false, Option, None, Some, Result, Ok, Err, List, [], ◌∷◌, ◌++◌, length, refl, sym, ap, ◌∙◌, subst, append_assoc, append-nil}
+use Rattle.std.proofs.Common.{◌≡◌, ℕ, ◌+◌, true, false, Option, None, Some, Result, Ok, List, [], ◌∷◌, ◌++◌, refl, sym, ap, ◌∙◌, subst, append_assoc, append-nil, arith}
 use Rattle.wsn_wire.specs.declared.endpoint.Role.{Role}
 use Rattle.wsn_io.specs.declared.stop.Stop.{Stop}
 use Rattle.wsn_io.specs.Transfer.{Incoming, IsConsumed}
@@ -31,14 +31,11 @@ pub record HasPassed {A : Type 0} (without : Without) (role : Role) (limits : Li
 
 -- what is left out is an event
 pub is_event : {A : Type 0} (without : Without) (turn : Turn A) → is_turn_left_out without turn ≡ true → GivesEvent (Ok turn)
-is_event without (Lent kind) out = tt
-is_event without (Own (nexts.Event event)) out = tt
-is_event without (Own (nexts.Done verdict)) out = absurd cc
+is_event without turn out = grind arith
 
 -- the turn of a source that has ended is no event
 pub last_is_none : {A : Type 0} (answer : Result Verdict Stop) (result : Result (Turn A) Stop) → result ≡ own_turn (next_of answer) → GivesEvent result → ⊥
-last_is_none {A} (Ok verdict) result is event = subst (λ (r : Result (Turn A) Stop). GivesEvent r) is event
-last_is_none {A} (Err halted) result is event = subst (λ (r : Result (Turn A) Stop). GivesEvent r) is event
+last_is_none {A} answer result is event = grind arith
 
 -- One call of a source.
 module _ {A : Type 0} (mid new : Incoming) (before reading : EventReader A) (result : Result (Turn A) Stop)
@@ -51,8 +48,7 @@ module _ {A : Type 0} (mid new : Incoming) (before reading : EventReader A) (res
       given_next : (role : Role) (limits : Limits) (came : List ℕ) (given : List MeantEvent) (r : Result (Turn A) Stop) → TakesTurn role limits mid new reading came given r → GivesEvent r → IsAtWork reading × (new.failed ≡ false)
       given_next role limits came given (Ok (Lent kind)) on some = (begun_sound role limits reading (came ++ on.more) (given ++ lent_message reading kind ∷ []) on.next.0.has, on.next.1)
       given_next role limits came given (Ok (Own (nexts.Event event))) on some = (begun_sound role limits reading (came ++ on.more) (given ++ meant event ∷ []) on.next.0, on.next.2)
-      given_next role limits came given (Ok (Own (nexts.Done verdict))) on some = absurd some
-      given_next role limits came given (Err halted) on some = absurd some
+      given_next role limits came given _ on some = absurd some
 
       by : (a : Option (Result Verdict Stop)) → answered before ≡ a → IsAtWork reading × (new.failed ≡ false)
       by None none = let b = begun none in given_next b.role b.limits b.came b.given result (next b.role b.limits b.came b.given b.has) is
@@ -91,23 +87,13 @@ module _ {A : Type 0} (without : Without) (role : Role) (limits : Limits) (old :
 
     -- its turn isn't left out
     goes_on : TakesTurnWithout without role limits old new reading came given result
-    goes_on = record {
-      passed = read.passed;
-      left_out = read.left_out;
-      takes = record {
-        more = read.more ++ on.more;
-        consumed = consumed;
-        few = subst (λ (bs : List ℕ). length bs ≤ limits.input + 1) all on.few;
-        next = subst (λ (bs : List ℕ). IsNextTurn role limits new reading bs (given ++ read.passed) result) all on.next;
-      };
-    }
+    goes_on = grind (arith, consumed, all)
 
     pub returns : (final : Result (Turn A) Stop) → result ≡ final → TakesTurnWithout without role limits old new reading came given final
     returns final is = subst (λ (r : Result (Turn A) Stop). TakesTurnWithout without role limits old new reading came given r) is goes_on
 
     -- its turn is an event that is left out
     pub passes : (turn : Turn A) → result ≡ Ok turn → is_turn_left_out without turn ≡ true → HasPassed without role limits old new reading came given
-    passes (Lent kind) is out = absurd cc
     passes (Own (nexts.Event event)) is out =
         let now = subst (λ (r : Result (Turn A) Stop). IsNextTurn role limits new reading ((came ++ read.more) ++ on.more) (given ++ read.passed) r) is on.next in
         record {
@@ -118,4 +104,4 @@ module _ {A : Type 0} (without : Without) (role : Role) (limits : Limits) (old :
           has = subst (λ (bs : List ℕ). HasGiven role limits reading bs (given ++ (read.passed ++ meant event ∷ []))) all
               (subst (λ (es : List MeantEvent). HasGiven role limits reading ((came ++ read.more) ++ on.more) es) (append_assoc given read.passed (meant event ∷ [])) now.0);
         }
-    passes (Own (nexts.Done verdict)) is out = absurd cc
+    passes _ is out = absurd cc

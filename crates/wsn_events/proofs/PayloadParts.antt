@@ -1,5 +1,5 @@
 -- What is kept of a payload around a place is enough for each view.
-use Rattle.std.proofs.Common.{◌≡◌, ℕ, ◌+◌, ◌-◌, ◌≤◌, ◌<◌, min, true, false, true≢false, Option, None, Some, List, [], ◌++◌, length, take, get_or, refl, sym, ap, ◌∙◌, arith, inl, inr}
+use Rattle.std.proofs.Common.{◌≡◌, ℕ, ◌+◌, ◌-◌, ◌≤◌, ◌<◌, min, true, false, true≢false, Option, None, Some, List, [], ◌++◌, length, take, get_or, sym, ap, ◌∙◌, arith, inl, inr}
 use Rattle.std.proofs.lemmas.Bool.{cases_lt}
 use Rattle.std.proofs.lemmas.List.{length-take, take_min}
 use Rattle.std.specs.Str.Lossy.{utf8_valid_len}
@@ -8,7 +8,7 @@ use Rattle.wsn_text.specs.Utf8.{BeginsText}
 use Rattle.wsn_text.proofs.Prefixes.{begins_take, text_begins}
 use Rattle.wsn_text.proofs.WholeCharacters.{whole, cut}
 use Rattle.wsn_rules.specs.LawfulEvents.{IsLawfulEvent}
-use Rattle.wsn_rules.specs.Meaning.{MeantEvent, Message, Control}
+use Rattle.wsn_rules.specs.Meaning.{MeantEvent}
 use Rattle.wsn_print.specs.declared.shown.DifferingPayloads.{DifferingPayloads}
 use Rattle.wsn_print.specs.declared.shown.PayloadPart.{PayloadPart}
 use Rattle.wsn_print.specs.DifferingPayloads.{is_text, view_start, payload_on, IsPartOf, StandsForPlace}
@@ -16,7 +16,7 @@ use Rattle.wsn_print.specs.ShownParts.{payload_in, HoldsFirst}
 use Rattle.wsn_events.specs.declared.payload_difference.PayloadDifference.{PayloadDifference}
 use Rattle.wsn_events.specs.declared.payload_difference.PayloadExcerpt.{PayloadExcerpt}
 use Rattle.wsn_events.specs.PayloadExcerpts.{IsPartKept, ArePartsKept, IsLawfulIfAny, event_given}
-use Rattle.wsn_events.specs.Turns.{MeantTurn, OfEvent, OfVerdict, IsLawfulTurn}
+use Rattle.wsn_events.specs.Turns.{MeantTurn, IsLawfulTurn}
 
 -- ---- where a view begins
 
@@ -56,19 +56,13 @@ few_left bytes begins =
 
 -- A lawful text message's payload is text.
 pub text_is_begun : (event : MeantEvent) → is_text event ≡ true → IsLawfulEvent event → (n : ℕ) → BeginsText (take n (payload_in event))
-text_is_begun (Message kinds.Text text) is_so lawful n = begins_take n text (text_begins text (lawful.utf8 refl))
-text_is_begun (Message kinds.Binary payload) is_so lawful n = absurd (true≢false (sym is_so))
-text_is_begun (Control op body) is_so lawful n = absurd (true≢false (sym is_so))
+text_is_begun event is_so lawful n = grind (arith, begins_take, text_begins, true≢false)
 
 pub start_in_text : (event : MeantEvent) → is_text event ≡ true → (place : ℕ) → utf8_valid_len (take (place - 8) (payload_in event)) ≡ view_start place event
-start_in_text (Message kinds.Text text) is_so place = refl
-start_in_text (Message kinds.Binary payload) is_so place = absurd (true≢false (sym is_so))
-start_in_text (Control op body) is_so place = absurd (true≢false (sym is_so))
+start_in_text event is_so place = grind (arith, true≢false)
 
 pub start_in_bytes : (event : MeantEvent) → is_text event ≡ false → (place : ℕ) → place - 8 ≡ view_start place event
-start_in_bytes (Message kinds.Text text) is_not place = absurd (true≢false is_not)
-start_in_bytes (Message kinds.Binary payload) is_not place = refl
-start_in_bytes (Control op body) is_not place = refl
+start_in_bytes event is_not place = grind (arith, true≢false)
 
 -- ---- what is kept
 
@@ -100,17 +94,12 @@ is_part n place event excerpt part few is text from before bytes held = record {
 pub are_parts : (n : ℕ) (difference : PayloadDifference) (shown : DifferingPayloads) (place : Option ℕ) (one two : Option MeantEvent) → n ≤ 4096 → ArePartsKept (Some difference) place one two → shown.place ≡ difference.place
     → ((m at : ℕ) (event : MeantEvent) → m ≤ 4096 → IsPartKept at difference.first event → IsPartOf m at shown.first event)
     → ((m at : ℕ) (event : MeantEvent) → m ≤ 4096 → IsPartKept at difference.second event → IsPartOf m at shown.second event) → StandsForPlace n (Some shown) place one two
-are_parts n difference shown (Some place) (Some event) (Some other) few are is first second = (is ∙ are.0, first n place event few are.1, second n place other few are.2)
-are_parts n difference shown (Some place) (Some event) None few are is first second = absurd are
-are_parts n difference shown (Some place) None two few are is first second = absurd are
-are_parts n difference shown None one two few are is first second = absurd are
+are_parts n difference shown place one two few are is first second = grind arith
 
 -- None is kept.
 pub no_parts : (n : ℕ) (place : Option ℕ) (one two : Option MeantEvent) → ArePartsKept None place one two → StandsForPlace n None place one two
-no_parts n None one two are = tt
-no_parts n (Some place) one two are = absurd are
+no_parts n place one two are = grind arith
 
 -- The event of a lawful turn is lawful.
 pub lawful_given : (turn : MeantTurn) → IsLawfulTurn turn → IsLawfulIfAny (event_given turn)
-lawful_given (OfEvent event) lawful = lawful
-lawful_given (OfVerdict verdict) lawful = tt
+lawful_given turn lawful = grind arith

@@ -1,5 +1,5 @@
 -- What a call of an event source reads and returns, part by part.
-use Rattle.std.proofs.Common.{◌≡◌, ◌≢◌, ℕ, ◌+◌, ◌<◌, ◌≤◌, ◌^◌, Bool, true, false, cond, arith, Option, None, Some, Result, Ok, Err, List, [], ◌∷◌, ◌++◌, length, take, sym, ap, ◌∙◌, subst, append_assoc, append-nil, length-append}
+use Rattle.std.proofs.Common.{◌≡◌, ◌≢◌, ℕ, ◌+◌, ◌<◌, ◌≤◌, ◌^◌, Bool, true, false, cond, arith, Option, None, Some, Result, Ok, Err, List, [], ◌∷◌, ◌++◌, length, sym, ap, ◌∙◌, subst, append_assoc, append-nil, length-append}
 use Rattle.std.proofs.lemmas.List.{length-take}
 use Rattle.wsn_wire.specs.declared.endpoint.Role.{Role}
 use Rattle.wsn_wire.specs.declared.opcode.Kind.{Kind}
@@ -52,10 +52,7 @@ pub record HasRead {A : Type 0} (role : Role) (limits : Limits) (old new : Incom
 
 -- a reader's stop is the source's
 halted_of : (role : Role) (limits : Limits) (new : Incoming) (came : List ℕ) (fs : List Frame) (at : Position) (given : List MeantEvent) (halted : Stop) → given ≡ meaning fs → IsHaltedAt role limits new came fs at halted → IsHalted role limits new came given halted
-halted_of role limits new came fs at given stops.Memory events is = absurd is.0
-halted_of role limits new came fs at given stops.Read events is = (is.0, (is.1.0, (fs, is.1.1, events)))
-halted_of role limits new came fs at given stops.InputLimit events is = (is.0, (is.1.0, (fs, is.1.1, events)))
-halted_of role limits new came fs at given stops.Write events is = (is.0, (is.1.0, (fs, is.1.1, events)))
+halted_of role limits new came fact at given halted events is = grind arith
 
 pub reading_of : {A : Type 0} (reading : EventReader A) → IsAtWork reading → IsReading reading.reader
 reading_of reading b = record { role = b.role; limits = b.limits; came = b.came; frames = b.has.frames; position = b.has.position; has_taken = b.has.has_taken }
@@ -80,12 +77,7 @@ module _ {A : Type 0} (role : Role) (limits : Limits) (old : Incoming) (came : L
     consumed = consumed_on old mid new read.more reads.more read.consumed reads.consumed
 
     answers : (next : EventReader A) (turn : Result (Turn A) Stop) → IsNextTurn role limits new next now given turn → TakesTurn role limits old new next came given turn
-    answers next turn is = record {
-      more = read.more ++ reads.more;
-      consumed = consumed;
-      few = subst (λ (bs : List ℕ). length bs ≤ limits.input + 1) all reads.few;
-      next = subst (λ (bs : List ℕ). IsNextTurn role limits new next bs given turn) all is;
-    }
+    answers next turn is = grind (arith, consumed, all)
 
     found : (answer : Result (Option Verdict) Stop) → result ≡ answer → IsNextPart role limits new reader part now fs read.has.position answer
     found answer is = subst (λ (r : Result (Option Verdict) Stop). IsNextPart role limits new reader part now fs read.has.position r) is reads.next
@@ -93,9 +85,7 @@ module _ {A : Type 0} (role : Role) (limits : Limits) (old : Incoming) (came : L
     -- ---- the end of the call
 
     pub finished : (verdict : Verdict) → result ≡ Ok (Some verdict) → (last : EventReader A) → answered last ≡ Some (Ok verdict) → held_of last ≡ 0 → TakesTurn role limits old new last came given (Ok (Own (nexts.Done verdict)))
-    finished verdict is last answer held =
-        let done = found (Ok (Some verdict)) is in
-        answers last (Ok (Own (nexts.Done verdict))) ((done.0, (fs, done.1, read.has.events)), answer, held)
+    finished verdict is last answer held = grind (arith, found, answers)
 
     pub stopped : (halted : Stop) → result ≡ Err halted → (last : EventReader A) → answered last ≡ Some (Err halted) → held_of last ≡ 0 → TakesTurn role limits old new last came given (Err halted)
     stopped halted is last answer held = answers last (Err halted) (halted_of role limits new now fs read.has.position given halted read.has.events (found (Err halted) is), answer, held)
@@ -113,11 +103,7 @@ module _ {A : Type 0} (role : Role) (limits : Limits) (old : Incoming) (came : L
       taken = reported_of role limits reader now takes.frames takes.position takes.has_taken
 
       few : length (unfinished fs) + 1 < 2 ^ 64
-      few =
-          let bytes = came ++ read.more in
-          let was = reported_of role limits reading.reader bytes fs read.has.position read.has.has_taken in
-          let size : length (take limits.input bytes) ≡ length (stream fs) + length was.rest = ap (λ (bs : List ℕ). length bs) was.whole ∙ length-append (stream fs) was.rest in
-          omega (arith, unfinished_few fs, size, length-take limits.input bytes, was.in_range.input)
+      few = grind (arith, reported_of, length-append, unfinished_few, length-take)
 
       -- the source after the call, with this reassembly
       abbrev moved : Reassembly A → EventReader A
@@ -148,18 +134,7 @@ module _ {A : Type 0} (role : Role) (limits : Limits) (old : Incoming) (came : L
           longer_in_frame = take_on fs part.head.op takes.is_part.before in_frame
 
           goes_on : (g : Reassembly A) (frames : List Frame) (position : Position) → (frames ≡ takes.frames) × (position ≡ takes.position) → IsReassembled g frames position → given ≡ meaning frames → HasRead role limits old new (moved g) came given
-          goes_on g frames position is_now reassembly events = record {
-            more = read.more ++ reads.more;
-            consumed = consumed;
-            has = subst (λ (bs : List ℕ). HasGiven role limits (moved g) bs given) all (record {
-              frames = frames;
-              position = position;
-              has_taken = subst (λ (at : Position). HasTaken role limits reader now frames at) (sym is_now.1) (subst (λ (gs : List Frame). HasTaken role limits reader now gs takes.position) (sym is_now.0) takes.has_taken);
-              reassembly = reassembly;
-              events = events;
-              going = read.has.going;
-            });
-          }
+          goes_on g frames position is_now reassembly events = grind (arith, consumed, all, takes)
 
           -- it doesn't end the frame
           pub within : part.ends ≡ false → HasRead role limits old new (moved longer) came given
@@ -173,9 +148,7 @@ module _ {A : Type 0} (role : Role) (limits : Limits) (old : Incoming) (came : L
             ended = ended_by role limits now fs read.has.position part (held_payload reader) takes.frames takes.position takes.is_part taken ends
 
             whole : IsInFrame longer fs ended.frame.op ended.frame.payload
-            whole =
-                subst (λ (bs : List ℕ). IsInFrame longer fs ended.frame.op bs) (sym ended.payload_is)
-                (subst (λ (op : Op). IsInFrame longer fs op (takes.is_part.before ++ held_payload reader)) (ap (λ (h : HeadInfo). h.op) ended.head_is) longer_in_frame)
+            whole = grind (arith, ended, takes, longer_in_frame)
 
             pub end_lawful : is_control longer.op ≡ true → IsLawfulControl longer.op longer.body.items
             end_lawful control = lawful_body role limits longer fs ended.frame ended.taken.lawful whole control
@@ -210,14 +183,12 @@ pub begun_after : {A : Type 0} (role : Role) (limits : Limits) (old new : Incomi
     → TakesTurn role limits old new reading came given result → GivesEvent result → IsAtWork reading
 begun_after role limits old new reading came given (Ok (Lent kind)) on is = begun_sound role limits reading (came ++ on.more) (given ++ lent_message reading kind ∷ []) on.next.0.has
 begun_after role limits old new reading came given (Ok (Own (nexts.Event event))) on is = begun_sound role limits reading (came ++ on.more) (given ++ meant event ∷ []) on.next.0
-begun_after role limits old new reading came given (Ok (Own (nexts.Done verdict))) on is = absurd is
-begun_after role limits old new reading came given (Err halted) on is = absurd is
+begun_after role limits old new reading came given _ on is = absurd is
 
 pub begun_next : {A : Type 0} (role : Role) (limits : Limits) (old new : Incoming) (reading : EventReader A) (came : List ℕ) (given : List MeantEvent) (result : Result (Next A) Stop)
     → GoesOn role limits old new reading came given result → IsEvent result → IsAtWork reading
 begun_next role limits old new reading came given (Ok (nexts.Event event)) on is = begun_sound role limits reading (came ++ on.more) (given ++ meant event ∷ []) on.next.0
-begun_next role limits old new reading came given (Ok (nexts.Done verdict)) on is = absurd is
-begun_next role limits old new reading came given (Err halted) on is = absurd is
+begun_next role limits old new reading came given _ on is = absurd is
 
 -- ---- what comes next, as an event of its own
 

@@ -1,5 +1,5 @@
 -- Where an event stands in a stream, as more bytes come and where the stream is accepted.
-use Rattle.std.proofs.Common.{◌≡◌, ℕ, ◌≤◌, true, false, Option, None, Some, Ok, List, [], ◌∷◌, ◌++◌, length, refl, sym, ap, ◌∙◌, subst, append_assoc}
+use Rattle.std.proofs.Common.{◌≡◌, ℕ, ◌≤◌, true, false, Option, None, Some, Ok, List, [], ◌∷◌, ◌++◌, length, refl, ap, subst, append_assoc, arith}
 use Rattle.wsn_wire.specs.declared.endpoint.Role.{Role}
 use Rattle.wsn_wire.specs.Frame.{Frame, stream}
 use Rattle.wsn_io.specs.Transfer.{Incoming}
@@ -50,39 +50,12 @@ Stands without role limits reading came events k excerpt event = ⊥
 
 module _ (without : Without) (role : Role) (limits : Limits) where
   pub stands_longer : (came more : List ℕ) (k offset : ℕ) (event : MeantEvent) (count : ℕ) → StandsAt without role limits came k offset event count → StandsAt without role limits (came ++ more) k offset event count
-  stands_longer came more k offset event count s = record {
-    before = s.before;
-    frame = s.frame;
-    lawful = s.lawful;
-    rest = s.rest ++ more;
-    whole = ap (λ (bs : List ℕ). bs ++ more) s.whole ∙ append_assoc (stream (s.before ++ s.frame ∷ [])) s.rest more;
-    final = s.final;
-    index = s.index;
-    kept = s.kept;
-    is = s.is;
-    offset_is = s.offset_is;
-    count_is = s.count_is;
-  }
+  stands_longer came more k offset event count s = grind (arith, append_assoc)
 
   -- the event that a source gives, after those that were passed over
   pub given_stands : {A : Type 0} (reading : EventReader A) (came : List ℕ) (given passed : List MeantEvent) (event : code.Event A) → IsGiven role limits reading came (given ++ passed) event
       → events_without without passed ≡ [] → is_left_out without (meant event) ≡ false → StandsAt without role limits came (length (events_without without given)) (offset_of reading) (meant event) (frames_of reading)
-  given_stands reading came given passed event g none kept = record {
-    before = g.ends.before;
-    frame = g.ends.frame;
-    lawful = subst (λ (fs : List Frame). IsLawful role limits fs) g.ends.last g.are_lawful;
-    rest = g.rest;
-    whole = g.whole ∙ ap (λ (fs : List Frame). stream fs ++ g.rest) g.ends.last;
-    final = g.ends.final;
-    index =
-        sym (ap (λ (es : List MeantEvent). length es) (passed_over without given passed none))
-        ∙ ap (λ (es : List MeantEvent). length (events_without without es))
-        (before_given (given ++ passed) (meant event) g.ends.before g.ends.frame g.ends.final (g.last ∙ ap (λ (fs : List Frame). meaning fs) g.ends.last));
-    kept = kept;
-    is = g.ends.ended;
-    offset_is = g.offset;
-    count_is = g.count;
-  }
+  given_stands reading came given passed event g none kept = grind (arith, passed_over, before_given)
 
   -- ---- of an accepted stream
 
@@ -103,8 +76,7 @@ module _ (without : Without) (role : Role) (limits : Limits) where
         none_in_accepted without role limits came own.0 summary own.1 k (subst (λ (es : List MeantEvent). length (events_without without es) ≤ k) own.2 s.1),
         tt,
       )
-  excerpt_at reading new came events summary k (Some excerpt) None last s = absurd s
-  excerpt_at reading new came events summary k None (Some event) last s = absurd s
+  excerpt_at reading new came events summary k _ _ last s = absurd s
 
   -- the event of the item that is shown there
   pub event_shown : {A : Type 0} (reading : EventReader A) (new : Incoming) (came : List ℕ) (events : List MeantEvent) (summary : Summary) (k : ℕ) (excerpt : Option Excerpt) (event : Option MeantEvent)
@@ -112,5 +84,4 @@ module _ (without : Without) (role : Role) (limits : Limits) where
   unfolding excerpt_at
   event_shown reading new came events summary k (Some excerpt) (Some event) last s = ap Some s.3.is
   event_shown reading new came events summary k None None last s = refl
-  event_shown reading new came events summary k (Some excerpt) None last s = absurd s
-  event_shown reading new came events summary k None (Some event) last s = absurd s
+  event_shown reading new came events summary k _ _ last s = absurd s

@@ -1,5 +1,5 @@
 -- The events that a source takes at once, and what is written of them.
-use Rattle.std.proofs.Common.{◌≡◌, ℕ, ◌+◌, Bool, true, false, Ok, Err, List, [], ◌++◌, length, take, sym, ap, ◌∙◌, subst, append-nil, refl}
+use Rattle.std.proofs.Common.{◌≡◌, ℕ, ◌+◌, Bool, true, false, Ok, Err, List, ◌++◌, length, take, sym, subst, append-nil, refl, arith}
 use Rattle.std.proofs.KnownBytes.{Appends-nil, Appends-trans}
 use Rattle.std.proofs.Math.Seq.{take-append-add}
 use Rattle.std.specs.Io.KnownBytes.{Appends}
@@ -9,11 +9,9 @@ use Rattle.wsn_io.specs.Transfer.{Incoming, Outgoing, IsWritten}
 use Rattle.wsn_io.specs.declared.stop.Stop.{Stop}
 use Rattle.wsn_io.specs.declared.stop.Stop.TheVariants as stop
 use Rattle.wsn_rules.specs.Limits.{Limits}
-use Rattle.wsn_rules.specs.Group.{payload_of}
 use Rattle.wsn_rules.specs.Meaning.{MeantEvent}
 use Rattle.wsn_rules.specs.NormalForm.{normal_form, normal_frame}
 use Rattle.wsn_scan.specs.declared.frame_reader.FrameReader.{FrameReader}
-use Rattle.wsn_scan.specs.Positions.{BetweenFrames}
 use Rattle.wsn_scan.specs.FrameReaders.{TakesRun}
 use Rattle.wsn_scan.proofs.EventRuns.{normal_form-append}
 use Rattle.wsn_scan.proofs.ReaderReports.{reported_of}
@@ -24,7 +22,6 @@ use Rattle.wsn_events.specs.declared.source.Next.TheVariants as nexts
 use Rattle.wsn_events.specs.EventsMeant.{meant}
 use Rattle.wsn_events.specs.EventReaders.{HasGiven, GoesOn, IsAtWork}
 use Rattle.wsn_events.specs.Normalised.{IsNormalised}
-use Rattle.wsn_events.specs.Reassembly.{IsReassembled, IsBetweenFrames}
 use Rattle.wsn_events.specs.TakenEvents.{TakesEventsAfter, PutsTaken}
 use Rattle.wsn_events.proofs.GivenSoFar.{begun_sound, given_first}
 use Rattle.wsn_events.proofs.Normalising.{HasWritten, goes_on, is_failed}
@@ -35,24 +32,7 @@ read_on reading reader = record { reader = reader; reassembly = reading.reassemb
 
 pub takes_after : {A : Type 0} (role : Role) (limits : Limits) (reading : EventReader A) (reader : FrameReader) (came : List ℕ) (given : List MeantEvent) (has : HasGiven role limits reading came given)
     → TakesRun role limits reader came has.frames has.position → TakesEventsAfter role limits (read_on reading reader) came given
-takes_after role limits reading reader came given has took =
-    let was : IsBetweenFrames reading.reassembly has.frames = subst (IsReassembled reading.reassembly has.frames) took.between has.reassembly in
-    record {
-      events = took.events;
-      has = record {
-        frames = took.frames;
-        position = BetweenFrames;
-        has_taken = took.has_taken;
-        reassembly = record {
-          message = was.message ∙ ap payload_of (took.none_before ∙ sym took.none_open);
-          kind = λ some. absurd (some took.none_open);
-          begun = λ some. absurd (some took.none_open);
-        };
-        events = ap (λ (es : List MeantEvent). es ++ took.events) has.events ∙ sym took.means;
-        going = has.going;
-      };
-      normal_is = took.normal_is;
-    }
+takes_after role limits reading reader came given has took = grind arith
 
 -- a source that has taken events, or none, is at work
 pub at_work_after : {A : Type 0} (old new : EventReader A) (result : Bool) → IsAtWork old
@@ -65,11 +45,7 @@ at_work_after {A} old new false b taken none = subst (λ (r : EventReader A). Is
 
 module _ {A : Type 0} (role : Role) (limits : Limits) (came : List ℕ) (given : List MeantEvent) (before : Outgoing) where
   pub puts_none : (source : EventReader A) → before.failed ≡ false → HasGiven role limits source came given → PutsTaken role limits source came given before before (Ok tt)
-  puts_none source writable has = record {
-    events = [];
-    has = subst (λ (es : List MeantEvent). HasGiven role limits source came es) (sym (append-nil given)) has;
-    written = (writable, Appends-nil before.written);
-  }
+  puts_none source writable has = grind (arith, append-nil, Appends-nil)
 
 module _ {A : Type 0} (role : Role) (limits : Limits) (old mid : Incoming) (before after : Outgoing) (source next : EventReader A) (written : HasWritten role limits old mid before after source) where
   -- the events taken were written

@@ -71,19 +71,13 @@ module _ (role : Role) (limits : Limits) (came : List ℕ) (fs : List Frame) (at
   taken_at gs there same same_position = subst (IsTakenOf role limits came gs) same_position (subst (λ (hs : List Frame). IsTakenOf role limits came hs position) same taken)
 
   pub ended_by : part.ends ≡ true → EndsPart role limits came fs part (is.before ++ payload) frames position
-  ended_by ends =
-      let e = is.goes_on.ends ends in
-      record { frame = e.0; head_is = e.1; payload_is = e.2; frames_are = e.3; position_is = e.4; taken = taken_at (fs ++ e.0 ∷ []) BetweenFrames e.3 e.4 }
+  ended_by ends = grind (arith, taken_at)
 
   taken_within : part.ends ≡ false → IsTakenOf role limits came fs (InFrame part.head (is.before ++ payload))
   taken_within more = let on = is.goes_on.within more in taken_at fs (InFrame part.head (is.before ++ payload)) on.0 on.1
 
   pub place_of : part.head.place ≡ length (stream fs)
-  place_of = by part.ends refl
-    where
-      by : (ends : Bool) → part.ends ≡ ends → part.head.place ≡ length (stream fs)
-      by false more = (taken_within more).begun.2.0.place
-      by true ends = ap (λ (h : HeadInfo). h.place) (ended_by ends).head_is
+  place_of = grind (arith, taken_within, ended_by)
 
   -- the bytes begin with the frames before it
   before_it : IsTakenOf role limits came fs BetweenFrames

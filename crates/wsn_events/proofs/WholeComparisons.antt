@@ -1,5 +1,5 @@
 -- What a comparison says of two streams all of whose bytes are known. Two lists of bytes have one answer.
-use Rattle.std.proofs.Common.{◌≡◌, ℕ, ◌+◌, ◌-◌, true, false, Option, Some, None, Ok, List, ◌++◌, length, refl, sym, ap, ◌∙◌, subst, append-nil}
+use Rattle.std.proofs.Common.{◌≡◌, ℕ, ◌+◌, ◌-◌, true, false, Option, Some, Ok, List, length, refl, sym, ap, ◌∙◌, subst, append-nil, arith}
 use Rattle.std.specs.Io.KnownBytes.{Consumes, IsAtEnd}
 use Rattle.wsn_wire.specs.declared.endpoint.Role.{Role}
 use Rattle.wsn_wire.specs.Frame.{Frame, stream}
@@ -21,10 +21,7 @@ use Rattle.wsn_rules.proofs.NormalLaws.{accepted_meaning}
 
 -- at the end, all of the bytes came
 all_came : (old new : Option (List ℕ)) (came all : List ℕ) → Consumes old new came → IsAtEnd new → old ≡ Some all → all ≡ came
-all_came None new came all consumed at_end known = absurd cc
-all_came (Some whole) None came all consumed at_end known = absurd consumed
-all_came (Some whole) (Some rest) came all consumed at_end known =
-    let is : whole ≡ all = cc in sym is ∙ consumed ∙ ap (λ (bs : List ℕ). came ++ bs) at_end ∙ append-nil came
+all_came old new came all consumed at_end known = grind (arith, append-nil)
 
 module _ (role : Role) (limits : Limits) where
   -- an accepted stream's events are the meaning of all of its bytes
@@ -63,8 +60,7 @@ module _ (role : Role) (limits : Limits) where
   not_both : (bytes : List ℕ) (fs gs : List Frame) (verdict : Verdict) → IsAccepted role limits bytes fs → IsVerdict role limits bytes gs verdict → (IsAnAccepted verdict → ⊥) → ⊥
   not_both bytes fs gs verdict accepted is none =
       let summary = counted fs (length (stream fs)) (length bytes - length (stream fs)) in
-      let same = one_verdict role limits bytes fs gs (Accepted summary) verdict (accepted, refl) is in
-      none (subst (λ (v : Verdict). IsAnAccepted v) same.1 tt)
+      none (subst (λ (v : Verdict). IsAnAccepted v) (one_verdict role limits bytes fs gs (Accepted summary) verdict (accepted, refl) is).1 tt)
 
   -- the lists that differ are the meanings of the accepted streams
   differ_of : (part : List MeantEvent → List MeantEvent) (bytes others : List ℕ) (fs gs hs is : List Frame) (k : ℕ) → IsAccepted role limits bytes fs → IsAccepted role limits others gs → IsAccepted role limits bytes hs → IsAccepted role limits others is
@@ -76,12 +72,10 @@ module _ (role : Role) (limits : Limits) where
   pub one_answer : (part : List MeantEvent → List MeantEvent) (bytes others : List ℕ) (answer other : Compared) → IsComparisonOfBy part role limits bytes others answer → IsComparisonOfBy part role limits bytes others other → answer ≡ other
   one_answer part bytes others Equal Equal a b = refl
   one_answer part bytes others Equal (Different k) a b = absurd (differ_not_equal k (part (meaning a.0)) (part (meaning a.1)) (differ_of part bytes others a.0 a.1 b.0 b.1 k a.2 a.3 b.2 b.3 b.4) a.4)
-  one_answer part bytes others Equal (NotAccepted false v) a b = absurd (not_both bytes a.0 b.0.0 v a.2 b.0.1 b.1)
   one_answer part bytes others Equal (NotAccepted true v) a b = absurd (not_both others a.1 b.1.0 v a.3 b.1.1 b.2)
   one_answer part bytes others (Different k) Equal a b = absurd (differ_not_equal k (part (meaning b.0)) (part (meaning b.1)) (differ_of part bytes others b.0 b.1 a.0 a.1 k b.2 b.3 a.2 a.3 a.4) b.4)
   one_answer part bytes others (Different k) (Different j) a b =
       ap (λ (n : ℕ). Different n) (differ_once k j (part (meaning a.0)) (part (meaning a.1)) a.4 (differ_of part bytes others a.0 a.1 b.0 b.1 j a.2 a.3 b.2 b.3 b.4))
-  one_answer part bytes others (Different k) (NotAccepted false v) a b = absurd (not_both bytes a.0 b.0.0 v a.2 b.0.1 b.1)
   one_answer part bytes others (Different k) (NotAccepted true v) a b = absurd (not_both others a.1 b.1.0 v a.3 b.1.1 b.2)
   one_answer part bytes others (NotAccepted false v) Equal a b = absurd (not_both bytes b.0 a.0.0 v b.2 a.0.1 a.1)
   one_answer part bytes others (NotAccepted false v) (Different k) a b = absurd (not_both bytes b.0 a.0.0 v b.2 a.0.1 a.1)
@@ -91,3 +85,4 @@ module _ (role : Role) (limits : Limits) where
   one_answer part bytes others (NotAccepted true v) (Different k) a b = absurd (not_both others b.1 a.1.0 v b.3 a.1.1 a.2)
   one_answer part bytes others (NotAccepted true v) (NotAccepted false w) a b = absurd (not_both bytes a.0.0 b.0.0 w a.0.1 b.0.1 b.1)
   one_answer part bytes others (NotAccepted true v) (NotAccepted true w) a b = ap (λ (u : Verdict). NotAccepted true u) (one_verdict role limits others a.1.0 b.1.0 v w a.1.1 b.1.1).1
+  one_answer part bytes others _ (NotAccepted false v) a b = absurd (not_both bytes a.0 b.0.0 v a.2 b.0.1 b.1)

@@ -1,5 +1,5 @@
 -- What normalising answers and writes for all bytes of an input whose bytes are known, in whatever chunks they come.
-use Rattle.std.proofs.Common.{◌≡◌, ℕ, ◌+◌, ◌-◌, ◌≤◌, Option, None, Some, Result, Ok, Err, List, [], ◌++◌, length, take, refl, sym, ap, ◌∙◌, subst, length-append, arith}
+use Rattle.std.proofs.Common.{◌≡◌, ℕ, ◌+◌, ◌-◌, ◌≤◌, Option, Some, Result, Ok, Err, List, [], ◌++◌, length, take, refl, sym, ap, ◌∙◌, subst, length-append, arith}
 use Rattle.std.proofs.lemmas.List.{take-append-le}
 use Rattle.std.specs.Io.KnownBytes.{Consumes}
 use Rattle.wsn_wire.specs.declared.endpoint.Role.{Role}
@@ -44,11 +44,10 @@ module _ (role : Role) (limits : Limits) where
             subst (λ (es : List MeantEvent). IsWritten before after (normal_form role es)) meant.2 written,
           )
       by_result rest left is (Err stop.InputLimit) (events, last, written) =
-          let size : length all ≡ length came + length rest = ap (λ (bs : List ℕ). length bs) is ∙ length-append came rest in
           let more : length came ≡ limits.input + 1 = last.0.0 in
           let front : take limits.input all ≡ take limits.input came = ap (λ (bs : List ℕ). take limits.input bs) is ∙ take-append-le limits.input came rest (omega (arith, more)) in
           let meant = last.1.1 in (
-            omega (arith, size, more),
+            omega (arith, ap (λ (bs : List ℕ). length bs) is ∙ length-append came rest, more),
             subst (λ (bs : List ℕ). IsUnrefused role limits bs) (sym front) last.0.1,
             (
               last.1.0,
@@ -57,13 +56,10 @@ module _ (role : Role) (limits : Limits) where
               subst (λ (es : List MeantEvent). IsWritten before after (normal_form role es)) meant.2 written,
             ),
           )
-      by_result rest left is (Err stop.Read) written = tt
-      by_result rest left is (Err stop.Memory) written = tt
-      by_result rest left is (Err stop.Write) written = tt
+      by_result rest left is _ written = tt
 
       by_rest : (rest : Option (List ℕ)) → new.remaining ≡ rest → Consumes (Some all) rest came → IsNormalisedWhole role limits all before after result
-      by_rest None left consumed = absurd consumed
-      by_rest (Some rest) left consumed = by_result rest left consumed result normalised.written
+      by_rest rest left consumed = grind (arith, by_result)
 
   -- ---- one answer and one text
 
@@ -84,12 +80,10 @@ module _ (role : Role) (limits : Limits) where
         refl,
         (normal_form role (meaning one.2.1), one.2.3, subst (λ (fs : List Frame). IsWritten other_before other_after (normal_form role (meaning fs))) (sym same.0) two.2.3),
       )
-  one_normal_form all before after other_before other_after (Err stop.Read) other says also one two = absurd says
-  one_normal_form all before after other_before other_after (Err stop.Memory) other says also one two = absurd says
-  one_normal_form all before after other_before other_after (Err stop.Write) other says also one two = absurd says
   one_normal_form all before after other_before other_after result (Err stop.Read) says also one two = absurd also
   one_normal_form all before after other_before other_after result (Err stop.Memory) says also one two = absurd also
   one_normal_form all before after other_before other_after result (Err stop.Write) says also one two = absurd also
+  one_normal_form all before after other_before other_after _ other says also one two = absurd says
 
   -- ---- normalising twice is the same as once
 
@@ -119,6 +113,4 @@ module _ (role : Role) (limits : Limits) where
             subst (λ (es : List MeantEvent). IsWritten again_before again_after (normal_form role es)) meant went,
           )
       again again_before again_after (Err stop.InputLimit) fits says past = absurd (omega (arith, fits, past.0))
-      again again_before again_after (Err stop.Read) fits says past = absurd says
-      again again_before again_after (Err stop.Memory) fits says past = absurd says
-      again again_before again_after (Err stop.Write) fits says past = absurd says
+      again again_before again_after _ fits says past = absurd says

@@ -1,15 +1,13 @@
 -- The first line of a text, and what its lines say.
-use Rattle.std.proofs.Common.{◌≡◌, ℕ, zero, suc, ◌≤◌, ◌<◌, ◌==◌, Bool, true, false, cond, List, [], ◌∷◌, length, take, drop, slice_index, Option, None, Some, is_some, IsTrue, ◌↔◌, inl, inr, refl, sym, ap, ◌∙◌, subst, arith, ◌++◌, length-append, take-append-drop, take_at}
+use Rattle.std.proofs.Common.{◌≡◌, ℕ, zero, suc, ◌≤◌, ◌<◌, ◌==◌, Bool, true, false, cond, List, [], ◌∷◌, length, take, drop, slice_index, Option, None, Some, is_some, IsTrue, ◌↔◌, refl, sym, ap, ◌∙◌, arith, ◌++◌, take-append-drop, take_at}
 use Rattle.memchr.specs.Find.{FindsNeedle}
 use Rattle.wsn_rules.specs.TextLines.{IsLine, before_first, lines_of}
 use Rattle.wsn_rules.proofs.TextLines.{one_line}
-use Rattle.wsn_hint.specs.declared.comments.Said.{Said}
 use Rattle.wsn_hint.specs.Hints.{Begins}
-use Rattle.wsn_hint.specs.Comments.{HasSaid, HasWord, IsSaid, Says}
+use Rattle.wsn_hint.specs.Comments.{HasWord}
 
 not_true : (test : Bool) → (test ≡ true → ⊥) → test ≡ false
-not_true true never = absurd (never refl)
-not_true false never = refl
+not_true test never = grind arith
 
 -- A line to the first LF.
 pub line_to : (text : List ℕ) (n : ℕ) → ((k : ℕ) → 0 ≤ k → k < n → (slice_index text k == 10) ≡ true → ⊥) → n < length text
@@ -31,8 +29,7 @@ in_line (b ∷ text) none = (
 
 pub line_alone : (text : List ℕ) → ((k : ℕ) → 0 ≤ k → k < length text → (slice_index text k == 10) ≡ true → ⊥) → 0 < length text
     → lines_of text ≡ text ∷ []
-line_alone [] none some = absurd (omega (arith, some))
-line_alone (b ∷ text) none some = one_line (b ∷ text) (in_line (b ∷ text) none) (λ is. cc is)
+line_alone text none fact = grind (arith, one_line, in_line)
 
 -- A line that begins with a label, by a test of its first bytes.
 pub begins_of_front : (line label : List ℕ) (test : Bool) → IsTrue test ↔ (take (length label) line ≡ label) → IsTrue test ↔ Begins label line
@@ -41,23 +38,7 @@ begins_of_front line label test tests = (
   λ begins. tests.1 (ap (take (length label)) begins.1 ∙ take_at label begins.0 (length label) refl),
 )
 
-pub too_short : (line label : List ℕ) → length line < length label → Begins label line → ⊥
-too_short line label short begins = absurd (omega (arith, short, ap (λ (bs : List ℕ). length bs) begins.1, length-append label begins.0))
-
 -- A search for a word.
 pub word_found : (line word : List ℕ) (result : Option ℕ) → FindsNeedle line word 0 result → IsTrue (is_some result) ↔ HasWord line word
 word_found line word None none = (λ no. absurd (cc no), λ has. absurd (none has.0 (omega arith) (omega (arith, has.1.fits)) has.1))
 word_found line word (Some k) first = (λ yes. (k, first.1), λ has. refl)
-
-module _ (said : Said) (rest line later : List ℕ) (lines : lines_of rest ≡ line ∷ lines_of later) where
-  pub said_first : Says said line → IsSaid said rest
-  said_first says = subst (HasSaid said) (sym lines) (inl says)
-
-  pub said_before : IsSaid said later → IsSaid said rest
-  said_before is = subst (HasSaid said) (sym lines) (inr is)
-
-  pub said_after : (Says said line → ⊥) → IsSaid said rest → IsSaid said later
-  said_after none is = elim (subst (HasSaid said) lines is) [
-    | inl says ↦ absurd (none says)
-    | inr more ↦ more
-  ]

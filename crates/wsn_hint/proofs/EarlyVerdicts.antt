@@ -1,10 +1,10 @@
 -- What the verdict on the first two bytes says of all.
-use Rattle.std.proofs.Common.{◌≡◌, ℕ, ◌+◌, ◌<◌, List, ◌++◌, length, take, drop, sym, ap, ◌∙◌, subst, append_assoc, length-append, take-append-drop, arith, ◌≤◌, [], ◌∷◌, refl}
+use Rattle.std.proofs.Common.{◌≡◌, ℕ, ◌+◌, ◌<◌, List, ◌++◌, length, take, drop, sym, ap, ◌∙◌, subst, append_assoc, length-append, take-append-drop, arith, ◌≤◌, ◌∷◌}
 use Rattle.std.specs.Prelude.{get_or}
 use Rattle.std.proofs.lemmas.List.{length-take}
 use Rattle.wsn_wire.specs.declared.endpoint.Role.{Role}
 use Rattle.wsn_wire.specs.declared.refusal.Reason.{Reason}
-use Rattle.wsn_wire.specs.Frame.{Frame, stream}
+use Rattle.wsn_wire.specs.Frame.{Frame}
 use Rattle.wsn_rules.specs.declared.verdict.Verdict.TheVariants.{Accepted, Cut, Refused}
 use Rattle.wsn_rules.specs.declared.verdict.Summary.{Summary}
 use Rattle.wsn_rules.specs.declared.verdict.Refusal.{Refusal}
@@ -27,30 +27,23 @@ cut_unrefused role limits bytes summary has fs place reason refused =
 
 -- a refusal's offset is within the bytes
 within : (role : Role) (limits : Limits) (bytes : List ℕ) (fs : List Frame) (place : ℕ) (reason : Reason) → IsRefused role limits bytes fs place reason → place < length bytes
-within role limits bytes fs place reason refused =
-    let at = refused.is_evident in
-    let whole : length bytes ≡ length (stream fs) + (length at.seen + length at.later) =
-    ap (λ (bs : List ℕ). length bs) at.whole ∙ length-append (stream fs) (at.seen ++ at.later) ∙ ap (λ (n : ℕ). length (stream fs) + n) (length-append at.seen at.later) in
-    omega (arith, whole, at.at_place)
+within role limits bytes fs place reason refused = grind (arith, length-append)
 
 -- What the first two bytes are refused for, every input is refused for that begins with them.
 pub refused_early : (role : Role) (limits : Limits) (first later : List ℕ) (refusal : Refusal) → HasVerdict role limits (take 2 first) (Refused refusal) → IsRefusedEarly role limits (first ++ later)
 refused_early role limits first later refusal has =
-    let inside = within role limits (take 2 first) has.0 refusal.place refusal.reason has.1 in
     let split : take 2 first ++ (drop 2 first ++ later) ≡ first ++ later = sym (append_assoc (take 2 first) (drop 2 first) later) ∙ ap (λ (bs : List ℕ). bs ++ later) (take-append-drop 2 first) in
     record {
       frames = has.0;
       place = refusal.place;
       reason = refusal.reason;
-      early = omega (arith, inside, length-take 2 first);
+      early = omega (arith, within role limits (take 2 first) has.0 refusal.place refusal.reason has.1, length-take 2 first);
       refused = subst (λ (bs : List ℕ). IsRefused role limits bs has.0 refusal.place refusal.reason) split (stays_refused role limits has.0 (take 2 first) (drop 2 first ++ later) refusal.place refusal.reason has.1);
     }
 
 -- the first two of some bytes
 pub two_at_front : (bytes : List ℕ) → 2 ≤ length bytes → bytes ≡ get_or bytes 0 0 ∷ get_or bytes 1 0 ∷ drop 2 bytes
-two_at_front [] some = absurd (omega (arith, some))
-two_at_front (b ∷ []) some = absurd (omega (arith, some))
-two_at_front (b ∷ c ∷ rest) some = refl
+two_at_front bytes fact = grind arith
 
 -- The bytes are refused in one way.
 pub one_refusal : (role : Role) (limits : Limits) (bytes : List ℕ) (one other : Refusal) → HasVerdict role limits bytes (Refused one) → HasVerdict role limits bytes (Refused other) → one ≡ other

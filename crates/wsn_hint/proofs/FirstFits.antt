@@ -1,5 +1,5 @@
 -- What is so of the first hint of a list that fits.
-use Rattle.std.proofs.Common.{◌≡◌, Option, None, Some, List, [], ◌∷◌, ◌++◌, inl, inr, sym, subst, refl}
+use Rattle.std.proofs.Common.{◌≡◌, Option, None, Some, List, [], ◌∷◌, ◌++◌, inl, inr, sym, subst, refl, arith}
 use Rattle.std.specs.Prelude.{◌↔◌, Bool, true, false, IfSome, IsTrue}
 use Rattle.std.proofs.lemmas.Bool.{iff_false}
 use Rattle.wsn_hint.specs.declared.hint.Hint.{Hint}
@@ -34,5 +34,4 @@ first_past fits hint later result test tests is first = inr (iff_false tests is,
 
 -- The first of some hints is the first of these and more, where none of more fits.
 pub first_before : (fits : Hint → Type 0) (hints more : List Hint) (result : Option Hint) → IsFirstFit fits hints result → IsFirstFit fits more None → IsFirstFit fits (hints ++ more) result
-first_before fits hints more None first none = first_after fits hints more None first none
-first_before fits hints more (Some hint) first none = first_of_more fits hints more hint first
+first_before fits hints more result first none = grind (arith, first_after, first_of_more)

@@ -1,8 +1,7 @@
 -- A head that an endpoint sent, and a text in ASCII that it sent.
-use Rattle.std.proofs.Common.{◌≡◌, ℕ, ◌≤◌, List, ◌++◌, length, drop, Option, None, Some, refl, sym, ap, ◌∙◌, subst, append_assoc}
+use Rattle.std.proofs.Common.{◌≡◌, ℕ, List, ◌++◌, length, drop, Option, None, Some, sym, ap, ◌∙◌, subst, append_assoc, arith}
 use Rattle.std.proofs.lemmas.List.{take-append-drop}
 use Rattle.std.proofs.Math.Seq.{drop-append_seam}
-use Rattle.std.specs.List.{AllByRecursion}
 use Rattle.std.specs.Io.KnownBytes.{Consumes}
 use Rattle.wsn_wire.specs.declared.endpoint.Role.{Role}
 use Rattle.wsn_wire.specs.Frame.{Frame, stream}
@@ -10,7 +9,6 @@ use Rattle.wsn_rules.specs.declared.head_info.HeadInfo.{HeadInfo}
 use Rattle.wsn_rules.specs.Limits.{Limits}
 use Rattle.wsn_rules.proofs.HeadsGoOn.{begins_longer}
 use Rattle.wsn_scan.specs.Positions.{Position, InFrame, IsTakenOf}
-use Rattle.wsn_hint.specs.Hints.{IsTextByte}
 use Rattle.wsn_hint.specs.SideHints.{BeginsInAscii, HasHead}
 
 -- The head of the frame that has begun came after whole frames.
@@ -31,19 +29,7 @@ head_sent role limits sent came payload (Some more) fs at head consumed taken is
       begins = (begins_longer role limits fs (begun.rest ++ over) more head (begins_longer role limits fs begun.rest over head begun.begun.2.0));
     }
 
--- The bytes that came so far are a text.
-pub text_so_far : (bytes text : List ℕ) (left : Option (List ℕ)) (most count : ℕ) → Consumes (Some bytes) left text → AllByRecursion IsTextByte text
-    → length text ≡ count → count ≤ most → BeginsInAscii most count bytes
-text_so_far bytes text None most count consumed all size few = absurd consumed
-text_so_far bytes text (Some later) most count consumed all size few = (text, later, consumed, size, few, all)
-
 -- The bytes after some that were read begin with a text.
 pub text_after : (sent passed : List ℕ) (old left : Option (List ℕ)) (start most count : ℕ) → old ≡ Some sent → length passed ≡ start → Consumes old left passed
     → ((bytes : List ℕ) → left ≡ Some bytes → BeginsInAscii most count bytes) → BeginsInAscii most count (drop start sent)
-text_after sent passed old left start most count known size consumed text = of left (subst (λ (o : Option (List ℕ)). Consumes o left passed) known consumed) text
-  where
-    of : (left : Option (List ℕ)) → Consumes (Some sent) left passed → ((bytes : List ℕ) → left ≡ Some bytes → BeginsInAscii most count bytes) → BeginsInAscii most count (drop start sent)
-    of None consumed text = absurd consumed
-    of (Some more) consumed text =
-        let rest : drop start sent ≡ more = ap (λ (n : ℕ). drop n sent) (sym size) ∙ ap (drop (length passed)) consumed ∙ drop-append_seam passed more in
-        subst (BeginsInAscii most count) (sym rest) (text more refl)
+text_after sent passed old left start most count known size consumed text = grind (arith, drop-append_seam)

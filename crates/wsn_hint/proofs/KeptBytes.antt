@@ -1,5 +1,5 @@
 -- The bytes that are kept after more came.
-use Rattle.std.proofs.Common.{◌≡◌, ℕ, true≢false, ◌+◌, Result, Ok, Err, List, ◌++◌, length, take, min, inl, inr, sym, ap, ◌∙◌, append-nil, arith}
+use Rattle.std.proofs.Common.{◌≡◌, ℕ, true≢false, ◌+◌, Result, List, ◌++◌, length, take, min, inl, inr, sym, ap, ◌∙◌, append-nil, arith}
 use Rattle.std.specs.Prelude.{◌↔◌, IsOk, IsErr, OnOk}
 use Rattle.wsn_io.specs.FirstReads.{returned_in}
 use Rattle.std.proofs.lemmas.Bool.{cases_lt}
@@ -8,8 +8,7 @@ use Rattle.std.proofs.Math.Seq.{take-append-add}
 
 -- what fits was appended
 pub extended : {T E P Q : Type 0} (result : Result T E) → (IsOk result ↔ P) → P → OnOk result Q → Q
-extended (Ok done) fits p q = q
-extended (Err error) fits p q = absurd (true≢false (sym (fits.1 p)))
+extended result fits p q = grind (arith, true≢false)
 
 -- the first bytes with those of more bytes for which there is room
 pub first_more : (most room n : ℕ) (kept came more : List ℕ) → kept ≡ take most came → room + length kept ≡ most → n ≡ min room (length more) → kept ++ take n more ≡ take most (came ++ more)
@@ -28,5 +27,4 @@ first_more most room n kept came more is fits few =
 
 -- a read that failed returned nothing
 pub kept_at_error : {E : Type 0} (most : ℕ) (kept came buffer : List ℕ) (result : Result ℕ E) → IsErr result → kept ≡ take most came → kept ≡ take most (came ++ returned_in result buffer)
-kept_at_error most kept came buffer (Ok n) failed is = absurd (true≢false (sym failed))
-kept_at_error most kept came buffer (Err error) failed is = is ∙ ap (λ (bs : List ℕ). take most bs) (sym (append-nil came))
+kept_at_error most kept came buffer result failed is = grind (arith, true≢false, append-nil)

@@ -17,15 +17,10 @@ use Rattle.wsn_plan.specs.Walking.{from_message, IsPlaced, IsControl, IsMessageO
 -- the values from an index on, by what they mean
 pub stands_for : {E : Type 0} (mean : E → MeantEvent) (es : List E) (at : ℕ) (d : E) → at < length es → d ≡ get_or es at d
     → drop at (map mean es) ≡ mean d ∷ drop (at + 1) (map mean es)
-stands_for {E} mean es at d less is =
-    drop-map mean at es ∙ ap (map mean) (drop_more es at d less)
-    ∙ ap (λ (later : List MeantEvent). mean (get_or es at d) ∷ later) (sym (drop-map mean (at + 1) es))
-    ∙ ap (λ (e : E). mean e ∷ drop (at + 1) (map mean es)) (sym is)
+stands_for {E} mean es at d less is = grind (arith, drop-map, drop_more)
 
 pub drop_meant : {A : Type 0} (es : List (Kept A)) (at : ℕ) (d : Kept A) → at < length es → drop at (map kept_meant es) ≡ kept_meant (get_or es at d) ∷ drop (at + 1) (map kept_meant es)
-drop_meant es at d less =
-    drop-map kept_meant at es ∙ ap (map kept_meant) (drop_more es at d less)
-    ∙ ap (λ (later : List MeantEvent). kept_meant (get_or es at d) ∷ later) (sym (drop-map kept_meant (at + 1) es))
+drop_meant es at d less = grind (arith, drop-map, drop_more)
 
 pub drop_none : {A : Type 0} (es : List (Kept A)) (at : ℕ) → length es ≤ at → drop at (map kept_meant es) ≡ []
 drop_none es at past = drop_of_length-le (map kept_meant es) (omega (arith, length-map es kept_meant))
@@ -36,15 +31,13 @@ no_message (kepts.Control op body) none = (_, _, refl)
 
 pub past_a_control : {A : Type 0} (es : List (Kept A)) (at : ℕ) (d : Kept A) → at < length es → d ≡ get_or es at d → IsControl (kept_meant d)
     → from_message (drop at (map kept_meant es)) ≡ from_message (drop (at + 1) (map kept_meant es))
-past_a_control es at d less is (op, body, control) =
-    ap from_message (drop_meant es at d less ∙ ap (λ (e : MeantEvent). e ∷ drop (at + 1) (map kept_meant es)) (ap kept_meant (sym is) ∙ control))
+past_a_control es at d less is fact = grind (arith, drop_meant)
 
 pub stands_at : {A : Type 0} (es : List (Kept A)) (at : ℕ) (d : Kept A) → at < length es → d ≡ get_or es at d → drop at (map kept_meant es) ≡ kept_meant d ∷ drop (at + 1) (map kept_meant es)
 stands_at {A} es at d less is = drop_meant es at d less ∙ ap (λ (e : Kept A). kept_meant e ∷ drop (at + 1) (map kept_meant es)) (sym is)
 
 pub message_there : {A : Type 0} (es : List (Kept A)) (at len : ℕ) (d : Kept A) → at < length es → d ≡ get_or es at d → IsMessageOf (kept_meant d) len → BeginsWithMessage (drop at (map kept_meant es))
-message_there es at len d less is (kind, text, message, size) =
-    (kind, text, drop (at + 1) (map kept_meant es), stands_at es at d less is ∙ ap (λ (e : MeantEvent). e ∷ drop (at + 1) (map kept_meant es)) message)
+message_there es at len d less is fact = grind (arith, stands_at)
 
 pub text_there : {A : Type 0} (es : List (Kept A)) (at len : ℕ) (d : Kept A) → at < length es → d ≡ get_or es at d → IsMessageOf (kept_meant d) len
     → (text : List ℕ) × (next_text (drop at (map kept_meant es)) ≡ Some text) × (len ≡ length text)
@@ -54,20 +47,15 @@ text_there es at len d less is (kind, text, message, size) =
 -- ---- the first message
 
 pub no_longer : (left : List MeantEvent) → length (from_message left) ≤ length left
-no_longer [] = omega arith
-no_longer (meant_event.Message kind text ∷ later) = omega arith
 no_longer (meant_event.Control op body ∷ later) = omega (arith, no_longer later)
+no_longer _ = omega arith
 
 pub same_text : (left : List MeantEvent) → next_text (from_message left) ≡ next_text left
-same_text [] = refl
-same_text (meant_event.Message kind text ∷ later) = refl
 same_text (meant_event.Control op body ∷ later) = same_text later
+same_text _ = refl
 
 pub at_a_message : (left : List MeantEvent) → BeginsWithMessage left → from_message left ≡ left
-at_a_message [] begins = refl
-at_a_message (meant_event.Message kind text ∷ later) begins = refl
-at_a_message (meant_event.Control op body ∷ later) begins =
-    let both : meant_event.Control op body ∷ later ≡ meant_event.Message begins.0 begins.1 ∷ begins.2 = begins.3 in cc
+at_a_message left begins = grind arith
 
 pub is_at_a_message : (left : List MeantEvent) → from_message left ≡ left → left ≢ [] → BeginsWithMessage left
 is_at_a_message [] same some = absurd (some refl)
@@ -75,13 +63,11 @@ is_at_a_message (meant_event.Message kind text ∷ later) same some = (kind, tex
 is_at_a_message (meant_event.Control op body ∷ later) same some = absurd (omega (arith, no_longer later, ap (λ (es : List MeantEvent). length es) same))
 
 pub is_at_a_control : (left : List MeantEvent) → (from_message left ≡ left → ⊥) → BeginsWithControl left
-is_at_a_control [] other = absurd (other refl)
-is_at_a_control (meant_event.Message kind text ∷ later) other = absurd (other refl)
 is_at_a_control (meant_event.Control op body ∷ later) other = (op, body, later, refl)
+is_at_a_control _ other = absurd (other refl)
 
 pub message_or_not : (left : List MeantEvent) → BeginsWithMessage left → BeginsWithControl left → ⊥
-message_or_not left (kind, text, later, is) (op, body, following, also) =
-    let both : meant_event.Message kind text ∷ later ≡ meant_event.Control op body ∷ following = sym is ∙ also in cc
+message_or_not left fact other_fact = grind arith
 
 -- a control is never the first message
 pub no_text : (left : List MeantEvent) → left ≡ from_message left → BeginsWithControl left → ⊥
@@ -92,8 +78,7 @@ no_text left first control =
 
 pub no_text_there : {A : Type 0} (es : List (Kept A)) (at : ℕ) (d : Kept A) → at < length es → d ≡ get_or es at d → IsControl (kept_meant d)
     → drop at (map kept_meant es) ≡ from_message (drop at (map kept_meant es)) → next_text (drop at (map kept_meant es)) ≡ None
-no_text_there es at d less is (op, body, control) first =
-    absurd (no_text (drop at (map kept_meant es)) first (op, body, drop (at + 1) (map kept_meant es), stands_at es at d less is ∙ ap (λ (e : MeantEvent). e ∷ drop (at + 1) (map kept_meant es)) control))
+no_text_there es at d less is fact first = grind (arith, no_text, stands_at)
 
 pub text_or_none : {A : Type 0} (es : List (Kept A)) (at : ℕ) (d : Kept A) → at < length es → d ≡ get_or es at d → drop at (map kept_meant es) ≡ from_message (drop at (map kept_meant es))
     → (len : Option ℕ) → MatchOption len (IsControl (kept_meant d)) (IsMessageOf (kept_meant d))
@@ -104,17 +89,14 @@ text_or_none es at d less is first (Some n) message = text_there es at n d less 
 -- what an option holds that isn't None
 module _ (C : Type 0) (M : ℕ → Type 0) where
   pub has_reported : (o : Option ℕ) → MatchOption o C M → is_some o ≡ true → (n : ℕ) × M n
-  has_reported None m is = cc
-  has_reported (Some n) m is = (n, m)
+  has_reported o m is = grind arith
 
   pub not_reported : (o : Option ℕ) → MatchOption o C M → is_some o ≡ false → C
-  not_reported None m is = m
-  not_reported (Some n) m is = cc
+  not_reported o m is = grind arith
 
 pub first_twice : (left : List MeantEvent) → from_message (from_message left) ≡ from_message left
-first_twice [] = refl
-first_twice (meant_event.Message kind text ∷ later) = refl
 first_twice (meant_event.Control op body ∷ later) = first_twice later
+first_twice _ = refl
 
 -- ---- the indexes of a walk
 
@@ -144,16 +126,12 @@ module _ {A : Type 0} (walk : Walk) (es : List (Kept A)) (placed : IsPlaced walk
   none_left is = drop_none es walk.event (omega arith)
 
   pub begins_with_message : walk.message ≡ walk.event → drop walk.event (map kept_meant es) ≢ [] → BeginsWithMessage (drop walk.event (map kept_meant es))
-  begins_with_message same some =
-      is_at_a_message (drop walk.event (map kept_meant es)) (sym placed.first ∙ ap (λ (n : ℕ). drop n (map kept_meant es)) same) some
+  begins_with_message same fact = grind (arith, is_at_a_message)
 
   pub begins_with_control : (walk.message ≡ walk.event → ⊥) → BeginsWithControl (drop walk.event (map kept_meant es))
-  begins_with_control other =
-      is_at_a_control (drop walk.event (map kept_meant es)) (λ same. other (same_place walk.message walk.event (map kept_meant es) placed.message placed.event (placed.first ∙ same)))
+  begins_with_control other = grind (arith, is_at_a_control, same_place)
 
   -- ---- after a step
 
   pub placed_control : BeginsWithControl (drop walk.event (map kept_meant es)) → IsPlaced (record walk { event = walk.event + 1 }) (map kept_meant es)
-  placed_control begins =
-      let following = after_one walk.event (map kept_meant es) _ _ begins.3 in
-      record { event = following.0; message = placed.message; first = placed.first ∙ ap from_message begins.3 ∙ sym (ap from_message following.1) }
+  placed_control begins = grind (arith, after_one)

@@ -1,5 +1,5 @@
 -- All of a stream's events, kept, at each answer of their source.
-use Rattle.std.proofs.Common.{◌≡◌, ℕ, ◌+◌, ◌≤◌, Option, Some, IfSome, Result, Ok, Err, false, List, [], ◌∷◌, ◌++◌, length, map, take, append-nil, inl, inr, sym, ap, ◌∙◌, subst}
+use Rattle.std.proofs.Common.{◌≡◌, ℕ, ◌+◌, ◌≤◌, Option, Some, IfSome, Result, Ok, Err, false, List, [], ◌∷◌, ◌++◌, length, map, take, append-nil, inr, sym, ap, ◌∙◌, subst, arith}
 use Rattle.wsn_io.proofs.Received.{consumed_none, received_none, received_on}
 use Rattle.wsn_wire.specs.declared.endpoint.Role.{Role}
 use Rattle.wsn_wire.specs.declared.opcode.Kind.{Kind}
@@ -59,12 +59,7 @@ gives_own {A} turn event is = subst (λ (t : Turn A). GivesEvent (Ok t)) (sym is
 
 module _ {A B : Type 0} (role : Role) (limits : Limits) (old : Incoming) where
   pub begins : (source : EventReader A) → HasGiven role limits source [] [] → old.failed ≡ false → HasGathered {B = B} role limits old old source []
-  begins source has readable = record {
-    came = [];
-    has = has;
-    received = received_none (limits.input + 1) old;
-    readable = readable;
-  }
+  begins source has readable = grind (arith, received_none)
 
   pub given_back : (mid : Incoming) (source next : EventReader A) (events : List (Kept B)) → IsAsBefore source next → HasGathered role limits old mid source events → HasGathered role limits old mid next events
   given_back mid source next events same gathered = record {
@@ -120,10 +115,7 @@ module _ {A B : Type 0} (role : Role) (limits : Limits) (old : Incoming) where
     }
       where
         of : (s : Stop) → IsLast role limits new (gathered.came ++ on.more) (map kept_meant events) (Err s) → IsStoppedAfter role limits new (gathered.came ++ on.more) s
-        of stop.Read last = last.0
-        of stop.InputLimit last = last.0
-        of stop.Memory last = (inl last.0, last.2)
-        of stop.Write last = absurd last.0
+        of s last = grind arith
 
     -- an event was given, which is kept or isn't
     module _ (result : Result (Turn A) Stop) (on : Answers result) (event : MeantEvent) (has : HasGiven role limits next (gathered.came ++ on.more) (map kept_meant events ++ event ∷ [])) (readable : new.failed ≡ false) where

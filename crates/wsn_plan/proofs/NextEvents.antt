@@ -1,5 +1,5 @@
 -- The event of a plan's next step, and its index.
-use Rattle.std.proofs.Common.{◌≡◌, ℕ, ◌+◌, ◌<◌, ◌≤◌, Some, List, [], ◌∷◌, length, drop, map, get_or, refl, sym, ap, ◌∙◌, subst, arith}
+use Rattle.std.proofs.Common.{◌≡◌, ℕ, ◌<◌, ◌≤◌, Some, List, [], ◌∷◌, length, drop, map, get_or, refl, ap, ◌∙◌, arith}
 use Rattle.std.proofs.lemmas.List.{length-map}
 use Rattle.wsn_wire.specs.declared.opcode.Kind.{Kind}
 use Rattle.wsn_wire.specs.declared.opcode.Op.{Op}
@@ -39,8 +39,7 @@ module _ {A : Type 0} (es : List (Kept A)) where
   is_within at e later is = let more = (after_one at (map kept_meant es) e later is).0 in omega (arith, more, length-map es kept_meant)
 
   pub is_there : (at : ℕ) (d : Kept A) (e : MeantEvent) (later : List MeantEvent) → d ≡ get_or es at d → drop at (map kept_meant es) ≡ e ∷ later → kept_meant d ≡ e
-  is_there at d e later found is =
-      head_same (kept_meant d) e (drop (at + 1) (map kept_meant es)) later (sym (stands_at es at d (is_within at e later is) found) ∙ is)
+  is_there at d e later found is = grind (arith, head_same, stands_at, is_within)
 
   pub first_there : (walk : Walk) → IsPlaced walk (map kept_meant es) → (text : List ℕ) → next_text (drop walk.event (map kept_meant es)) ≡ Some text
       → (first : IsFirst (drop walk.event (map kept_meant es)) text) × (drop walk.message (map kept_meant es) ≡ meant_event.Message first.kind text ∷ first.later)
@@ -49,6 +48,4 @@ module _ {A : Type 0} (es : List (Kept A)) where
       (first, placed.first ∙ first.from)
 
   pub control_is_short : (most at : ℕ) (op : Op) (body : List ℕ) (later : List MeantEvent) → AreLawful most (map kept_meant es) → drop at (map kept_meant es) ≡ meant_event.Control op body ∷ later → length body ≤ 125
-  control_is_short most at op body later lawful is =
-      let left = subst (AreLawful most) is (lawful_from most at (map kept_meant es) lawful) in
-      left.0.size
+  control_is_short most at op body later lawful is = grind (arith, lawful_from)

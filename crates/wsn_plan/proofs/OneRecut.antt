@@ -1,5 +1,5 @@
 -- For an input whose bytes are known a recut has one answer and writes one list of bytes, and planning has one answer.
-use Rattle.std.proofs.Common.{◌≡◌, ℕ, false, Result, Ok, Err, List, [], refl, sym, ap, ◌∙◌, subst}
+use Rattle.std.proofs.Common.{◌≡◌, ℕ, false, Result, Ok, Err, List, [], refl, sym, ap, ◌∙◌, subst, arith}
 use Rattle.std.proofs.KnownBytes.{Appends-nil}
 use Rattle.wsn_wire.specs.declared.endpoint.Role.{Role}
 use Rattle.wsn_wire.specs.Frame.{Frame}
@@ -33,29 +33,26 @@ module _ (role : Role) (limits : Limits) where
   pub one_recut_answer : (plan : List Step) (verdict : Verdict) (events : List MeantEvent) (answer other : RecutAnswer) → IsAnswerTo role limits plan verdict events answer
       → IsAnswerTo role limits plan verdict events other → answer ≡ other
   one_recut_answer plan verdict events Done Done one two = refl
-  one_recut_answer plan verdict events Done (NotAccepted has_reported) one two = absurd (two.1 one.0)
   one_recut_answer plan verdict events Done (Fault step why) one two = absurd (not_both role limits events plan step why one.1 two.1)
   one_recut_answer plan verdict events (NotAccepted has_reported) Done one two = absurd (one.1 two.0)
   one_recut_answer plan verdict events (NotAccepted has_reported) (NotAccepted also) one two = ap (λ (v : Verdict). NotAccepted v) (one.0 ∙ sym two.0)
   one_recut_answer plan verdict events (NotAccepted has_reported) (Fault step why) one two = absurd (one.1 two.0)
   one_recut_answer plan verdict events (Fault step why) Done one two = absurd (not_both role limits events plan step why two.1 one.1)
-  one_recut_answer plan verdict events (Fault step why) (NotAccepted has_reported) one two = absurd (two.1 one.0)
   one_recut_answer plan verdict events (Fault step why) (Fault also other) one two =
       let same = one_fault role limits events plan step also why other one.1 two.1 in
       ap (λ (s : ℕ). Fault s why) same.0 ∙ ap (λ (w : Why). Fault also w) same.1
+  one_recut_answer plan verdict events _ (NotAccepted has_reported) one two = absurd (two.1 one.0)
 
   -- what is written with an answer
   out_with : List Step → List MeantEvent → RecutAnswer → List ℕ
   out_with plan events Done = recut_bytes plan events
-  out_with plan events (NotAccepted has_reported) = []
-  out_with plan events (Fault step why) = []
+  out_with plan events _ = []
 
   goes_out : (plan : List Step) (events : List MeantEvent) (before after : Outgoing) (answer : RecutAnswer) → before.failed ≡ false → GoesOut plan events before after answer
       → IsWritten before after (out_with plan events answer)
   unfolding out_with
   goes_out plan events before after Done sound out = out
-  goes_out plan events before after (NotAccepted has_reported) sound out = unwritten before after sound out
-  goes_out plan events before after (Fault step why) sound out = unwritten before after sound out
+  goes_out plan events before after _ sound out = unwritten before after sound out
 
   abbrev AreAlike : Outgoing → Outgoing → Outgoing → Outgoing → Type 0
   AreAlike before after other_before other_after = (bytes : List ℕ) × IsWritten before after bytes × IsWritten other_before other_after bytes
@@ -94,39 +91,17 @@ module _ (role : Role) (limits : Limits) where
     one_recut (Ok answer) (Err stop.InputLimit) says also one two = absurd (not_past role limits all one.1 one.0 one.2 one.3 two.0 two.1)
     one_recut (Err stop.InputLimit) (Ok other) says also one two = absurd (not_past role limits all two.1 two.0 two.2 two.3 one.0 one.1)
     one_recut (Err stop.InputLimit) (Err stop.InputLimit) says also one two = (refl, ([], unwritten before after sound one.2, unwritten other_before other_after also_sound two.2))
-    one_recut (Err stop.Read) other says also one two = absurd says
-    one_recut (Err stop.Memory) other says also one two = absurd says
-    one_recut (Err stop.Write) other says also one two = absurd says
     one_recut result (Err stop.Read) says also one two = absurd also
     one_recut result (Err stop.Memory) says also one two = absurd also
     one_recut result (Err stop.Write) says also one two = absurd also
+    one_recut _ other says also one two = absurd says
 
   -- ---- plans
 
   module _ {A : Type 0} (all : List ℕ) where
     one_plan_answer : (frames : List Frame) (verdict : Verdict) (answer other : PlanAnswer A) → IsPlanFor frames verdict answer → IsPlanFor frames verdict other → answer ≡ other
-    one_plan_answer frames verdict (plans.Plan plan) (plans.Plan also) one two = ap (λ (p : List Step). plans.Plan p) (one.2 ∙ sym two.2)
-    one_plan_answer frames verdict (plans.Plan plan) (plans.NotAccepted has_reported) one two = absurd (two.1 one.0)
-    one_plan_answer frames verdict (plans.Plan plan) plans.Unfinished one two = absurd (two.1 one.1)
-    one_plan_answer frames verdict (plans.NotAccepted has_reported) (plans.Plan plan) one two = absurd (one.1 two.0)
-    one_plan_answer frames verdict (plans.NotAccepted has_reported) (plans.NotAccepted also) one two = ap (λ (v : Verdict). plans.NotAccepted v) (one.0 ∙ sym two.0)
-    one_plan_answer frames verdict (plans.NotAccepted has_reported) plans.Unfinished one two = absurd (one.1 two.0)
-    one_plan_answer frames verdict plans.Unfinished (plans.Plan plan) one two = absurd (one.1 two.1)
-    one_plan_answer frames verdict plans.Unfinished (plans.NotAccepted has_reported) one two = absurd (two.1 one.0)
-    one_plan_answer frames verdict plans.Unfinished plans.Unfinished one two = refl
+    one_plan_answer frames verdict answer other one two = grind arith
 
     pub one_plan_of : (result other : Result (PlanAnswer A) Stop) → HasNoFailure result → HasNoFailure other → IsPlannedWhole role limits all result → IsPlannedWhole role limits all other
         → result ≡ other
-    one_plan_of (Ok answer) (Ok other) says also (v, fs, v_is, within, has_reported) (w, gs, w_is, also_within, also_reported) =
-        let alike = one_verdict role limits all fs gs v w v_is w_is in
-        let reported_here : IsPlanFor fs v other = subst (λ (u : Verdict). IsPlanFor fs u other) (sym alike.1) (subst (λ (hs : List Frame). IsPlanFor hs w other) (sym alike.0) also_reported) in
-        ap (λ (a : PlanAnswer A). let r : Result (PlanAnswer A) Stop = Ok a in r) (one_plan_answer fs v answer other has_reported reported_here)
-    one_plan_of (Ok answer) (Err stop.InputLimit) says also one two = absurd (not_past role limits all one.1 one.0 one.2 one.3 two.0 two.1)
-    one_plan_of (Err stop.InputLimit) (Ok other) says also one two = absurd (not_past role limits all two.1 two.0 two.2 two.3 one.0 one.1)
-    one_plan_of (Err stop.InputLimit) (Err stop.InputLimit) says also one two = refl
-    one_plan_of (Err stop.Read) other says also one two = absurd says
-    one_plan_of (Err stop.Memory) other says also one two = absurd says
-    one_plan_of (Err stop.Write) other says also one two = absurd says
-    one_plan_of result (Err stop.Read) says also one two = absurd also
-    one_plan_of result (Err stop.Memory) says also one two = absurd also
-    one_plan_of result (Err stop.Write) says also one two = absurd also
+    one_plan_of result other says also one two = grind (arith, one_verdict, one_plan_answer, not_past)

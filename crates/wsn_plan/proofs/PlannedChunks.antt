@@ -10,15 +10,15 @@ use Rattle.wsn_rules.specs.declared.step.Step.{Step}
 use Rattle.wsn_rules.specs.declared.verdict.Refusal.{Refusal}
 use Rattle.wsn_rules.specs.Heads.{info_of}
 use Rattle.wsn_rules.specs.Limits.{Limits}
-use Rattle.wsn_rules.specs.Recut.{step_of, plan_of}
+use Rattle.wsn_rules.specs.Recut.{plan_of}
 use Rattle.wsn_scan.specs.declared.part.Part.{Part}
 use Rattle.wsn_scan.specs.declared.part.Taken.{Taken}
 use Rattle.wsn_scan.specs.declared.part.Taken.TheVariants as taken
 use Rattle.wsn_scan.specs.declared.scan.Scan.{Scan}
 use Rattle.wsn_scan.specs.Feeding.{HasScannedBytes, IsRunning, heads_in}
-use Rattle.wsn_scan.specs.Parts.{Finds, IsPart}
+use Rattle.wsn_scan.specs.Parts.{Finds}
 use Rattle.wsn_scan.specs.Positions.{Position}
-use Rattle.wsn_scan.specs.Scans.{HasScanned, IsReachedBy, AdvancesFrom, room_of, refusal_in}
+use Rattle.wsn_scan.specs.Scans.{HasScanned, AdvancesFrom, room_of, refusal_in}
 use Rattle.wsn_scan.proofs.FedPieces.{IsFedTo, bytes_after, share_is, fed_further}
 use Rattle.wsn_scan.proofs.FoundHeads.{takes_by, takes_some, runs_on}
 use Rattle.wsn_plan.specs.Gathering.{HasWholeFrame}
@@ -34,9 +34,7 @@ pub record IsPlannedTo (old scan : Scan) (chunk here : List ℕ) (before plan : 
 -- the plan of one frame more
 one_more : (plan kept : List Step) (frames after : List Frame) (f : Frame) (place : ℕ) (head : HeadInfo) (step : Step) → plan ≡ plan_of frames → head ≡ info_of place f → step ≡ step_of_head head → kept ≡ plan ++ step ∷ []
     → after ≡ frames ++ f ∷ [] → kept ≡ plan_of after
-one_more plan kept frames after f place head step steps head_is step_is kept_is after_is =
-    let same : step ≡ step_of f = step_is ∙ ap (λ (i : HeadInfo). step_of_head i) head_is in
-    kept_is ∙ ap (λ (s : Step). plan ++ s ∷ []) same ∙ ap (λ (all : List Step). all ++ step_of f ∷ []) steps ∙ sym (map-append step_of frames (f ∷ [])) ∙ ap (λ (fs : List Frame). plan_of fs) (sym after_is)
+one_more plan kept frames after f place head step steps head_is step_is kept_is after_is = grind (arith, map-append)
 
 no_frame : (before : List Frame) (f : Frame) → before ++ f ∷ [] ≡ [] → ⊥
 no_frame [] f is = cc
@@ -44,35 +42,24 @@ no_frame (b ∷ before) f is = cc
 
 -- a whole frame is one too if more bytes come
 frame_longer : (role : Role) (limits : Limits) (bytes more all : List ℕ) → bytes ++ more ≡ all → HasWholeFrame role limits bytes → HasWholeFrame role limits all
-frame_longer role limits bytes more all is h = record {
-  frames = h.frames;
-  lawful = h.lawful;
-  some = h.some;
-  rest = h.rest ++ more;
-  whole = sym is ∙ ap (λ (bs : List ℕ). bs ++ more) h.whole ∙ append_assoc (stream h.frames) h.rest more;
-}
+frame_longer role limits bytes more all is h = grind (arith, append_assoc)
 
 pub plans_none : (scan : Scan) (chunk : List ℕ) (plan : List Step) → PlansPrefix scan scan chunk 0 plan plan
 plans_none scan chunk plan role limits bytes came = subst (λ (bs : List ℕ). HasScannedPlan role limits scan bs plan) (sym (append-nil bytes)) came
 
 -- the bytes of two parts of a chunk
 joined : (bytes chunk share : List ℕ) (at n : ℕ) → share ≡ drop at chunk → (bytes ++ take at chunk) ++ take n share ≡ bytes ++ take (at + n) chunk
-joined bytes chunk share at n is =
-    append_assoc bytes (take at chunk) (take n share) ∙ ap (λ (bs : List ℕ). bytes ++ (take at chunk ++ take n bs)) is ∙ ap (λ (bs : List ℕ). bytes ++ bs) (sym (take-add at n chunk))
+joined bytes chunk fact at n is = grind (arith, append_assoc, take-add)
 
 plans_further : (old mid new : Scan) (chunk share : List ℕ) (at n : ℕ) (before plan kept : List Step) → share ≡ drop at chunk → PlansPrefix old mid chunk at before plan → PlansPrefix mid new share n plan kept
     → PlansPrefix old new chunk (at + n) before kept
-plans_further old mid new chunk share at n before plan kept is first second role limits bytes came =
-    subst (λ (bs : List ℕ). HasScannedPlan role limits new bs kept) (joined bytes chunk share at n is) (second role limits (bytes ++ take at chunk) (first role limits bytes came))
+plans_further old mid new chunk fact at n before plan kept is first second role limits bytes came = grind (arith, joined)
 
 -- ---- one call
 
 same_frames : (found : Taken) (part : Part) (payload : List ℕ) (fs : List Frame) (at : Position) (frames : List Frame) (position : Position) → Finds found part payload fs at frames position → (found ≡ taken.Part → part.ends ≡ false)
     → frames ≡ fs
-same_frames taken.More part payload fs at frames position is none = is.0
-same_frames taken.Part part payload fs at frames position is none = (is.goes_on.within (none refl)).0
-same_frames taken.Closed part payload fs at frames position is none = is.0
-same_frames taken.Refused part payload fs at frames position is none = is.0
+same_frames found part payload fs at frames position is none = grind arith
 
 module _ (old new : Scan) (chunk after : List ℕ) (n : ℕ) (found : Taken) (part : Part) (advances : AdvancesFrom old.stage old new chunk after n found part) (in_bytes : IsBytes chunk) where
   -- no frame ends
@@ -98,18 +85,7 @@ module _ (old new : Scan) (chunk after : List ℕ) (n : ℕ) (found : Taken) (pa
       pub has_scanned : HasScanned role limits new bytes (before ++ frame ∷ []) since position
 
     ends_one : (role : Role) (limits : Limits) (bytes since : List ℕ) (before : List Frame) (at : Position) → HasScanned role limits old bytes before since at → EndsOne role limits (bytes ++ take n chunk) before
-    ends_one role limits bytes since before at came =
-        let reached : IsReachedBy role limits new (bytes ++ take n chunk) (Finds found part (drop part.start (take n after)) before at) = (advances role limits bytes since before at in_bytes came).0 in
-        let one : IsPart before at part (drop part.start (take n after)) reached.frames reached.position =
-        subst (λ (f : Taken). Finds f part (drop part.start (take n after)) before at reached.frames reached.position) is reached.found in
-        let ended = one.goes_on.ends last in
-        record {
-          frame = ended.0;
-          head_is = ended.1;
-          since = reached.since;
-          position = reached.position;
-          has_scanned = subst (λ (fs : List Frame). HasScanned role limits new (bytes ++ take n chunk) fs reached.since reached.position) ended.3 reached.has_scanned;
-        }
+    ends_one role limits bytes since before at came = grind arith
 
     plans_one : (plan : List Step) (step : Step) (kept : List Step) → step ≡ step_of_head part.head → kept ≡ plan ++ step ∷ [] → PlansPrefix old new chunk n plan kept
     plans_one plan step kept step_is kept_is role limits bytes came =
@@ -174,11 +150,9 @@ module _ (old scan new : Scan) (chunk here after : List ℕ) (before plan : List
     -- it consumes a byte, if the chunk has one
     pub falls : IsRunning old → (found ≡ taken.Refused → ⊥) → at < length here → length chunk - (at + n) < length chunk - at
     falls running other more =
-        let size : length share ≡ length (drop at chunk) = ap (λ (bs : List ℕ). length bs) is_rest in
-        let some : 0 < length share = omega (arith, size, length-drop at chunk, so_far.fed.size, more) in
+        let some : 0 < length share = omega (arith, ap (λ (bs : List ℕ). length bs) is_rest, length-drop at chunk, so_far.fed.size, more) in
         let on = runs_on old scan chunk at so_far.fed.consumes.0 running so_far.fed.consumes.1 in
-        let one = takes_some scan new share after n found part advances in_share on other some in
-        omega (arith, one, so_far.fed.size, more)
+        omega (arith, takes_some scan new share after n found part advances in_share on other some, so_far.fed.size, more)
 
   -- a frame ended, and its step isn't added
   pub no_memory : found ≡ taken.Part → part.ends ≡ true → HasFrameEnd old chunk

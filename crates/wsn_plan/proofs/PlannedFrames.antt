@@ -1,5 +1,5 @@
 -- The plan of the frames of an input that comes in chunks.
-use Rattle.std.proofs.Common.{◌≡◌, ◌≢◌, ℕ, ◌+◌, ◌<◌, ◌≤◌, true, false, Option, None, Some, Result, Ok, Err, List, [], ◌∷◌, ◌++◌, length, take, refl, sym, ap, ◌∙◌, subst, append-nil, arith}
+use Rattle.std.proofs.Common.{◌≡◌, ◌≢◌, ℕ, ◌+◌, ◌≤◌, Option, None, Some, Result, Ok, Err, List, [], ◌++◌, length, refl, sym, ap, ◌∙◌, subst, append-nil, arith}
 use Rattle.std.proofs.lemmas.List.{take_all}
 use Rattle.std.specs.Io.KnownBytes.{Consumes}
 use Rattle.wsn_wire.specs.declared.endpoint.Role.{Role}
@@ -25,7 +25,7 @@ use Rattle.wsn_scan.specs.Feeding.{IsRunning}
 use Rattle.wsn_scan.specs.Judging.{IsStopped, IsWithinLimit}
 use Rattle.wsn_scan.specs.Positions.{Position, BetweenFrames}
 use Rattle.wsn_scan.specs.Refill.{chunk_size}
-use Rattle.wsn_scan.specs.Scans.{HasScanned, room_of, refusal_in, refusal_judged}
+use Rattle.wsn_scan.specs.Scans.{HasScanned, refusal_in, refusal_judged}
 use Rattle.wsn_scan.proofs.ChunksSoFar.{received, within_limit}
 use Rattle.wsn_scan.proofs.JudgedInputs.{HasRead, begins as read_none, stopped, ended, goes_on, refuses_input}
 use Rattle.wsn_scan.proofs.WholeInputs.{of_all}
@@ -38,12 +38,10 @@ use Rattle.wsn_plan.proofs.Recuts.{past_limit}
 -- ---- the answer
 
 none_open : (group : List Frame) → size_of_open group ≡ None → group ≡ []
-none_open [] none = refl
-none_open (f ∷ group) none = absurd cc
+none_open group none = grind arith
 
 some_open : (group : List Frame) → size_of_open group ≢ None → group ≢ []
-some_open [] some is = some refl
-some_open (f ∷ group) some is = cc
+some_open group fact is = grind arith
 
 answer_for : {A : Type 0} (role : Role) (limits : Limits) (came : List ℕ) (done : List Frame) (verdict : Verdict) (plan : List Step) (answer : PlanAnswer A)
     → IsVerdict role limits came done verdict → plan ≡ plan_of done → IsAnswerWith verdict plan answer → IsPlanFor done verdict answer
@@ -83,25 +81,13 @@ module _ (role : Role) (limits : Limits) (old : Incoming) where
         record { came = halt.all; received = judged.received; of_bytes = by halted halt.stops judged.answer }
       where
         by : (h : Stop) → StopsAt limits new halt.all h → IsStopped role limits new halt.all h → IsPlanOf {A = A} role limits new halt.all (Err h)
-        by stop.Memory stops is = absurd stops
-        by stop.Read stops is = is
-        by stop.InputLimit stops is = is
-        by stop.Write stops is = is
+        by h stops is = grind arith
 
     -- the input ended
     pub is_ended : {A : Type 0} (new : Incoming) (verdict : Verdict) (answer : PlanAnswer A) → IsEndOf limits old new so_far.came
         → ((bytes since : List ℕ) (fs : List Frame) (at : Position) → HasScanned role limits scan bytes fs since at → IsVerdict role limits bytes fs verdict) → refusal_judged verdict ≡ refusal_in scan
         → IsAnswerWith verdict plan answer → IsPlanned role limits old new (Ok answer)
-    is_ended new verdict answer end verdict_is reported says =
-        let read = so_far.read.taken in
-        let planned = so_far.planned in
-        let judged = ended role limits old mid chunks scan so_far.came so_far.heads so_far.read new verdict end (verdict_is so_far.came read.since read.frames read.position read.has_scanned) reported in
-        let is = verdict_is so_far.came planned.since planned.frames planned.position planned.has_scanned in
-        record {
-          came = so_far.came;
-          received = judged.received;
-          of_bytes = (verdict, planned.frames, judged.answer, is, answer_for role limits so_far.came planned.frames verdict plan answer is planned.steps says);
-        }
+    is_ended new verdict answer end verdict_is reported says = grind (arith, ended, received, answer_for)
 
     -- The scan got the next chunk.
     module _ (new : Incoming) (later : ChunkReader) (next : Scan) (piece : List ℕ) (come : HasCome limits old new later (so_far.came ++ piece)) (after : List Step) where
@@ -155,10 +141,7 @@ module _ {A : Type 0} (role : Role) (limits : Limits) where
             planned,
           )
       by_result rest left is (Err stop.InputLimit) says = past_limit role limits came rest all is says.0 says.1
-      by_result rest left is (Err stop.Read) says = tt
-      by_result rest left is (Err stop.Memory) says = tt
-      by_result rest left is (Err stop.Write) says = tt
+      by_result rest left is _ says = tt
 
       by_rest : (rest : Option (List ℕ)) → new.remaining ≡ rest → Consumes (Some all) rest came → IsPlannedWhole role limits all result
-      by_rest None left consumed = absurd consumed
-      by_rest (Some rest) left consumed = by_result rest left consumed result did.of_bytes
+      by_rest rest left consumed = grind (arith, by_result)

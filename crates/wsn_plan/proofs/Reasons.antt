@@ -1,5 +1,5 @@
 -- The first reason against a step, row by row of the table.
-use Rattle.std.proofs.Common.{◌≡◌, ◌≢◌, ℕ, ◌+◌, ◌-◌, ◌<◌, ◌≤◌, Option, None, Some, List, [], length, sym, ap, ◌∙◌, subst, inl, inr, arith}
+use Rattle.std.proofs.Common.{◌≡◌, ◌≢◌, ℕ, ◌+◌, ◌-◌, ◌<◌, ◌≤◌, Option, None, Some, List, [], length, sym, ◌∙◌, inl, inr, arith}
 use Rattle.std.proofs.lemmas.Option.{same_Some}
 use Rattle.wsn_text.proofs.Numbers.{less_or_not}
 use Rattle.wsn_wire.specs.declared.endpoint.Role.{Role}
@@ -7,7 +7,7 @@ use Rattle.wsn_wire.specs.declared.length_forms.Form.{Form}
 use Rattle.wsn_rules.specs.declared.step.Step.{Step}
 use Rattle.wsn_rules.specs.declared.step.Step.TheVariants.{Piece, Last, Control}
 use Rattle.wsn_rules.specs.declared.why.Why.{Why}
-use Rattle.wsn_rules.specs.declared.why.Why.TheVariants.{KeyMismatch, StepsLeft, NoMessage, PieceTooLong, TooManyPieces, NotAControl, NotAMessage, WrongForm, EventsLeft}
+use Rattle.wsn_rules.specs.declared.why.Why.TheVariants.{KeyMismatch, StepsLeft, NoMessage, PieceTooLong, TooManyPieces, NotAControl, NotAMessage, WrongForm}
 use Rattle.wsn_rules.specs.Limits.{Limits}
 use Rattle.wsn_rules.specs.Meaning.{MeantEvent}
 use Rattle.wsn_rules.specs.Plan.{next_text}
@@ -29,11 +29,7 @@ module _ (Held : Why → Type 0) where
   none_passed why held = omega arith
 
   pub pass : (why : Why) → Passed (order_of why) → (Held why → ⊥) → Passed (order_of why + 1)
-  pass why passed not other held =
-      elim (less_or_not (order_of why) (order_of other)) [
-        | inl less ↦ omega arith
-        | inr more ↦ absurd (not (subst Held (same_order other why (omega (arith, passed other held))) held))
-      ]
+  pass why passed not other held = grind (arith, less_or_not, same_order)
 
   pub first_is : (why : Why) → Passed (order_of why) → Held why → IsFirstWhy Held why
   first_is why passed held = record { holds = held; first = passed }
@@ -70,23 +66,19 @@ module _ (role : Role) (limits : Limits) (count held : ℕ) (left : List MeantEv
     piece_too_long longer = first_is OfPiece PieceTooLong (some_message_left (Piece len key form) keyed_piece some text is) (text, is, longer)
 
     pub short_enough : held + len ≤ length text → Passed OfPiece 4
-    short_enough within =
-        pass OfPiece PieceTooLong (some_message_left (Piece len key form) keyed_piece some text is)
-        (λ (other, also, longer). omega (arith, longer, within, ap (λ (t : List ℕ). length t) (same_Some other text (sym also ∙ is))))
+    short_enough within = grind (arith, pass, some_message_left, same_Some)
 
     pub one_too_many : held + len ≤ length text → IsOneTooMany limits count (Piece len key form) → IsFirstWhy OfPiece TooManyPieces
     one_too_many within many = first_is OfPiece TooManyPieces (short_enough within) many
 
     pub few_enough : held + len ≤ length text → (IsOneTooMany limits count (Piece len key form) → ⊥) → Passed OfPiece 7
-    few_enough within few =
-        pass OfPiece NotAMessage (pass OfPiece NotAControl (pass OfPiece TooManyPieces (short_enough within) few) (λ no. no)) (λ no. no)
+    few_enough within few = grind (arith, pass, short_enough)
 
     pub piece_wrong_form : held + len ≤ length text → (IsOneTooMany limits count (Piece len key form) → ⊥) → (IsAllowedForm limits.lengths form len → ⊥) → IsFirstWhy OfPiece WrongForm
     piece_wrong_form within few not = first_is OfPiece WrongForm (few_enough within few) not
 
     pub piece_passes : held + len ≤ length text → (IsOneTooMany limits count (Piece len key form) → ⊥) → IsAllowedForm limits.lengths form len → (why : Why) → OfPiece why → ⊥
-    piece_passes within few allowed =
-        none_holds OfPiece (pass OfPiece EventsLeft (pass OfPiece WrongForm (few_enough within few) (λ not. not allowed)) (λ no. no))
+    piece_passes within few allowed = grind (arith, none_holds, pass, few_enough)
 
   -- ---- of a Last
 
@@ -95,8 +87,7 @@ module _ (role : Role) (limits : Limits) (count held : ℕ) (left : List MeantEv
     OfLast = Holds role limits count held left (Last key form)
 
     of_message : Passed OfLast 6
-    of_message =
-        pass OfLast NotAControl (pass OfLast TooManyPieces (pass OfLast PieceTooLong (some_message_left (Last key form) keyed_last some text is) (λ no. no)) (λ no. no)) (λ no. no)
+    of_message = grind (arith, pass, some_message_left)
 
     pub not_a_message : BeginsWithControl left → IsFirstWhy OfLast NotAMessage
     not_a_message begins = first_is OfLast NotAMessage of_message begins
@@ -108,11 +99,7 @@ module _ (role : Role) (limits : Limits) (count held : ℕ) (left : List MeantEv
     last_wrong_form message not = first_is OfLast WrongForm (at_message message) (text, is, not)
 
     pub last_passes : (BeginsWithControl left → ⊥) → IsAllowedForm limits.lengths form (length text - held) → (why : Why) → OfLast why → ⊥
-    last_passes message allowed =
-        none_holds OfLast (pass OfLast EventsLeft
-        (pass OfLast WrongForm (at_message message)
-        (λ (other, also, not). not (subst (λ (t : List ℕ). IsAllowedForm limits.lengths form (length t - held)) (same_Some text other (sym is ∙ also)) allowed)))
-        (λ no. no))
+    last_passes message allowed = grind (arith, none_holds, pass, at_message, same_Some)
 
   -- ---- of a Control
 
@@ -121,12 +108,10 @@ module _ (role : Role) (limits : Limits) (count held : ℕ) (left : List MeantEv
     OfControl = Holds role limits count held left (Control key)
 
     of_control : Passed OfControl 5
-    of_control =
-        pass OfControl TooManyPieces (pass OfControl PieceTooLong (pass OfControl NoMessage (some_event_left (Control key) keyed_control some) (λ no. no.0)) (λ no. no)) (λ no. no)
+    of_control = grind (arith, pass, some_event_left)
 
     pub not_a_control : BeginsWithMessage left → IsFirstWhy OfControl NotAControl
     not_a_control begins = first_is OfControl NotAControl of_control begins
 
     pub control_passes : (BeginsWithMessage left → ⊥) → (why : Why) → OfControl why → ⊥
-    control_passes control =
-        none_holds OfControl (pass OfControl EventsLeft (pass OfControl WrongForm (pass OfControl NotAMessage (pass OfControl NotAControl of_control control) (λ no. no)) (λ no. no)) (λ no. no))
+    control_passes control = grind (arith, none_holds, pass, of_control)

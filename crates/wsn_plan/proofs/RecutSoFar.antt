@@ -12,9 +12,9 @@ use Rattle.wsn_rules.specs.declared.step.Step.{Step}
 use Rattle.wsn_rules.specs.declared.step.Step.TheVariants.{Piece, Last, Control}
 use Rattle.wsn_rules.specs.Limits.{Limits}
 use Rattle.wsn_rules.specs.Meaning.{MeantEvent}
-use Rattle.wsn_rules.specs.Plan.{pending, total, events_left, next_text}
+use Rattle.wsn_rules.specs.Plan.{next_text}
 use Rattle.wsn_rules.specs.Fitting.{BeginsToFit}
-use Rattle.wsn_rules.specs.Recut.{next_message, step_frame, frame_at, frames_after, recut, recut_bytes}
+use Rattle.wsn_rules.specs.Recut.{next_message, frame_at, frames_after, recut, recut_bytes}
 use Rattle.wsn_rules.proofs.Prefixes.{push-append}
 use Rattle.wsn_rules.proofs.Walk.{stream-append}
 use Rattle.wsn_rules.proofs.PlanTheory.FitsFromTheFront.{begins_prefix, step_law}
@@ -51,16 +51,13 @@ module _ (es : List MeantEvent) where
 
 module _ (role : Role) (limits : Limits) (es : List MeantEvent) (plan : List Step) (walk : Walk) (walked : Follows role limits es plan walk) where
   pub frame_is : (step : Step) → frame_here walk (drop walk.event es) step ≡ frame_at es plan step
-  frame_is (Piece len key form) = λ i. step_frame (walked.counted i) (walked.summed i) (walked.remaining i) (Piece len key form)
-  frame_is (Last key form) = λ i. step_frame (walked.counted i) (walked.summed i) (walked.remaining i) (Last key form)
-  frame_is (Control key) = λ i. step_frame (walked.counted i) (walked.summed i) (walked.remaining i) (Control key)
+  frame_is step = grind arith
 
   pub form_is : (step : Step) → BeginsToFit role limits (plan ++ step ∷ []) es → EncodesItsLength walk (drop walk.event es) step
   form_is (Piece len key form) begins = (step_law role limits es plan (Piece len key form) begins).1.1.1
   form_is (Last key form) begins =
       let law = (step_law role limits es plan (Last key form) begins).1 in
-      let text_is : (next_message (drop walk.event es)).1 ≡ law.1 = ap (λ (left : List MeantEvent). (next_message left).1) (walked.remaining ∙ law.3) in
-      rw (text_is, walked.summed) law.5.1
+      rw (ap (λ (left : List MeantEvent). (next_message left).1) (walked.remaining ∙ law.3), walked.summed) law.5.1
   form_is (Control key) begins = tt
 
 -- ---- a plan that fits, step by step
@@ -79,15 +76,7 @@ module _ (es : List MeantEvent) (plan : List Step) (i : ℕ) (walk : Walk) (way 
       way.within.fits.begins)
 
   pub held_fits : (text : List ℕ) → next_text (drop walk.event es) ≡ Some text → (walk.held ≤ length text) × (length text < 2 ^ 63)
-  held_fits text is =
-      let left = events_left es (take i plan) in
-      let there : next_text left ≡ Some text = sym (ap next_text way.follows.remaining) ∙ is in
-      let fit = pending_fit way.within.limits (pending (take i plan)) left text way.within.range way.follows.begins.unended there in
-      let size : total (pending (take i plan)) ≤ length text = fit.size in
-      let held : walk.held ≡ total (pending (take i plan)) = way.follows.summed in
-      let bounded = next_is_lawful way.within.limits.message (drop walk.event es) text (lawful_from way.within.limits.message walk.event es way.within.lawful) is in
-      let most : way.within.limits.message ≤ 16777216 = way.within.range.message in
-      (omega (arith, size, held), omega (arith, bounded.1, most, ap (λ (t : List ℕ). length t) (next_is (drop walk.event es) text is)))
+  held_fits text is = grind (arith, pending_fit, next_is_lawful, lawful_from, next_is)
 
   module _ (d : Step) (less : i < length plan) where
     pub may_here : IsApplicable walk es (get_or plan i d)
@@ -113,11 +102,7 @@ module _ (es : List MeantEvent) (plan : List Step) (i : ℕ) (walk : Walk) (way 
 
     pub written_on : (before mid after : Outgoing) → IsWritten before mid (recut_bytes (take i plan) es) → IsWritten mid after (frame_bytes (frame_here walk (drop walk.event es) (get_or plan i d)))
         → IsWritten before after (recut_bytes (take (i + 1) plan) es)
-    written_on before mid after went next = (
-      next.0,
-      subst (λ (bs : List ℕ). Appends before.written after.written bs) more_bytes
-          (Appends-trans before.written mid.written after.written (recut_bytes (take i plan) es) (frame_bytes (frame_here walk (drop walk.event es) (get_or plan i d))) went.1 next.1),
-    )
+    written_on before mid after went next = grind (arith, more_bytes, Appends-trans)
 
     pub partly_on : (before mid after : Outgoing) → IsWritten before mid (recut_bytes (take i plan) es) → IsPartlyWritten mid after (frame_bytes (frame_here walk (drop walk.event es) (get_or plan i d)))
         → IsPartlyWritten before after (recut_bytes plan es)
@@ -132,5 +117,4 @@ module _ (es : List MeantEvent) (plan : List Step) (i : ℕ) (walk : Walk) (way 
         (failed, (longer.0, subst (λ (bs : List ℕ). Appends before.written after.written bs) same (Appends-trans before.written mid.written after.written front (take k frame) went.1 out)))
 
   pub all_written : (before after : Outgoing) → i ≡ length plan → IsWritten before after (recut_bytes (take i plan) es) → IsWritten before after (recut_bytes plan es)
-  all_written before after is went =
-      (went.0, subst (λ (steps : List Step). Appends before.written after.written (recut_bytes steps es)) (ap (λ (n : ℕ). take n plan) is ∙ take-length plan) went.1)
+  all_written before after is went = grind (arith, take-length)

@@ -1,5 +1,5 @@
 -- What a recut answers at each of its ends, for the bytes that came and for all bytes of an input.
-use Rattle.std.proofs.Common.{◌≡◌, ℕ, ◌+◌, ◌<◌, Option, None, Some, Result, Ok, Err, List, [], ◌++◌, length, take, map, inl, inr, refl, sym, ap, ◌∙◌, subst, append-nil, length-append, arith}
+use Rattle.std.proofs.Common.{◌≡◌, ℕ, ◌+◌, ◌<◌, Option, Some, Result, Ok, Err, List, [], ◌++◌, length, take, map, inl, inr, refl, sym, ap, ◌∙◌, subst, append-nil, length-append, arith}
 use Rattle.std.proofs.lemmas.List.{take-append-le, take_all, length-map}
 use Rattle.std.specs.Io.KnownBytes.{Consumes}
 use Rattle.wsn_wire.specs.declared.endpoint.Role.{Role}
@@ -23,7 +23,7 @@ use Rattle.wsn_events.specs.Sources.{IsMeaningOf}
 use Rattle.wsn_events.proofs.WholeNormalForms.{of_all}
 use Rattle.wsn_plan.specs.declared.gathering.Gathered.{Gathered}
 use Rattle.wsn_plan.specs.declared.recutting.RecutAnswer.{RecutAnswer}
-use Rattle.wsn_plan.specs.declared.recutting.RecutAnswer.TheVariants.{Done, NotAccepted, Fault}
+use Rattle.wsn_plan.specs.declared.recutting.RecutAnswer.TheVariants.{NotAccepted}
 use Rattle.wsn_plan.specs.Gathering.{HasWholeFrame, IsStoppedAfter, IsGathered}
 use Rattle.wsn_events.specs.Comparing.{IsAnAccepted}
 use Rattle.wsn_events.proofs.Comparisons.{not_accepted}
@@ -41,10 +41,8 @@ module _ {A B : Type 0} (role : Role) (limits : Limits) (planned : Planner) (old
   stopped_before stopped gathered = record { came = gathered.came; received = gathered.received; of_bytes = of stopped gathered.of_bytes }
     where
       of : (s : Stop) → IsStoppedAfter role limits new gathered.came s → IsRecutOf role limits planned new gathered.came before before (Err s)
-      of stop.Read has_reported = (has_reported, refl)
-      of stop.InputLimit has_reported = (has_reported, refl)
-      of stop.Memory has_reported = (has_reported, refl)
       of stop.Write has_reported = absurd has_reported
+      of _ has_reported = (has_reported, refl)
 
   module _ (g : Gathered A B) (gathered : IsGathered role limits old new (Ok g)) where
     abbrev events : List MeantEvent
@@ -61,8 +59,7 @@ module _ {A B : Type 0} (role : Role) (limits : Limits) (planned : Planner) (old
       frames_of : (fs : List Frame) × IsAccepted role limits gathered.came fs × (events ≡ meaning fs)
       frames_of =
           let meant_by : IsMeaningOf role limits gathered.came g.verdict events = gathered.of_bytes.1 in
-          let verdict = subst (λ (v : Verdict). IsVerdict role limits gathered.came meant_by.0 v) is meant_by.1 in
-          (meant_by.0, verdict.0, meant_by.2)
+          (meant_by.0, (subst (λ (v : Verdict). IsVerdict role limits gathered.came meant_by.0 v) is meant_by.1).0, meant_by.2)
 
       pub are_lawful : AreLawful limits.message events
       are_lawful = subst (AreLawful limits.message) (sym frames_of.2) (lawful_meaning role limits frames_of.0 frames_of.1.lawful gathered.range)
@@ -74,13 +71,12 @@ module _ {A B : Type 0} (role : Role) (limits : Limits) (planned : Planner) (old
           ok = accepted g.verdict s is
 
           of : (r : Result RecutAnswer Stop) → IsRefragmented role limits (planned events) events before after r → IsRecutOf role limits planned new gathered.came before after r
-          of (Ok Done) has_reported = (g.verdict, events, gathered.of_bytes, (ok, has_reported.0), has_reported.1)
           of (Ok (NotAccepted verdict)) has_reported = absurd has_reported
-          of (Ok (Fault step why)) has_reported = (g.verdict, events, gathered.of_bytes, (ok, has_reported.0), has_reported.1)
           of (Err stop.Write) has_reported = (g.verdict, events, gathered.of_bytes, (ok, has_reported.1), has_reported.2)
           of (Err stop.Read) has_reported = let no : stop.Read ≡ stop.Write = has_reported.0 in absurd cc
           of (Err stop.InputLimit) has_reported = let no : stop.InputLimit ≡ stop.Write = has_reported.0 in absurd cc
           of (Err stop.Memory) has_reported = let no : stop.Memory ≡ stop.Write = has_reported.0 in absurd cc
+          of _ has_reported = (g.verdict, events, gathered.of_bytes, (ok, has_reported.0), has_reported.1)
 
       reached : IsReached role limits new gathered.came (Accepted s)
       reached = subst (λ (v : Verdict). IsReached role limits new gathered.came v) is gathered.of_bytes.0
@@ -139,10 +135,7 @@ module _ (role : Role) (limits : Limits) (planned : Planner) where
             subst (λ (es : List MeantEvent). GoesOut (planned es) es before after answer) last.1.2 out,
           )
       by_result rest left is (Err stop.InputLimit) (has_reported, same) = let past = past_limit role limits came rest all is has_reported.0 has_reported.1 in (past.0, past.1, same)
-      by_result rest left is (Err stop.Read) has_reported = tt
-      by_result rest left is (Err stop.Memory) has_reported = tt
-      by_result rest left is (Err stop.Write) has_reported = tt
+      by_result rest left is _ has_reported = tt
 
       by_rest : (rest : Option (List ℕ)) → new.remaining ≡ rest → Consumes (Some all) rest came → IsRecutWhole role limits planned all before after result
-      by_rest None left consumed = absurd consumed
-      by_rest (Some rest) left consumed = by_result rest left consumed result did.of_bytes
+      by_rest rest left consumed = grind (arith, by_result)

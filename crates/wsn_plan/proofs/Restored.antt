@@ -1,5 +1,5 @@
 -- A normal form, refragmented by the plan of the input that it was written of, is that input.
-use Rattle.std.proofs.Common.{◌≡◌, ℕ, ◌+◌, ◌-◌, ◌≤◌, Bool, true, false, cond, Option, None, Some, Ok, List, [], ◌∷◌, ◌++◌, length, take, inl, inr, refl, sym, ap, ◌∙◌, subst, arith, length-append}
+use Rattle.std.proofs.Common.{◌≡◌, ℕ, ◌+◌, ◌-◌, ◌≤◌, Bool, cond, Option, None, Some, Ok, List, [], ◌∷◌, ◌++◌, length, take, refl, sym, ap, ◌∙◌, subst, arith, length-append}
 use Rattle.std.proofs.lemmas.List.{take-append-le, take_all}
 use Rattle.wsn_wire.specs.declared.endpoint.Role.{Role}
 use Rattle.wsn_wire.specs.declared.opcode.Op.{Op}
@@ -9,7 +9,7 @@ use Rattle.wsn_io.specs.Transfer.{Outgoing, IsWritten}
 use Rattle.wsn_rules.specs.declared.step.Step.{Step}
 use Rattle.wsn_rules.specs.declared.verdict.Summary.{Summary}
 use Rattle.wsn_rules.specs.declared.verdict.Verdict.{Verdict}
-use Rattle.wsn_rules.specs.declared.verdict.Verdict.TheVariants.{Accepted, Cut, Refused}
+use Rattle.wsn_rules.specs.declared.verdict.Verdict.TheVariants.{Accepted}
 use Rattle.wsn_rules.specs.Accepted.{IsAccepted}
 use Rattle.wsn_rules.specs.Fitting.{Fits}
 use Rattle.wsn_rules.specs.Group.{unfinished}
@@ -34,8 +34,7 @@ use Rattle.wsn_plan.proofs.OneRecut.{one_recut_answer}
 -- ---- the bytes used, and the tail
 
 after_an_open : (here : Bool) (code : Option ℕ) (later : Option (Option ℕ)) → cond here (Some code) later ≡ None → later ≡ None
-after_an_open true code later none = absurd cc
-after_an_open false code later none = none
+after_an_open here code later none = grind arith
 
 ends_closed : (before : List Frame) (f : Frame) → f.op ≡ Close → close_of (before ++ f ∷ []) ≡ None → ⊥
 ends_closed [] f is none =
@@ -50,20 +49,7 @@ pub record IsFront (all : List ℕ) (fs : List Frame) : Type 0 where
   pub without_close : close_of fs ≡ None → length all ≡ length (stream fs)
 
 accepted_front : (role : Role) (limits : Limits) (all : List ℕ) (fs : List Frame) → IsAccepted role limits all fs → IsFront all fs
-accepted_front role limits all fs accepted = elim accepted.ends [
-  | inl e ↦ record {
-    front = ap (λ (bs : List ℕ). take (length (stream fs)) bs) e.2 ∙ take_all (length (stream fs)) (stream fs) (omega arith);
-    within = omega (arith, ap (λ (bs : List ℕ). length bs) e.2);
-    without_close = λ none. ap (λ (bs : List ℕ). length bs) e.2;
-  }
-  | inr e ↦ record {
-    front =
-        ap (λ (bs : List ℕ). take (length (stream fs)) bs) e.1.1 ∙ take-append-le (length (stream fs)) (stream fs) e.1.0 (omega arith)
-        ∙ take_all (length (stream fs)) (stream fs) (omega arith);
-    within = omega (arith, ap (λ (bs : List ℕ). length bs) e.1.1, length-append (stream fs) e.1.0);
-    without_close = λ none. absurd (ends_closed e.0.0 e.0.1 e.0.2 (sym (ap close_of e.0.3) ∙ none));
-  }
-]
+accepted_front role limits all fs accepted = grind (arith, take_all, take-append-le, length-append, ends_closed)
 
 -- ---- the recut
 
@@ -137,5 +123,4 @@ module _ (role : Role) (limits : Limits) (range : InRange limits) (all : List �
             let by = restored_by s fs u_is finished same recut_before recut_after answer did in
             (by.0, subst (λ (w : Verdict). IsRestored all w recut_before recut_after) alike.1 by.1),
       )
-      by_verdict (Cut s) u_is ok alike = absurd ok
-      by_verdict (Refused r) u_is ok alike = absurd ok
+      by_verdict _ u_is ok alike = absurd ok

@@ -4,7 +4,7 @@ use Rattle.wsn_wire.specs.declared.endpoint.Role.{Role}
 use Rattle.wsn_wire.specs.Frame.{Frame, stream}
 use Rattle.wsn_io.specs.Transfer.{Outgoing, IsWritten}
 use Rattle.wsn_rules.specs.declared.verdict.Verdict.{Verdict}
-use Rattle.wsn_rules.specs.declared.verdict.Verdict.TheVariants.{Accepted, Cut, Refused}
+use Rattle.wsn_rules.specs.declared.verdict.Verdict.TheVariants.{Accepted}
 use Rattle.wsn_rules.specs.Accepted.{IsAccepted}
 use Rattle.wsn_rules.specs.Fitting.{Fits}
 use Rattle.wsn_rules.specs.Group.{unfinished}
@@ -45,5 +45,4 @@ module _ (role : Role) (limits : Limits) (planned : Planner) (all : List ℕ) (b
     where
       by_verdict : (v : Verdict) → IsVerdict role limits all fs v → IsAnAccepted v → MeansTheSame
       by_verdict (Accepted summary) v_is accepted = of_accepted fs v_is.0 fits written
-      by_verdict (Cut summary) v_is accepted = absurd accepted
-      by_verdict (Refused refusal) v_is accepted = absurd accepted
+      by_verdict _ v_is accepted = absurd accepted

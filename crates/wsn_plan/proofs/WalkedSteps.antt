@@ -40,11 +40,8 @@ module _ (role : Role) (limits : Limits) (es : List MeantEvent) where
 
   pub consumes : (plan : List Step) (walk : Walk) (step : Step) → Follows plan walk → BeginsToFit role limits (plan ++ step ∷ []) es → IsApplicable walk es step
   consumes plan walk (Piece len key form) walked begins =
-      let law = step_law role limits es plan (Piece len key form) begins in
-      let fit = law.1.0 in
-      let size : total (pending plan ++ Piece len key form ∷ []) ≤ length fit.0 = fit.2.size in
-      let summed : walk.held ≡ total (pending plan) = walked.summed in
-      (fit.0, ap next_text walked.remaining ∙ fit.1, omega (arith, size, summed, total_push (pending plan) (Piece len key form)))
+      let fit = (step_law role limits es plan (Piece len key form) begins).1.0 in
+      (fit.0, ap next_text walked.remaining ∙ fit.1, omega (arith, fit.2.size, walked.summed, total_push (pending plan) (Piece len key form)))
   consumes plan walk (Last key form) walked begins =
       let law = (step_law role limits es plan (Last key form) begins).1 in
       (law.0, law.1, law.2, walked.remaining ∙ law.3)
@@ -54,13 +51,7 @@ module _ (role : Role) (limits : Limits) (es : List MeantEvent) where
 
   -- the bytes of the Pieces fit 64 bits
   pub held_is_small : (walk : Walk) (step : Step) → InRange limits → AreLawful limits.message es → walk.held < 2 ^ 64 → IsApplicable walk es step → held_after walk.held step < 2 ^ 64
-  held_is_small walk (Piece len key form) range lawful small may =
-      let left = drop walk.event es in
-      let bounded = next_is_lawful limits.message left may.0 (lawful_from limits.message walk.event es lawful) may.1 in
-      let most : limits.message ≤ 16777216 = range.message in
-      omega (arith, may.2, bounded.1, most, ap (λ (t : List ℕ). length t) (next_is left may.0 may.1))
-  held_is_small walk (Last key form) range lawful small may = omega arith
-  held_is_small walk (Control key) range lawful small may = small
+  held_is_small walk step range lawful small may = grind (arith, next_is_lawful, lawful_from, next_is)
 
   pub walked_on : (plan : List Step) (walk next : Walk) (step : Step) → Follows plan walk → BeginsToFit role limits (plan ++ step ∷ []) es
       → next.pieces ≡ pieces_after walk.pieces step → next.held ≡ held_after walk.held step → next.event ≡ event_after walk.event step → Follows (plan ++ step ∷ []) next
@@ -104,15 +95,10 @@ module _ (role : Role) (limits : Limits) (es : List MeantEvent) where
 
   pub follows_on : (plan : List Step) (i : ℕ) (d : Step) (walk next : Walk) → i < length plan → Follows (take i plan) walk → BeginsToFit role limits (take i plan ++ get_or plan i d ∷ []) es
       → HasAdvancedBy walk next (get_or plan i d) → Follows (take (i + 1) plan) next
-  follows_on plan i d walk next less walked begins taken =
-      subst (λ (steps : List Step). Follows steps next) (sym (take_more plan i d less))
-      (walked_on (take i plan) walk next (get_or plan i d) walked begins taken.0 taken.1 taken.2)
+  follows_on plan i d walk next less walked begins taken = grind (arith, take_more, walked_on)
 
   pub at_the_end : (plan : List Step) (i : ℕ) (walk : Walk) → i ≡ length plan → Follows (take i plan) walk → Follows plan walk
-  at_the_end plan i walk is walked =
-      subst (λ (steps : List Step). Follows steps walk) (ap (λ (n : ℕ). take n plan) is ∙ take-length plan) walked
+  at_the_end plan i walk is walked = grind (arith, take-length)
 
 pub few_more : (pieces : ℕ) (step : Step) → pieces_after pieces step ≤ pieces + 1
-few_more pieces (Piece len key form) = omega arith
-few_more pieces (Last key form) = omega arith
-few_more pieces (Control key) = omega arith
+few_more pieces step = grind arith

@@ -50,8 +50,7 @@ number_or_none text =
     ]
 
 pub not_undecoded : (text : List ℕ) (fault : FromHexError) (key : Option (List ℕ)) → decode_of text ≡ Err fault → text ≢ codes "-" → EncodesKey text key → ⊥
-not_undecoded text fault None e differ spells = differ spells
-not_undecoded text fault (Some key) e differ spells = let both : Err fault ≡ Ok key = sym e ∙ spells.1 in cc both
+not_undecoded text fault key e differ spells = grind arith
 
 decoded_or_none : (text : List ℕ) (decoded : Result (List ℕ) FromHexError) → decode_of text ≡ decoded → text ≢ codes "-" → length text ≡ 8
     → ((key : Option (List ℕ)) × EncodesKey text key) ⊎ (((key : Option (List ℕ)) × EncodesKey text key) → ⊥)
@@ -59,8 +58,7 @@ decoded_or_none text (Ok key) e differ eight = inl (Some key, (eight, e))
 decoded_or_none text (Err fault) e differ eight = inr (λ (key, spells). not_undecoded text fault key e differ spells)
 
 pub not_of_another_length : (text : List ℕ) (key : Option (List ℕ)) → text ≢ codes "-" → length text ≢ 8 → EncodesKey text key → ⊥
-not_of_another_length text None differ long spells = differ spells
-not_of_another_length text (Some key) differ long spells = long spells.0
+not_of_another_length text key differ long spells = grind arith
 
 key_or_none : (text : List ℕ) → ((key : Option (List ℕ)) × EncodesKey text key) ⊎ (((key : Option (List ℕ)) × EncodesKey text key) → ⊥)
 key_or_none text =
@@ -74,9 +72,7 @@ key_or_none text =
     ]
 
 pub not_another_form : (text : List ℕ) (form : Form) → text ≢ codes "two" → text ≢ codes "eight" → 32 ∷ text ≡ form_text form → ⊥
-not_another_form text Shortest two eight e = nil-cons 32 text (sym e)
-not_another_form text Two two eight e = two (tail_same 32 32 text (codes "two") e)
-not_another_form text Eight two eight e = eight (tail_same 32 32 text (codes "eight") e)
+not_another_form text form two eight e = grind (arith, nil-cons, tail_same)
 
 form_or_none : (field : Option (List ℕ))
     → ((form : Form) × (preceded_by 32 field ≡ form_text form)) ⊎ (((form : Form) × (preceded_by 32 field ≡ form_text form)) → ⊥)
@@ -119,8 +115,7 @@ field_or_not : (text : List ℕ) → IsField text ⊎ (IsField text → ⊥)
 field_or_not text = let split = cut_at 32 text in field_at_cut text split.0 split.1 split.2
 
 maybe_field_or_not : (form : Option (List ℕ)) → IfSome form IsField ⊎ (IfSome form IsField → ⊥)
-maybe_field_or_not None = inl tt
-maybe_field_or_not (Some text) = field_or_not text
+maybe_field_or_not form = grind (arith, field_or_not)
 
 abbrev KeyAndForm : List ℕ → Type 0
 KeyAndForm text = (key : List ℕ) × (form : Option (List ℕ)) × AreKeyAndForm text key form
@@ -255,12 +250,10 @@ IsFoundFault why (inl encoded) = ⊥
 IsFoundFault why (inr faulty) = faulty.0 ≡ why
 
 step_of : (line : List ℕ) (step : Step) (found : StepOrFault line) → IsFoundStep step found → EncodesStep line step
-step_of line step (inl encoded) is = subst (EncodesStep line) is encoded.1
-step_of line step (inr faulty) is = absurd is
+step_of line step found is = grind arith
 
 fault_of : (line : List ℕ) (why : LineWhy) (found : StepOrFault line) → IsFoundFault why found → IsLineFault line why
-fault_of line why (inl encoded) is = absurd is
-fault_of line why (inr faulty) is = subst (IsLineFault line) is faulty.1
+fault_of line why found is = grind arith
 
 pub encodes : (line : List ℕ) (step : Step) → IsFoundStep step (decoded_line line) → EncodesStep line step
 encodes line step is = step_of line step (decoded_line line) is

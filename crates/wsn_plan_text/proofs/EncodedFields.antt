@@ -1,5 +1,5 @@
 -- A field encodes at most one number, key or form; and numbers, keys and forms are written as fields.
-use Rattle.std.proofs.Common.{◌≡◌, ◌≢◌, ℕ, ◌<◌, Option, None, Some, List, [], ◌∷◌, length, codes, Ok, refl, sym, ap, subst, ◌∙◌, true, arith}
+use Rattle.std.proofs.Common.{◌≡◌, ◌≢◌, ℕ, ◌<◌, Option, None, Some, List, [], ◌∷◌, length, codes, sym, ap, subst, ◌∙◌, true, arith}
 use Rattle.std.specs.Prelude.{decimal, IfSome}
 use Rattle.std.specs.Str.Parse.{AllDigits}
 use Rattle.std.specs.List.{AllPass}
@@ -55,24 +55,13 @@ key_has_no byte text None differs dash spells = subst (HasNo byte) (sym spells) 
 key_has_no byte text (Some key) differs dash spells = hex_digits_have_no byte text differs (decode_of-ok text key spells.1).1
 
 pub key_is_field : (text : List ℕ) (key : Option (List ℕ)) → EncodesKey text key → IsField text
-key_is_field text None spells = (
-  λ none. nil-cons 45 [] (sym none ∙ spells),
-  key_has_no 32 text None (λ e. cc e) (omega arith) spells,
-)
-key_is_field text (Some key) spells =
-    (some_digits text (omega (arith, spells.0)), key_has_no 32 text (Some key) (λ e. cc e) (omega arith) spells)
+key_is_field text key spells = grind (arith, nil-cons, key_has_no, some_digits)
 
 dash_is_short : (text : List ℕ) → text ≡ codes "-" → length text ≡ 8 → ⊥
 dash_is_short text e eight = let one = ap (λ (other : List ℕ). length other) e in omega (arith, one, eight)
 
 pub one_key : (text : List ℕ) (key other : Option (List ℕ)) → EncodesKey text key → EncodesKey text other → key ≡ other
-one_key text None None spells also = refl
-one_key text None (Some other) spells also = absurd (dash_is_short text spells also.0)
-one_key text (Some key) None spells also = absurd (dash_is_short text also spells.0)
-one_key text (Some key) (Some other) spells also =
-    let same : Ok key ≡ Ok other = sym spells.1 ∙ also.1 in
-    let keys : key ≡ other = cc in
-    ap Some keys
+one_key text key other spells also = grind (arith, dash_is_short)
 
 -- ---- forms
 
@@ -83,22 +72,13 @@ field_of Two = Some (codes "two")
 field_of Eight = Some (codes "eight")
 
 pub form_as_field : (form : Form) → form_text form ≡ preceded_by 32 (field_of form)
-form_as_field Shortest = refl
-form_as_field _ = refl
+form_as_field form = grind arith
 
 pub form_is_field : (form : Form) → IfSome (field_of form) IsField
-form_is_field Shortest = tt
-form_is_field Two = (λ e. nil-cons 116 (codes "wo") (sym e), (omega arith, (omega arith, (omega arith, tt))))
-form_is_field Eight =
-    (λ e. nil-cons 101 (codes "ight") (sym e), (omega arith, (omega arith, (omega arith, (omega arith, (omega arith, tt))))))
+form_is_field form = grind (arith, nil-cons)
 
 pub one_form : (form other : Form) → form_text form ≡ form_text other → form ≡ other
-one_form Shortest Shortest e = refl
-one_form Two Two e = refl
-one_form Eight Eight e = refl
-one_form _ _ e = absurd (cc e)
+one_form form other e = grind arith
 
 pub form_has_no_lf : (form : Form) → HasNo 10 (form_text form)
-form_has_no_lf Shortest = tt
-form_has_no_lf Two = (omega arith, (omega arith, (omega arith, (omega arith, tt))))
-form_has_no_lf Eight = (omega arith, (omega arith, (omega arith, (omega arith, (omega arith, (omega arith, tt))))))
+form_has_no_lf form = grind arith

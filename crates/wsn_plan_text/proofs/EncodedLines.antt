@@ -1,5 +1,5 @@
 -- A line encodes a step exactly if it has fields that encode it, and then it encodes no other.
-use Rattle.std.proofs.Common.{◌≡◌, ℕ, List, ◌++◌, codes, refl, sym, ap, ◌∙◌}
+use Rattle.std.proofs.Common.{◌≡◌, ℕ, List, ◌++◌, codes, refl, sym, ap, ◌∙◌, arith}
 use Rattle.wsn_wire.specs.declared.length_forms.Form.TheVariants.{Shortest}
 use Rattle.wsn_rules.specs.declared.step.Step.{Step}
 use Rattle.wsn_rules.specs.declared.step.Step.TheVariants as step
@@ -44,12 +44,7 @@ fields_of_step line (step.Last key form) spells = (
 fields_of_step line (step.Control key) spells = (OfControl spells.0, (key_is_field spells.0 key spells.1, spells.2), spells.1)
 
 pub step_of_fields : (line : List ℕ) (fields : Fields) (step : Step) → HasFields line fields → Tell fields step → EncodesStep line step
-step_of_fields line (OfPiece number key form) (step.Piece len code encoded) has tell =
-    (number, key, tell.0, tell.1, has.3 ∙ ap (λ (text : List ℕ). codes "piece " ++ number ++ codes " " ++ key ++ text) tell.2)
-step_of_fields line (OfLast key form) (step.Last code encoded) has tell =
-    (key, tell.0, has.2 ∙ ap (λ (text : List ℕ). codes "last " ++ key ++ text) tell.1)
-step_of_fields line (OfControl key) (step.Control code) has tell = (key, tell, has.1)
-step_of_fields line _ _ has tell = absurd tell
+step_of_fields line fields step has tell = grind arith
 
 -- ---- fields that encode a step encode each of its parts, and the other way round
 

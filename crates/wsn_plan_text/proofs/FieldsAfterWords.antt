@@ -1,8 +1,8 @@
 -- The fields of a line that is split at its first space, and of the text after its first word.
-use Rattle.std.proofs.Common.{◌≡◌, ◌≢◌, ℕ, Option, None, Some, List, [], ◌∷◌, ◌++◌, codes, refl, sym, ap, subst, ◌∙◌}
+use Rattle.std.proofs.Common.{◌≡◌, ◌≢◌, ℕ, Option, None, Some, List, [], ◌++◌, codes, refl, sym, subst, ◌∙◌, arith}
 use Rattle.std.proofs.lemmas.List.{append-nil}
-use Rattle.wsn_plan_text.specs.PlanText.{HasNo, preceded_by, IsField, Fields, OfPiece, OfLast, OfControl, HasFields}
-use Rattle.wsn_plan_text.specs.Splits.{IsSplit, AreKeyAndForm, first_word, rest_of, AreFieldsAfter}
+use Rattle.wsn_plan_text.specs.PlanText.{HasNo, preceded_by, IsField, Fields, OfPiece, OfLast, HasFields}
+use Rattle.wsn_plan_text.specs.Splits.{IsSplit, AreKeyAndForm, rest_of, AreFieldsAfter}
 use Rattle.wsn_plan_text.proofs.OneSplit.{one_cut}
 use Rattle.wsn_plan_text.proofs.FieldsOfLine.{fields_at_cut, from_parts, parts_of}
 
@@ -23,8 +23,7 @@ at_first_space text key other form more split are = one_cut 32 key other form mo
 
 pub piece_from_parts : (rest number more : List ℕ) → IsSplit 32 rest number (Some more) → number ≢ [] → (key : List ℕ) (form : Option (List ℕ))
     → AreKeyAndForm more key form → AreFieldsAfter (codes "piece") rest (OfPiece number key form)
-piece_from_parts rest number more split some key form are =
-    (((some, split.0), are.0, are.1), refl, sym (split.1 ∙ ap (λ (text : List ℕ). number ++ 32 ∷ text) are.2))
+piece_from_parts rest number more split fact key form are = grind arith
 
 -- a piece's fields, if the text after the word is split at its first space
 pub piece_at_cut : (rest number : List ℕ) (more : Option (List ℕ)) (fields : Fields) → IsSplit 32 rest number more
@@ -43,21 +42,16 @@ last_is_key_and_form rest (OfLast key form) are = (key, form, (are.0.0, are.0.1,
 last_is_key_and_form rest _ are = absurd (cc are.1)
 
 pub control_is_field : (rest : List ℕ) (fields : Fields) → AreFieldsAfter (codes "control") rest fields → IsField rest
-control_is_field rest (OfControl key) are = subst IsField are.2 are.0
-control_is_field rest _ are = absurd (cc are.1)
+control_is_field rest fields are = grind arith
 
 pub no_other_word : (word rest : List ℕ) (fields : Fields) → word ≢ codes "piece" → word ≢ codes "last" → word ≢ codes "control"
     → AreFieldsAfter word rest fields → ⊥
-no_other_word word rest (OfPiece number key form) piece last control are = piece (sym are.1)
-no_other_word word rest (OfLast key form) piece last control are = last (sym are.1)
-no_other_word word rest (OfControl key) piece last control are = control (sym are.1)
+no_other_word word rest fields piece last control are = grind arith
 
 -- ---- a line that is split at its first space
 
 pub fields_from_cut : (line word rest : List ℕ) (fields : Fields) → IsSplit 32 line word (Some rest) → AreFieldsAfter word rest fields → HasFields line fields
-fields_from_cut line word rest fields split are =
-    let e : line ≡ first_word fields ++ 32 ∷ rest_of fields = rw (are.1, are.2) split.1 in
-    from_parts line fields are.0 e
+fields_from_cut line word rest fields split are = grind (arith, from_parts)
 
 pub fields_after_cut : (line word rest : List ℕ) (fields : Fields) → IsSplit 32 line word (Some rest) → HasFields line fields → AreFieldsAfter word rest fields
 fields_after_cut line word rest fields split has =

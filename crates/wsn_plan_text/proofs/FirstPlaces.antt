@@ -42,8 +42,7 @@ found byte i at (x ∷ text) e = found_from byte i at x text (nat_eq x byte) ref
 missed_from : (byte i x : ℕ) (text : List ℕ) (passes : Bool) → nat_eq x byte ≡ passes
     → cond passes (Some i) (position_from (λ y. nat_eq y byte) (i + 1) text) ≡ None
     → ((j : ℕ) → position_from (λ y. nat_eq y byte) j text ≡ None → HasNo byte text) → HasNo byte (x ∷ text)
-missed_from byte i x text true here e later = cc e
-missed_from byte i x text false here e later = (eqb-false x byte here, later (i + 1) e)
+missed_from byte i x text passes here e later = grind (arith, eqb-false)
 
 missed : (byte i : ℕ) (text : List ℕ) → position_from (λ y. nat_eq y byte) i text ≡ None → HasNo byte text
 missed byte i [] e = tt
@@ -51,10 +50,7 @@ missed byte i (x ∷ text) e = missed_from byte i x text (nat_eq x byte) refl e 
 
 pub cut_at_place : (byte at : ℕ) (text : List ℕ) → Some at ≡ position (λ y. nat_eq y byte) text
     → (at < length text) × HasNo byte (take at text) × (text ≡ take at text ++ byte ∷ drop (at + 1) text)
-cut_at_place byte at text e =
-    let p = found byte 0 at text (sym (position_from-zero (λ y. nat_eq y byte) text) ∙ sym e) in
-    let same : p.0 ≡ at = omega (arith, p.1) in
-    rw same at p.2
+cut_at_place byte at text e = grind (arith, found, position_from-zero)
 
 pub cut_nowhere : (byte : ℕ) (text : List ℕ) → None ≡ position (λ y. nat_eq y byte) text → IsSplit byte text text None
 cut_nowhere byte text e = (missed byte 0 text (sym (position_from-zero (λ y. nat_eq y byte) text) ∙ sym e), sym (append-nil text))

@@ -1,5 +1,5 @@
 -- What holds of a plan's steps stays true when a step is pushed.
-use Rattle.std.proofs.Common.{◌≡◌, ◌<◌, ◌^◌, Bool, true, false, List, [], ◌∷◌, ◌++◌, IfSome, sym, subst}
+use Rattle.std.proofs.Common.{◌≡◌, ◌<◌, ◌^◌, Bool, true, List, [], ◌∷◌, ◌++◌, IfSome, arith}
 use Rattle.std.specs.Prelude.{if◌then◌else◌}
 use Rattle.std.specs.List.{AllByRecursion}
 use Rattle.wsn_wire.specs.Frame.{IsKey}
@@ -13,6 +13,4 @@ each_pushed P (y ∷ ys) x all one = (all.0, each_pushed P ys x all.1 one)
 
 pub pushed_held : (plan new : List Step) (step : Step) (pushed : Bool) → new ≡ (if pushed then plan ++ step ∷ [] else plan)
     → IsPlan plan × HasLengths plan → IfSome (key_of step) IsKey → piece_length step < 2 ^ 64 → IsPlan new × HasLengths new
-pushed_held plan new step true is held key small = subst (λ (steps : List Step). IsPlan steps × HasLengths steps) (sym is)
-    (each_pushed (λ (s : Step). IfSome (key_of s) IsKey) plan step held.0 key, each_pushed (λ (s : Step). piece_length s < 2 ^ 64) plan step held.1 small)
-pushed_held plan new step false is held key small = subst (λ (steps : List Step). IsPlan steps × HasLengths steps) (sym is) held
+pushed_held plan new step pushed is held key small = grind (arith, each_pushed)

@@ -1,17 +1,14 @@
 -- A text is split in one way at the first byte of a value.
-use Rattle.std.proofs.Common.{◌≡◌, ◌≢◌, ℕ, Option, None, Some, List, [], ◌∷◌, ◌++◌, refl, sym, ap}
+use Rattle.std.proofs.Common.{◌≡◌, ◌≢◌, ℕ, Option, List, [], ◌∷◌, ◌++◌, refl, sym, arith}
 use Rattle.wsn_rules.proofs.Prefixes.{head_same, tail_same, cons_same}
 use Rattle.wsn_plan_text.specs.PlanText.{HasNo, preceded_by}
 
 after_same : (byte : ℕ) (rest more : Option (List ℕ)) → preceded_by byte rest ≡ preceded_by byte more → rest ≡ more
-after_same byte None None e = refl
-after_same byte (Some text) (Some other) e = ap Some (tail_same byte byte text other e)
-after_same byte _ _ e = cc
+after_same byte rest more e = grind (arith, tail_same)
 
 -- what begins with a byte doesn't begin with another
 after_begins : (byte x : ℕ) (xs : List ℕ) (rest : Option (List ℕ)) → x ≢ byte → x ∷ xs ≡ preceded_by byte rest → ⊥
-after_begins byte x xs None differs e = cc
-after_begins byte x xs (Some text) differs e = differs (head_same x byte xs text e)
+after_begins byte x xs rest differs e = grind (arith, head_same)
 
 pub one_cut : (byte : ℕ) (first other : List ℕ) (rest more : Option (List ℕ)) → HasNo byte first → HasNo byte other
     → first ++ preceded_by byte rest ≡ other ++ preceded_by byte more → (first ≡ other) × (rest ≡ more)

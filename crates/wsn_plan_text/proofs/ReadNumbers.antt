@@ -1,9 +1,8 @@
 -- What `parse` accepts of a number's digits.
-use Rattle.std.proofs.Common.{◌≡◌, ◌≢◌, ℕ, ◌^◌, ◌<◌, ◌⊎◌, Result, Ok, Err, List, length, get_or, codes, sym, ap, subst, ◌∙◌, inl, inr, arith}
+use Rattle.std.proofs.Common.{◌≡◌, ◌≢◌, ℕ, ◌^◌, ◌<◌, ◌⊎◌, Result, Ok, Err, List, length, get_or, codes, sym, ap, subst, ◌∙◌, arith}
 use Rattle.std.specs.Prelude.{decimal, MatchResult, slice_index}
 use Rattle.std.specs.Str.{IsUtf8}
 use Rattle.std.specs.Str.Parse.{AllDigits, digits_value, ParsesUnsigned}
-use Rattle.std.proofs.lemmas.Bool.{cases_eq}
 use Rattle.std.proofs.lemmas.Str.{IsUtf8-from_ascii}
 use Rattle.std.proofs.lemmas.Fmt.{decimal_is_IsNumeral, decimal_digit, first_decimal, parse-decimal, decimal-digits_value, IsAscii-decimal}
 use Rattle.std.proofs.lemmas.Str.Parse.{IsNumeralModel, numerals_by_value, tells_digits, digit_at, without_leading_plus_none}
@@ -14,13 +13,7 @@ abbrev pub IsPlain : List ℕ → Type 0
 IsPlain text = (text ≡ codes "0") ⊎ ((48 < slice_index text 0) × (slice_index text 0 < 58))
 
 plain_decimal : (n : ℕ) → n < 2 ^ 64 → IsPlain (decimal n)
-plain_decimal n small =
-    elim (cases_eq n 0) [
-      | inl none ↦ inl (rw none (decimal_digit 0 (omega arith)))
-      | inr some ↦
-          let numeral = decimal_is_IsNumeral n small in
-          inr (first_decimal n (omega arith) small, omega (arith, digit_at (decimal n) 0 numeral.0.1 numeral.0.0))
-    ]
+plain_decimal n small = grind (arith, decimal_digit, decimal_is_IsNumeral, first_decimal, digit_at)
 
 pub number_is_plain : (text : List ℕ) (n : ℕ) → EncodesNumber text n → IsPlain text
 number_is_plain text n spells = subst IsPlain (sym spells.1) (plain_decimal n spells.0)
@@ -32,12 +25,10 @@ digits : IsNumeralModel (AllDigits 10) (digits_value 10)
 digits = numerals_by_value (AllDigits 10) tells_digits
 
 plain_is_unsigned : (text : List ℕ) → IsPlain text → get_or text 0 0 ≢ 43
-plain_is_unsigned text (inl zero_alone) plus = let first = ap (λ (other : List ℕ). get_or other 0 0) zero_alone in omega (arith, first, plus)
-plain_is_unsigned text (inr range) plus = let low = range.0 in omega (arith, low, plus)
+plain_is_unsigned text fact plus = grind arith
 
 plain_zero : (text : List ℕ) → IsPlain text → get_or text 0 0 ≡ 48 → length text ≡ 1
-plain_zero text (inl zero_alone) first = ap (λ (other : List ℕ). length other) zero_alone
-plain_zero text (inr range) first = let low = range.0 in absurd (omega (arith, low, first))
+plain_zero text fact first = grind arith
 
 pub number_read : {E : Type 0} (text : List ℕ) (read : Result ℕ E) → ParsesUnsigned 64 10 text read → IsPlain text
     → MatchResult read (EncodesNumber text) (λ e. (n : ℕ) → ¬ (EncodesNumber text n))

@@ -76,9 +76,4 @@ some_and_none text (x ∷ line) rest some e none =
 
 -- the rest gets shorter
 pub shorter : (text line rest : List ℕ) → IsNextLine text line rest → length rest < length text
-shorter text line rest next =
-    elim next.1 [
-      | inl ends ↦
-          omega (arith, ap (λ (other : List ℕ). length other) ends, length-append line (10 ∷ rest))
-      | inr unended ↦ some_and_none text line rest unended.0 unended.1 unended.2
-    ]
+shorter text line rest next = grind (arith, length-append, some_and_none)

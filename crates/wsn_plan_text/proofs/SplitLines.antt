@@ -21,9 +21,7 @@ some_text text empty e is_false none = eqb-false (length text) 0 (sym e ∙ is_f
 
 pub field_test : (text first : List ℕ) (rest : Option (Bor (List ℕ))) (whole : Bool) → IsSplit 32 text first (option_copied rest) → text ≢ []
     → is_some rest ≡ not whole → IsTrue whole ↔ IsField text
-field_test text first None true split some e = (λ holds. (some, uncut_is_clear text first split), λ field. refl)
-field_test text first (Some rest) false split some e = (λ holds. cc holds, λ field. absurd (cut_is_no_field text first rest.now split field))
-field_test text first _ _ split some e = cc e
+field_test text first rest whole split fact e = grind (arith, uncut_is_clear, cut_is_no_field)
 
 pub empty_key : (text key other : List ℕ) (rest form : Option (List ℕ)) → IsSplit 32 text key rest → key ≡ [] → AreKeyAndForm text other form → ⊥
 empty_key text key other rest form split none are =
@@ -51,7 +49,4 @@ piece_without_key rest number text more fields split e none are =
 pub fields_of_cut : (line word rest : List ℕ) (more : Option (List ℕ)) (result : Option declared.Fields) → IsSplit 32 line word more → more ≡ Some rest
     → MatchOption result ((fields : Fields) → ¬ (AreFieldsAfter word rest fields)) (λ fields. AreFieldsAfter word rest (seen fields))
     → MatchOption result ((fields : Fields) → ¬ (HasFields line fields)) (λ fields. HasFields line (seen fields))
-fields_of_cut line word rest more None split e none =
-    λ fields has. none fields (fields_after_cut line word rest fields (subst (IsSplit 32 line word) e split) has)
-fields_of_cut line word rest more (Some fields) split e are =
-    fields_from_cut line word rest (seen fields) (subst (IsSplit 32 line word) e split) are
+fields_of_cut line word rest more result split e none = grind (arith, fields_after_cut, fields_from_cut)

@@ -1,8 +1,8 @@
 -- The text that is written of a plan encodes the plan.
-use Rattle.std.proofs.Common.{◌≡◌, ℕ, zero, suc, ◌^◌, ◌<◌, Option, None, Some, List, [], ◌∷◌, ◌++◌, map, codes, refl, sym, ap, subst, inl, ◌∙◌, arith}
+use Rattle.std.proofs.Common.{◌≡◌, ℕ, zero, suc, ◌^◌, ◌<◌, Option, None, Some, List, [], ◌∷◌, ◌++◌, map, codes, refl, sym, ap, subst, ◌∙◌, arith}
 use Rattle.std.specs.Prelude.{decimal, IfSome}
 use Rattle.std.specs.List.{AllByRecursion, AllZip}
-use Rattle.hex.specs.Hex.{encode_lower, lower_digits}
+use Rattle.hex.specs.Hex.{lower_digits}
 use Rattle.hex.specs.Hex as hex
 use Rattle.hex.proofs.HexLemmas.{decode_of-encode_lower, length-encode_with}
 use Rattle.wsn_wire.specs.Frame.{IsBytes, IsKey}
@@ -48,8 +48,7 @@ line_text (step.Last key form) = codes "last " ++ key_text key ++ form_text form
 line_text (step.Control key) = codes "control " ++ key_text key
 
 ended_line : (step : Step) → step_line step ≡ line_text step ++ codes "\n"
-ended_line (step.Piece len key form) = refl
-ended_line _ = refl
+ended_line step = grind arith
 
 bytes_by_place : (bytes : List ℕ) → IsBytes bytes → hex.IsBytes bytes
 bytes_by_place [] all i = omega arith
@@ -62,9 +61,7 @@ key_encoded (Some key) is_key =
     (omega (arith, length-encode_with lower_digits key, is_key.0), decode_of-encode_lower key (bytes_by_place key is_key.1))
 
 line_encodes : (step : Step) → IfSome (key_of step) IsKey → piece_length step < 2 ^ 64 → EncodesStep (line_text step) step
-line_encodes (step.Piece len key form) is_key small = (decimal len, key_text key, (small, refl), key_encoded key is_key, refl)
-line_encodes (step.Last key form) is_key small = (key_text key, key_encoded key is_key, refl)
-line_encodes (step.Control key) is_key small = (key_text key, key_encoded key is_key, refl)
+line_encodes step is_key small = grind (arith, key_encoded)
 
 -- ---- what is written of a plan
 
@@ -85,6 +82,4 @@ text_of_lines (step ∷ plan) =
     ∙ ap (λ (text : List ℕ). line_text step ++ codes "\n" ++ text) (text_of_lines plan)
 
 pub text_encodes_plan : (plan : List Step) → IsPlan plan → AllByRecursion (λ step. piece_length step < 2 ^ 64) plan → EncodesPlan (plan_text plan) plan
-text_encodes_plan plan is_plan small =
-    let spell = lines_spell plan is_plan small in
-    (map line_text plan, record { each = lines_without_lf (map line_text plan) plan spell; joined = inl (text_of_lines plan) }, spell)
+text_encodes_plan plan is_plan small = grind (arith, lines_spell, lines_without_lf, text_of_lines)

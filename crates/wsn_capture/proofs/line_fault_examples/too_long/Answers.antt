@@ -1,4 +1,4 @@
-use Rattle.std.proofs.Common.{ℕ, List, [], ◌∷◌, inr, refl, arith}
+use Rattle.std.proofs.Common.{ℕ, List, [], ◌∷◌, arith}
 use Rattle.wsn_rules.specs.Examples.{greatest}
 use Rattle.wsn_rules.specs.Entries.{GivesEntry, without_cr}
 use Rattle.wsn_rules.specs.Entries.Entry.{Nothing}
@@ -7,8 +7,7 @@ use Rattle.wsn_capture.proofs.line_fault_examples.too_long.Goals as goal
 
 -- a comment is one without its CR, too
 still_a_comment : (comment : List ℕ) → GivesEntry (without_cr (35 ∷ comment)) Nothing
-still_a_comment [] = inr ([], refl)
-still_a_comment (c ∷ comment) = inr (without_cr (c ∷ comment), refl)
+still_a_comment comment = grind arith
 
 pub returns-clause-one_more : goal.returns-clause-one_more
 returns-clause-one_more c line long = first_of_long greatest [] line (omega arith) (omega (arith, long))

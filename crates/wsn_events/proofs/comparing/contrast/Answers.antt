@@ -32,41 +32,35 @@ loop-lent-init g c = record {
   rounds = omega (arith, few_rounds c.args.role c.args.limits c.new-events.result c.new-events.ensures, few_rounds c.args.role c.args.limits c.new-others.result c.new-others.ensures);
 }
 
-pub turn_after-requires-clause-begun : goal.turn_after-requires-clause-begun
-turn_after-requires-clause-begun g c =
-    let at = c.loop-lent.invariant in
-    after_begun c.loop-lent.events c.take_message-lent.new.self c.take_message-lent.result c.take_message-lent.ensures (begun c.args.without c.args.role c.args.limits c.args.first.now c.loop-lent.first c.loop-lent.events at.came at.given at.followed)
+pub turn_after-requires : goal.turn_after-requires
+turn_after-requires g c = record {
+  begun = let at = c.loop-lent.invariant in
+      after_begun c.loop-lent.events c.take_message-lent.new.self c.take_message-lent.result c.take_message-lent.ensures (begun c.args.without c.args.role c.args.limits c.args.first.now c.loop-lent.first c.loop-lent.events at.came at.given at.followed);
+  readable = let at = c.loop-lent.invariant in
+      after_readable c.loop-lent.events c.take_message-lent.new.self c.take_message-lent.result c.take_message-lent.ensures c.args.without c.loop-lent.first (readable c.args.without c.args.role c.args.limits c.args.first.now c.loop-lent.first c.loop-lent.events at.came at.given at.followed);
+}
 
-pub turn_after-requires-clause-readable : goal.turn_after-requires-clause-readable
-turn_after-requires-clause-readable g c =
-    let at = c.loop-lent.invariant in
-    after_readable c.loop-lent.events c.take_message-lent.new.self c.take_message-lent.result c.take_message-lent.ensures c.args.without c.loop-lent.first (readable c.args.without c.args.role c.args.limits c.args.first.now c.loop-lent.first c.loop-lent.events at.came at.given at.followed)
-
-pub turn_after-requires-in-loop-lent-clause-begun : goal.turn_after-requires-in-loop-lent-clause-begun
-turn_after-requires-in-loop-lent-clause-begun g c =
-    let at = c.loop-lent.invariant in
-    after_begun c.loop-lent.others c.take_other-other_lent.new.others c.take_other-other_lent.result c.take_other-other_lent.ensures (begun c.args.without c.args.role c.args.limits c.args.second.now c.loop-lent.second c.loop-lent.others at.other_came at.other_given at.other_followed)
-
-pub turn_after-requires-in-loop-lent-clause-readable : goal.turn_after-requires-in-loop-lent-clause-readable
-turn_after-requires-in-loop-lent-clause-readable g c =
-    let at = c.loop-lent.invariant in
-    after_readable c.loop-lent.others c.take_other-other_lent.new.others c.take_other-other_lent.result c.take_other-other_lent.ensures c.args.without c.loop-lent.second (readable c.args.without c.args.role c.args.limits c.args.second.now c.loop-lent.second c.loop-lent.others at.other_came at.other_given at.other_followed)
+pub turn_after-requires-in-loop-lent : goal.turn_after-requires-in-loop-lent
+turn_after-requires-in-loop-lent g c = record {
+  begun = let at = c.loop-lent.invariant in
+      after_begun c.loop-lent.others c.take_other-other_lent.new.others c.take_other-other_lent.result c.take_other-other_lent.ensures (begun c.args.without c.args.role c.args.limits c.args.second.now c.loop-lent.second c.loop-lent.others at.other_came at.other_given at.other_followed);
+  readable = let at = c.loop-lent.invariant in
+      after_readable c.loop-lent.others c.take_other-other_lent.new.others c.take_other-other_lent.result c.take_other-other_lent.ensures c.args.without c.loop-lent.second (readable c.args.without c.args.role c.args.limits c.args.second.now c.loop-lent.second c.loop-lent.others at.other_came at.other_given at.other_followed);
+}
 
 pub returns-in_err-turn : goal.returns-in_err-turn
 returns-in_err-turn g c =
     let out = err_from_is_err_and c.from_residual.result c.from_residual.ensures.1 in
-    let is : c.from_residual.result ≡ Err c.in_err-turn.field-0.0 = out.1 ∙ ap Err out.2 in
     let at = c.loop-lent.invariant in
     let e = c.take_message-lent.ensures in
     let reads : ReadsTurn c.args.without c.loop-lent.first c.turn_after.new.input c.loop-lent.events c.turn_after.new.source c.turn_after.result = turn_reads c.loop-lent.events c.take_message-lent.new.self c.take_message-lent.result e c.args.without c.loop-lent.first (readable c.args.without c.args.role c.args.limits c.args.first.now c.loop-lent.first c.loop-lent.events at.came at.given at.followed) c.turn_after.new.input c.turn_after.new.source c.turn_after.result c.turn_after.ensures.lent c.turn_after.ensures.own in
     let stopped = stops c.args.without c.args.role c.args.limits c.args.first.now c.loop-lent.first c.turn_after.new.input c.loop-lent.events c.turn_after.new.source at.came at.given c.turn_after.result at.followed reads c.in_err-turn.field-0.0 c.in_err-turn.was in
-    rw is
+    rw (out.1 ∙ ap Err out.2)
     (first_stops c.args.without c.args.role c.args.limits c.args.first.now c.turn_after.new.input c.args.second.now c.loop-lent.second c.loop-lent.others at.other_came at.other_given at.other_followed c.in_err-turn.field-0.0 stopped)
 
 pub returns-in_err-other : goal.returns-in_err-other
 returns-in_err-other g c =
     let out = err_from_is_err_and c.from_residual-in_err-other.result c.from_residual-in_err-other.ensures.1 in
-    let is : c.from_residual-in_err-other.result ≡ Err c.in_err-other.field-0.0 = out.1 ∙ ap Err out.2 in
     let at = c.loop-lent.invariant in
     let e = c.take_message-lent.ensures in
     let reads : ReadsTurn c.args.without c.loop-lent.first c.turn_after.new.input c.loop-lent.events c.turn_after.new.source c.turn_after.result = turn_reads c.loop-lent.events c.take_message-lent.new.self c.take_message-lent.result e c.args.without c.loop-lent.first (readable c.args.without c.args.role c.args.limits c.args.first.now c.loop-lent.first c.loop-lent.events at.came at.given at.followed) c.turn_after.new.input c.turn_after.new.source c.turn_after.result c.turn_after.ensures.lent c.turn_after.ensures.own in
@@ -74,24 +68,22 @@ returns-in_err-other g c =
     let other_reads : ReadsTurn c.args.without c.loop-lent.second c.turn_after-in-loop-lent.new.input c.loop-lent.others c.turn_after-in-loop-lent.new.source c.turn_after-in-loop-lent.result = turn_reads c.loop-lent.others c.take_other-other_lent.new.others c.take_other-other_lent.result d c.args.without c.loop-lent.second (readable c.args.without c.args.role c.args.limits c.args.second.now c.loop-lent.second c.loop-lent.others at.other_came at.other_given at.other_followed) c.turn_after-in-loop-lent.new.input c.turn_after-in-loop-lent.new.source c.turn_after-in-loop-lent.result c.turn_after-in-loop-lent.ensures.lent c.turn_after-in-loop-lent.ensures.own in
     let one = gives_turn c.args.without c.args.role c.args.limits c.args.first.now c.loop-lent.first c.turn_after.new.input c.loop-lent.events c.turn_after.new.source at.came at.given c.turn_after.result at.followed reads c.in_ok-turn.turn c.in_ok-turn.was in
     let stopped = stops c.args.without c.args.role c.args.limits c.args.second.now c.loop-lent.second c.turn_after-in-loop-lent.new.input c.loop-lent.others c.turn_after-in-loop-lent.new.source at.other_came at.other_given c.turn_after-in-loop-lent.result at.other_followed other_reads c.in_err-other.field-0.0 c.in_err-other.was in
-    rw is
+    rw (out.1 ∙ ap Err out.2)
     (second_stops c.args.without c.args.role c.args.limits c.args.first.now c.turn_after.new.input c.args.second.now c.turn_after-in-loop-lent.new.input c.loop-lent.events c.turn_after.new.source at.came at.given (meant_turn c.turn_after.new.source c.in_ok-turn.turn) one c.in_err-other.field-0.0 stopped)
 
-pub end_round-round-requires-clause-turn : goal.end_round-round-requires-clause-turn
-end_round-round-requires-clause-turn g c =
-    let at = c.loop-lent.invariant in
-    let e = c.take_message-lent.ensures in
-    let reads : ReadsTurn c.args.without c.loop-lent.first c.turn_after.new.input c.loop-lent.events c.turn_after.new.source c.turn_after.result = turn_reads c.loop-lent.events c.take_message-lent.new.self c.take_message-lent.result e c.args.without c.loop-lent.first (readable c.args.without c.args.role c.args.limits c.args.first.now c.loop-lent.first c.loop-lent.events at.came at.given at.followed) c.turn_after.new.input c.turn_after.new.source c.turn_after.result c.turn_after.ensures.lent c.turn_after.ensures.own in
-    let one = gives_turn c.args.without c.args.role c.args.limits c.args.first.now c.loop-lent.first c.turn_after.new.input c.loop-lent.events c.turn_after.new.source at.came at.given c.turn_after.result at.followed reads c.in_ok-turn.turn c.in_ok-turn.was in
-    one.lawful
-
-pub end_round-round-requires-clause-other : goal.end_round-round-requires-clause-other
-end_round-round-requires-clause-other g c =
-    let at = c.loop-lent.invariant in
-    let d = c.take_other-other_lent.ensures in
-    let other_reads : ReadsTurn c.args.without c.loop-lent.second c.turn_after-in-loop-lent.new.input c.loop-lent.others c.turn_after-in-loop-lent.new.source c.turn_after-in-loop-lent.result = turn_reads c.loop-lent.others c.take_other-other_lent.new.others c.take_other-other_lent.result d c.args.without c.loop-lent.second (readable c.args.without c.args.role c.args.limits c.args.second.now c.loop-lent.second c.loop-lent.others at.other_came at.other_given at.other_followed) c.turn_after-in-loop-lent.new.input c.turn_after-in-loop-lent.new.source c.turn_after-in-loop-lent.result c.turn_after-in-loop-lent.ensures.lent c.turn_after-in-loop-lent.ensures.own in
-    let two = gives_turn c.args.without c.args.role c.args.limits c.args.second.now c.loop-lent.second c.turn_after-in-loop-lent.new.input c.loop-lent.others c.turn_after-in-loop-lent.new.source at.other_came at.other_given c.turn_after-in-loop-lent.result at.other_followed other_reads c.in_ok-other.other c.in_ok-other.was in
-    two.lawful
+pub end_round-round-requires : goal.end_round-round-requires
+end_round-round-requires g c = record {
+  turn = let at = c.loop-lent.invariant in
+      let e = c.take_message-lent.ensures in
+      let reads : ReadsTurn c.args.without c.loop-lent.first c.turn_after.new.input c.loop-lent.events c.turn_after.new.source c.turn_after.result = turn_reads c.loop-lent.events c.take_message-lent.new.self c.take_message-lent.result e c.args.without c.loop-lent.first (readable c.args.without c.args.role c.args.limits c.args.first.now c.loop-lent.first c.loop-lent.events at.came at.given at.followed) c.turn_after.new.input c.turn_after.new.source c.turn_after.result c.turn_after.ensures.lent c.turn_after.ensures.own in
+      let one = gives_turn c.args.without c.args.role c.args.limits c.args.first.now c.loop-lent.first c.turn_after.new.input c.loop-lent.events c.turn_after.new.source at.came at.given c.turn_after.result at.followed reads c.in_ok-turn.turn c.in_ok-turn.was in
+      one.lawful;
+  other = let at = c.loop-lent.invariant in
+      let d = c.take_other-other_lent.ensures in
+      let other_reads : ReadsTurn c.args.without c.loop-lent.second c.turn_after-in-loop-lent.new.input c.loop-lent.others c.turn_after-in-loop-lent.new.source c.turn_after-in-loop-lent.result = turn_reads c.loop-lent.others c.take_other-other_lent.new.others c.take_other-other_lent.result d c.args.without c.loop-lent.second (readable c.args.without c.args.role c.args.limits c.args.second.now c.loop-lent.second c.loop-lent.others at.other_came at.other_given at.other_followed) c.turn_after-in-loop-lent.new.input c.turn_after-in-loop-lent.new.source c.turn_after-in-loop-lent.result c.turn_after-in-loop-lent.ensures.lent c.turn_after-in-loop-lent.ensures.own in
+      let two = gives_turn c.args.without c.args.role c.args.limits c.args.second.now c.loop-lent.second c.turn_after-in-loop-lent.new.input c.loop-lent.others c.turn_after-in-loop-lent.new.source at.other_came at.other_given c.turn_after-in-loop-lent.result at.other_followed other_reads c.in_ok-other.other c.in_ok-other.was in
+      two.lawful;
+}
 
 pub returns-in-Over : goal.returns-in-Over
 returns-in-Over g c =

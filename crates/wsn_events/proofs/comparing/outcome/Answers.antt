@@ -21,8 +21,5 @@ returns-in-None-clause-answer c part =
 pub returns-in-None-clause-differs : goal.returns-in-None-clause-differs
 returns-in-None-clause-differs c = search rules
 
-pub returns-in-Some-clause-answer : goal.returns-in-Some-clause-answer
-returns-in-Some-clause-answer c = search rules
-
-pub returns-in-Some-clause-differs : goal.returns-in-Some-clause-differs
-returns-in-Some-clause-differs c = search rules
+pub returns-in-Some : goal.returns-in-Some
+returns-in-Some c = record { answer = search rules; differs = search rules }

@@ -8,5 +8,4 @@ returns-then-is_ok c = c.is_whole.ensures c.args.bytes.now (c.feed.ensures.taken
 -- UTF-8 text begins as UTF-8 text does
 pub returns-else-is_ok : goal.returns-else-is_ok
 returns-else-is_ok c =
-    let begins = c.feed.ensures.ok [] c.new-utf8.ensures in
-    (λ yes. search rules, λ text. search (rules, begins.1 (text_begins c.args.bytes.now text)))
+    (λ yes. search rules, λ text. search (rules, (c.feed.ensures.ok [] c.new-utf8.ensures).1 (text_begins c.args.bytes.now text)))

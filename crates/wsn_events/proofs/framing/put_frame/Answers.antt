@@ -23,14 +23,8 @@ returns-else-put g c payload same =
           (c.put.ensures.failed w.if-put.false) (c.put.ensures.prefix w.if-put.false))
     ]
 
-pub head_as-head-requires-clause-size : goal.head_as-head-requires-clause-size
-head_as-head-requires-clause-size g c = search rules
-
-pub head_as-head-requires-clause-control : goal.head_as-head-requires-clause-control
-head_as-head-requires-clause-control g c = search rules
-
-pub head_as-head-requires-clause-fits : goal.head_as-head-requires-clause-fits
-head_as-head-requires-clause-fits g c = search rules
+pub head_as-head-requires : goal.head_as-head-requires
+head_as-head-requires g c = record { size = search rules; control = search rules; fits = search rules }
 
 pub deref-requires : goal.deref-requires
 deref-requires g c = search rules

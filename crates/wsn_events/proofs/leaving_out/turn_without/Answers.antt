@@ -16,45 +16,37 @@ loop-without-init g c = record {
 pub next_turn-requires : goal.next_turn-requires
 next_turn-requires g c = search rules
 
-pub returns-in_err-next_turn-clause-next : goal.returns-in_err-next_turn-clause-next
-returns-in_err-next_turn-clause-next g c role limits came given has =
-    let out = err_from_is_err_and c.from_residual.result c.from_residual.ensures.1 in
-    let is : c.from_residual.result ≡ Err c.in_err-next_turn.field-0.0 = out.1 ∙ ap Err out.2 in
-    let read = c.loop-without.invariant.read role limits came given has in
-    returns c.args.without role limits c.args.input.now came given c.loop-without.input c.next_turn.new.input c.loop-without.source c.next_turn.new.self read c.next_turn.result
-    (c.next_turn.ensures.next role limits (came ++ read.more) (given ++ read.passed) read.has) c.from_residual.result (c.in_err-next_turn.was ∙ sym is)
+pub returns-in_err-next_turn : goal.returns-in_err-next_turn
+returns-in_err-next_turn g c = record {
+  next = λ role limits came given has.
+      let out = err_from_is_err_and c.from_residual.result c.from_residual.ensures.1 in
+      let is : c.from_residual.result ≡ Err c.in_err-next_turn.field-0.0 = out.1 ∙ ap Err out.2 in
+      let read = c.loop-without.invariant.read role limits came given has in
+      returns c.args.without role limits c.args.input.now came given c.loop-without.input c.next_turn.new.input c.loop-without.source c.next_turn.new.self read c.next_turn.result
+      (c.next_turn.ensures.next role limits (came ++ read.more) (given ++ read.passed) read.has) c.from_residual.result (c.in_err-next_turn.was ∙ sym is);
+  not_left_out = search rules;
+  falls = search rules;
+  again = λ answer ended.
+      let out = err_from_is_err_and c.from_residual.result c.from_residual.ensures.1 in
+      let is : c.from_residual.result ≡ Err c.in_err-next_turn.field-0.0 = out.1 ∙ ap Err out.2 in
+      stays_ended c.loop-without.input c.next_turn.new.input c.loop-without.source c.next_turn.new.self c.next_turn.result c.next_turn.ensures.next c.next_turn.ensures.again
+      c.args.source.now c.args.input.now c.from_residual.result (c.in_err-next_turn.was ∙ sym is) answer ended (c.loop-without.invariant.again answer ended);
+}
 
-pub returns-in_err-next_turn-clause-not_left_out : goal.returns-in_err-next_turn-clause-not_left_out
-returns-in_err-next_turn-clause-not_left_out g c = search rules
-
-pub returns-in_err-next_turn-clause-falls : goal.returns-in_err-next_turn-clause-falls
-returns-in_err-next_turn-clause-falls g c = search rules
-
-pub returns-in_err-next_turn-clause-again : goal.returns-in_err-next_turn-clause-again
-returns-in_err-next_turn-clause-again g c answer ended =
-    let out = err_from_is_err_and c.from_residual.result c.from_residual.ensures.1 in
-    let is : c.from_residual.result ≡ Err c.in_err-next_turn.field-0.0 = out.1 ∙ ap Err out.2 in
-    stays_ended c.loop-without.input c.next_turn.new.input c.loop-without.source c.next_turn.new.self c.next_turn.result c.next_turn.ensures.next c.next_turn.ensures.again
-    c.args.source.now c.args.input.now c.from_residual.result (c.in_err-next_turn.was ∙ sym is) answer ended (c.loop-without.invariant.again answer ended)
-
-pub returns-in-Some-clause-next : goal.returns-in-Some-clause-next
-returns-in-Some-clause-next g c role limits came given has =
-    let read = c.loop-without.invariant.read role limits came given has in
-    returns c.args.without role limits c.args.input.now came given c.loop-without.input c.next_turn.new.input c.loop-without.source c.next_turn.new.self read c.next_turn.result
-    (c.next_turn.ensures.next role limits (came ++ read.more) (given ++ read.passed) read.has) (Ok c.in-Some.turn) (c.in_ok-next_turn.was ∙ ap Ok (sym c.in-Some.ensures.0))
-
-pub returns-in-Some-clause-not_left_out : goal.returns-in-Some-clause-not_left_out
-returns-in-Some-clause-not_left_out g c = search rules
-
-pub returns-in-Some-clause-falls : goal.returns-in-Some-clause-falls
-returns-in-Some-clause-falls g c is =
-    let event = subst (λ (r : _). GivesEvent r) (sym (c.in_ok-next_turn.was ∙ ap Ok (sym c.in-Some.ensures.0))) is in
-    omega (arith, c.next_turn.ensures.falls event, c.loop-without.invariant.left)
-
-pub returns-in-Some-clause-again : goal.returns-in-Some-clause-again
-returns-in-Some-clause-again g c answer ended =
-    stays_ended c.loop-without.input c.next_turn.new.input c.loop-without.source c.next_turn.new.self c.next_turn.result c.next_turn.ensures.next c.next_turn.ensures.again
-    c.args.source.now c.args.input.now (Ok c.in-Some.turn) (c.in_ok-next_turn.was ∙ ap Ok (sym c.in-Some.ensures.0)) answer ended (c.loop-without.invariant.again answer ended)
+pub returns-in-Some : goal.returns-in-Some
+returns-in-Some g c = record {
+  next = λ role limits came given has.
+      let read = c.loop-without.invariant.read role limits came given has in
+      returns c.args.without role limits c.args.input.now came given c.loop-without.input c.next_turn.new.input c.loop-without.source c.next_turn.new.self read c.next_turn.result
+      (c.next_turn.ensures.next role limits (came ++ read.more) (given ++ read.passed) read.has) (Ok c.in-Some.turn) (c.in_ok-next_turn.was ∙ ap Ok (sym c.in-Some.ensures.0));
+  not_left_out = search rules;
+  falls = λ is.
+      let event = subst (λ (r : _). GivesEvent r) (sym (c.in_ok-next_turn.was ∙ ap Ok (sym c.in-Some.ensures.0))) is in
+      omega (arith, c.next_turn.ensures.falls event, c.loop-without.invariant.left);
+  again = λ answer ended.
+      stays_ended c.loop-without.input c.next_turn.new.input c.loop-without.source c.next_turn.new.self c.next_turn.result c.next_turn.ensures.next c.next_turn.ensures.again
+      c.args.source.now c.args.input.now (Ok c.in-Some.turn) (c.in_ok-next_turn.was ∙ ap Ok (sym c.in-Some.ensures.0)) answer ended (c.loop-without.invariant.again answer ended);
+}
 
 pub loop-without-smaller : goal.loop-without-smaller
 loop-without-smaller g c =

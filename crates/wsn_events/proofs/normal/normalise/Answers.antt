@@ -13,39 +13,41 @@ pub returns-in_err-event : goal.returns-in_err-event
 returns-in_err-event g c =
     let written = c.loop-source.invariant in
     let out = err_from_is_err_and c.from_residual.result c.from_residual.ensures.1 in
-    let is : c.from_residual.result ≡ Err c.in_err-event.field-0.0 = out.1 ∙ ap Err out.2 in
     let stops = is_stopped c.args.role c.args.limits c.args.input.now c.args.output.now c.loop-source.input c.next.new.input c.loop-source.output c.loop-source.source c.next.new.self written
     c.in_err-event.field-0.0 (c.in_err-event.ensures.next c.args.role c.args.limits written.came written.given written.has) in
-    rw is (record {
+    rw (out.1 ∙ ap Err out.2) (record {
       normalised = stops;
       whole = λ all known. whole_normal_form c.args.role c.args.limits c.args.input.now c.next.new.input c.args.output.now c.loop-source.output (Err c.in_err-event.field-0.0) all stops known;
     })
 
-pub put_event-requires-clause-lawful : goal.put_event-requires-clause-lawful
-put_event-requires-clause-lawful g c =
-    let written = c.loop-source.invariant in
-    is_lawful_event c.args.role c.args.limits c.args.input.now c.args.output.now c.loop-source.input c.next.new.input c.loop-source.output c.loop-source.source c.next.new.self written
-    c.in_ok-event.field-0 c.in-Event.event c.in-Event.is (c.in_ok-event.ensures.next c.args.role c.args.limits written.came written.given written.has)
+pub put_event-requires : goal.put_event-requires
+put_event-requires g c = record {
+  lawful = let written = c.loop-source.invariant in
+      is_lawful_event c.args.role c.args.limits c.args.input.now c.args.output.now c.loop-source.input c.next.new.input c.loop-source.output c.loop-source.source c.next.new.self written
+      c.in_ok-event.field-0 c.in-Event.event c.in-Event.is (c.in_ok-event.ensures.next c.args.role c.args.limits written.came written.given written.has);
+  unfailed = search rules;
+}
 
 pub returns-in_err-put_event-in-Event : goal.returns-in_err-put_event-in-Event
 returns-in_err-put_event-in-Event g c =
     let written = c.loop-source.invariant in
     let failed = c.in_err-put_event-in-Event.ensures in
     let out = err_from_is_err_and c.from_residual-in_err-put_event-in-Event.result c.from_residual-in_err-put_event-in-Event.ensures.1 in
-    let reported : c.from_residual-in_err-put_event-in-Event.result ≡ Err c.in_err-put_event-in-Event.field-0.0 = out.1 ∙ ap Err out.2 in
-    let is : c.from_residual-in_err-put_event-in-Event.result ≡ Err stop.Write = rw reported (rw failed.0 refl) in
+    let is : c.from_residual-in_err-put_event-in-Event.result ≡ Err stop.Write = rw (out.1 ∙ ap Err out.2) (rw failed.0 refl) in
     let fails = write_failed c.args.role c.args.limits c.args.input.now c.args.output.now c.loop-source.input c.next.new.input c.loop-source.output c.loop-source.source c.next.new.self written
     c.in_ok-event.field-0 c.in-Event.event c.in-Event.is (c.in_ok-event.ensures.next c.args.role c.args.limits written.came written.given written.has)
     c.put_event.new.to failed.1 in
     rw is (record { normalised = fails; whole = λ all known. tt })
 
-pub put_taken-requires-clause-going : goal.put_taken-requires-clause-going
-put_taken-requires-clause-going g c =
-    let written = c.loop-source.invariant in
-    let with_event = goes_on c.args.role c.args.limits c.args.input.now c.args.output.now c.loop-source.input c.next.new.input c.loop-source.output c.loop-source.source c.next.new.self written
-    c.in_ok-event.field-0 c.in-Event.event c.in-Event.is (c.in_ok-event.ensures.next c.args.role c.args.limits written.came written.given written.has)
-    c.put_event.new.to c.in_ok-put_event-in-Event.ensures in
-    with_event.has.going
+pub put_taken-requires : goal.put_taken-requires
+put_taken-requires g c = record {
+  going = let written = c.loop-source.invariant in
+      let with_event = goes_on c.args.role c.args.limits c.args.input.now c.args.output.now c.loop-source.input c.next.new.input c.loop-source.output c.loop-source.source c.next.new.self written
+      c.in_ok-event.field-0 c.in-Event.event c.in-Event.is (c.in_ok-event.ensures.next c.args.role c.args.limits written.came written.given written.has)
+      c.put_event.new.to c.in_ok-put_event-in-Event.ensures in
+      with_event.has.going;
+  writable = search rules;
+}
 
 pub returns-in_err-put_taken-in-Event : goal.returns-in_err-put_taken-in-Event
 returns-in_err-put_taken-in-Event g c =
@@ -55,8 +57,7 @@ returns-in_err-put_taken-in-Event g c =
     c.put_event.new.to c.in_ok-put_event-in-Event.ensures in
     let failed = c.in_err-put_taken-in-Event.ensures.put c.args.role c.args.limits with_event.came with_event.given with_event.has in
     let out = err_from_is_err_and c.from_residual-in_err-put_taken-in-Event.result c.from_residual-in_err-put_taken-in-Event.ensures.1 in
-    let reported : c.from_residual-in_err-put_taken-in-Event.result ≡ Err c.in_err-put_taken-in-Event.field-0.0 = out.1 ∙ ap Err out.2 in
-    let is : c.from_residual-in_err-put_taken-in-Event.result ≡ Err stop.Write = rw reported (rw failed.written.0 refl) in
+    let is : c.from_residual-in_err-put_taken-in-Event.result ≡ Err stop.Write = rw (out.1 ∙ ap Err out.2) (rw failed.written.0 refl) in
     let fails = taken_failed c.args.role c.args.limits c.args.input.now c.args.output.now c.loop-source.input c.next.new.input c.loop-source.output c.loop-source.source c.next.new.self written
     c.in_ok-event.field-0 c.in-Event.event c.in-Event.is (c.in_ok-event.ensures.next c.args.role c.args.limits written.came written.given written.has)
     c.put_event.new.to c.in_ok-put_event-in-Event.ensures c.put_taken.new.output c.put_taken.new.source c.in_err-put_taken-in-Event.field-0.0 failed in
@@ -88,14 +89,8 @@ returns-in-Done g c =
 pub next-requires : goal.next-requires
 next-requires g c = search rules
 
-pub put_event-requires-clause-unfailed : goal.put_event-requires-clause-unfailed
-put_event-requires-clause-unfailed g c = search rules
-
 pub same-source : goal.same-source
 same-source g c = search rules
 
 pub loop-source-smaller : goal.loop-source-smaller
 loop-source-smaller g c = search rules
-
-pub put_taken-requires-clause-writable : goal.put_taken-requires-clause-writable
-put_taken-requires-clause-writable g c = search rules

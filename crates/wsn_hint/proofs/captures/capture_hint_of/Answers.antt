@@ -28,14 +28,12 @@ returns-in-None-clause-first c = λ limits.
 pub returns-in-None-2-clause-first : goal.returns-in-None-2-clause-first
 returns-in-None-2-clause-first c = λ limits.
     let fits = Fits limits c.args.first.now in
-    let of_file = Json ∷ SmallLetters ∷ OtherText ∷ Binary ∷ [] in
     let later = Json ∷ SmallLetters ∷ OtherText ∷ Binary ∷ Blanks ∷ [] in
-    let no_line = c.begins_no_line.ensures.0 c.if-begins_no_line.true in
     first_after fits format_hints (Stream ∷ later) c.file_hint.result
     (subst (λ (o : Option Hint). IsFirstFit fits format_hints o) c.in-None.is (c.format_of.ensures limits))
     (first_past fits Stream later c.file_hint.result c.is_stream.result c.is_stream.ensures c.if-is_stream.false
-    (first_before fits of_file (Blanks ∷ []) c.file_hint.result (c.file_hint.ensures limits)
-    (inr (no_line_has_no_blanks c.args.first.now no_line, refl))))
+    (first_before fits (Json ∷ SmallLetters ∷ OtherText ∷ Binary ∷ []) (Blanks ∷ []) c.file_hint.result (c.file_hint.ensures limits)
+    (inr (no_line_has_no_blanks c.args.first.now (c.begins_no_line.ensures.0 c.if-begins_no_line.true), refl))))
 
 pub returns-in-None-2-clause-fits : goal.returns-in-None-2-clause-fits
 returns-in-None-2-clause-fits c = λ limits.

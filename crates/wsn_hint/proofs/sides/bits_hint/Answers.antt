@@ -14,6 +14,5 @@ returns-in-Some c =
 
 pub returns-in-Some-2 : goal.returns-in-Some-2
 returns-in-Some-2 c =
-    let text = c.args.first.now in
-    subst (λ (o : Option ℕ). IsFirstFit (FitsSide text ReservedBits o false) side_hints None) (sym c.in-Some.is)
-    (other_head text c.in-Some.byte (iff_false c.is_compressed_head.ensures c.if-is_compressed_head.false))
+    subst (λ (o : Option ℕ). IsFirstFit (FitsSide c.args.first.now ReservedBits o false) side_hints None) (sym c.in-Some.is)
+    (other_head c.args.first.now c.in-Some.byte (iff_false c.is_compressed_head.ensures c.if-is_compressed_head.false))

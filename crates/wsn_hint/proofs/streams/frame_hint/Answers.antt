@@ -17,11 +17,9 @@ returns-in-MaskMissing-clause-fits c = c.if-is_lawful_start.ensures.unrefused re
 
 pub returns-in-MaskMissing-clause-first : goal.returns-in-MaskMissing-clause-first
 returns-in-MaskMissing-clause-first c = λ some.
-    let reason = c.args.reason in
-    let missing = c.in-MaskMissing.is in
     inr (
-      λ compressed. missing_not_reserved reason missing compressed.0,
-      inl ((missing, c.if-is_lawful_start.ensures.unrefused refl), refl),
+      λ compressed. missing_not_reserved c.args.reason c.in-MaskMissing.is compressed.0,
+      inl ((c.in-MaskMissing.is, c.if-is_lawful_start.ensures.unrefused refl), refl),
     )
 
 pub returns-in-MaskPresent-clause-fits : goal.returns-in-MaskPresent-clause-fits
@@ -29,12 +27,11 @@ returns-in-MaskPresent-clause-fits c = c.if-is_lawful_start-2.ensures.unrefused 
 
 pub returns-in-MaskPresent-clause-first : goal.returns-in-MaskPresent-clause-first
 returns-in-MaskPresent-clause-first c = λ some.
-    let reason = c.args.reason in
     let present = c.in-MaskPresent.is in
     inr (
-      λ compressed. present_not_reserved reason present compressed.0,
+      λ compressed. present_not_reserved c.args.reason present compressed.0,
       inr (
-        λ server. present_not_missing reason present server.0,
+        λ server. present_not_missing c.args.reason present server.0,
         inl ((present, c.if-is_lawful_start-2.ensures.unrefused refl), refl),
       ),
     )

@@ -1,4 +1,4 @@
-use Rattle.std.proofs.Common.{◌≡◌, Option, Some, ◌++◌, take, inr, subst}
+use Rattle.std.proofs.Common.{◌≡◌, Option, Some, ◌++◌, take, inr, subst, rules}
 use Rattle.std.specs.Prelude.{IfSome}
 use Rattle.wsn_rules.specs.declared.verdict.Refusal.{Refusal}
 use Rattle.wsn_rules.specs.declared.verdict.Verdict.TheVariants.{Refused}
@@ -18,27 +18,23 @@ returns-then-is_capture_text-clause-refused c = λ given.
     let own = subst (λ (o : Option Refusal). IfSome o (λ refusal. HasVerdict c.args.role c.args.limits (take 2 c.args.first.now) (Refused refusal))) c.in-Some.is c.early_refusal.ensures.refused in
     inr (λ later. refused_early c.args.role c.args.limits c.args.first.now later c.in-Some.refusal own)
 
-pub returns-in-Some-format_of-clause-refused : goal.returns-in-Some-format_of-clause-refused
-returns-in-Some-format_of-clause-refused c = λ given.
-    let own = subst (λ (o : Option Refusal). IfSome o (λ refusal. HasVerdict c.args.role c.args.limits (take 2 c.args.first.now) (Refused refusal))) c.in-Some.is c.early_refusal.ensures.refused in
-    inr (λ later. refused_early c.args.role c.args.limits c.args.first.now later c.in-Some.refusal own)
-
-pub returns-in-Some-format_of-clause-fits : goal.returns-in-Some-format_of-clause-fits
-returns-in-Some-format_of-clause-fits c =
-    let fits = Fits c.args.limits c.args.first.now in
-    let hint = c.in-Some-format_of.hint in
-    fits_of_first fits format_hints (Some hint)
-    (subst (λ (o : Option Hint). IsFirstFit fits format_hints o) c.in-Some-format_of.is (c.format_of.ensures c.args.limits))
-
-pub returns-in-Some-format_of-clause-first : goal.returns-in-Some-format_of-clause-first
-returns-in-Some-format_of-clause-first c = λ some refusal has.
-    let first = c.args.first.now in
-    let limits = c.args.limits in
-    let fits = FitsRefused c.args.role limits refusal.reason first in
-    let result : Option Hint = Some c.in-Some-format_of.hint in
-    first_past fits Capture (format_hints ++ frame_hints) result c.is_capture_text.result c.is_capture_text.ensures c.if-is_capture_text.false
-    (first_of_more fits format_hints frame_hints c.in-Some-format_of.hint
-    (subst (λ (o : Option Hint). IsFirstFit (Fits limits first) format_hints o) c.in-Some-format_of.is (c.format_of.ensures limits)))
+pub returns-in-Some-format_of : goal.returns-in-Some-format_of
+returns-in-Some-format_of c = record {
+  refused = λ given.
+      let own = subst (λ (o : Option Refusal). IfSome o (λ refusal. HasVerdict c.args.role c.args.limits (take 2 c.args.first.now) (Refused refusal))) c.in-Some.is c.early_refusal.ensures.refused in
+      inr (λ later. refused_early c.args.role c.args.limits c.args.first.now later c.in-Some.refusal own);
+  fits = let fits = Fits c.args.limits c.args.first.now in
+      fits_of_first fits format_hints (Some c.in-Some-format_of.hint)
+      (subst (λ (o : Option Hint). IsFirstFit fits format_hints o) c.in-Some-format_of.is (c.format_of.ensures c.args.limits));
+  first = λ some refusal has.
+      let limits = c.args.limits in
+      let fits = FitsRefused c.args.role limits refusal.reason c.args.first.now in
+      let result : Option Hint = Some c.in-Some-format_of.hint in
+      first_past fits Capture (format_hints ++ frame_hints) result c.is_capture_text.result c.is_capture_text.ensures c.if-is_capture_text.false
+      (first_of_more fits format_hints frame_hints c.in-Some-format_of.hint
+      (subst (λ (o : Option Hint). IsFirstFit (Fits limits c.args.first.now) format_hints o) c.in-Some-format_of.is (c.format_of.ensures limits)));
+  empty = search rules;
+}
 
 pub returns-in-None-clause-refused : goal.returns-in-None-clause-refused
 returns-in-None-clause-refused c = λ given.

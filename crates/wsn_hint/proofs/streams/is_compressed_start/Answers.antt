@@ -19,11 +19,9 @@ returns-in-Some-clause-compressed c is =
 
 pub returns-in-Some-clause-given : goal.returns-in-Some-clause-given
 returns-in-Some-clause-given c = λ some begins.
-    let first = c.args.first.now in
-    let second = get_or first 1 0 in
-    let head_is : get_or first 0 0 ≡ begins.plain + 64 = ap (λ (bs : List ℕ). get_or bs 0 0) begins.is in
+    let second = get_or c.args.first.now 1 0 in
     let second_is : second ≡ begins.second = ap (λ (bs : List ℕ). get_or bs 1 0) begins.is in
-    let plain_is : begins.plain ≡ c.in-Some.plain = omega (arith, head_is, c.in-Some.ensures.plain.0) in
+    let plain_is : begins.plain ≡ c.in-Some.plain = omega (arith, ap (λ (bs : List ℕ). get_or bs 0 0) begins.is, c.in-Some.ensures.plain.0) in
     c.is_lawful_start.ensures.given some
     (subst (λ (plain : ℕ). IsUnrefused c.args.role c.args.limits (plain ∷ second ∷ [])) plain_is
     (subst (λ (byte : ℕ). IsUnrefused c.args.role c.args.limits (begins.plain ∷ byte ∷ [])) (sym second_is) begins.unrefused))

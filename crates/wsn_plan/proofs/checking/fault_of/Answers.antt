@@ -20,20 +20,20 @@ pub returns-in-Some : goal.returns-in-Some
 returns-in-Some g c =
     fault_here c.args.role c.args.limits (map kept_meant c.args.events.now) c.args.steps.now c.loop-index.index (Piece 0 None Shortest) c.loop-index.walk c.in-Some.why c.loop-index-test.true c.loop-index.invariant.follows c.in-Some.ensures
 
-pub take-requires-clause-may : goal.take-requires-clause-may
-take-requires-clause-may g c =
-    let step = get_or c.args.steps.now c.loop-index.index (Piece 0 None Shortest) in
-    let plan = take c.loop-index.index c.args.steps.now in
-    consumes c.args.role c.args.limits (map kept_meant c.args.events.now) plan c.loop-index.walk step c.loop-index.invariant.follows
-    (begins_on c.args.role c.args.limits (map kept_meant c.args.events.now) plan c.loop-index.walk step c.requires.range c.loop-index.invariant.follows c.in_default.ensures)
-
-pub take-requires-clause-small : goal.take-requires-clause-small
-take-requires-clause-small g c =
-    let step = get_or c.args.steps.now c.loop-index.index (Piece 0 None Shortest) in
-    let plan = take c.loop-index.index c.args.steps.now in
-    held_is_small c.args.role c.args.limits (map kept_meant c.args.events.now) c.loop-index.walk step c.requires.range c.requires.lawful c.loop-index.invariant.small
-    (consumes c.args.role c.args.limits (map kept_meant c.args.events.now) plan c.loop-index.walk step c.loop-index.invariant.follows
-    (begins_on c.args.role c.args.limits (map kept_meant c.args.events.now) plan c.loop-index.walk step c.requires.range c.loop-index.invariant.follows c.in_default.ensures))
+pub take-requires : goal.take-requires
+take-requires g c = record {
+  may = let step = get_or c.args.steps.now c.loop-index.index (Piece 0 None Shortest) in
+      let plan = take c.loop-index.index c.args.steps.now in
+      consumes c.args.role c.args.limits (map kept_meant c.args.events.now) plan c.loop-index.walk step c.loop-index.invariant.follows
+      (begins_on c.args.role c.args.limits (map kept_meant c.args.events.now) plan c.loop-index.walk step c.requires.range c.loop-index.invariant.follows c.in_default.ensures);
+  small = let step = get_or c.args.steps.now c.loop-index.index (Piece 0 None Shortest) in
+      let plan = take c.loop-index.index c.args.steps.now in
+      held_is_small c.args.role c.args.limits (map kept_meant c.args.events.now) c.loop-index.walk step c.requires.range c.requires.lawful c.loop-index.invariant.small
+      (consumes c.args.role c.args.limits (map kept_meant c.args.events.now) plan c.loop-index.walk step c.loop-index.invariant.follows
+      (begins_on c.args.role c.args.limits (map kept_meant c.args.events.now) plan c.loop-index.walk step c.requires.range c.loop-index.invariant.follows c.in_default.ensures));
+  placed = search rules;
+  few = search rules;
+}
 
 pub loop-index-preserved : goal.loop-index-preserved
 loop-index-preserved g c =
@@ -68,14 +68,5 @@ offset_bounds-steps-index g c = search rules
 pub bounds-steps-index : goal.bounds-steps-index
 bounds-steps-index g c = search rules
 
-pub reason_against-requires-clause-placed : goal.reason_against-requires-clause-placed
-reason_against-requires-clause-placed g c = search rules
-
-pub reason_against-requires-clause-few : goal.reason_against-requires-clause-few
-reason_against-requires-clause-few g c = search rules
-
-pub take-requires-clause-placed : goal.take-requires-clause-placed
-take-requires-clause-placed g c = search rules
-
-pub take-requires-clause-few : goal.take-requires-clause-few
-take-requires-clause-few g c = search rules
+pub reason_against-requires : goal.reason_against-requires
+reason_against-requires g c = record { placed = search rules; few = search rules }

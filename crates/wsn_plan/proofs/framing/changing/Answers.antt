@@ -6,5 +6,4 @@ use Rattle.wsn_plan.proofs.framing.changing.Goals as goal
 pub returns-in_default : goal.returns-in_default
 returns-in_default c payload =
     let zeros : c.in-Some.key ≡ 0 ∷ 0 ∷ 0 ∷ 0 ∷ [] = search rules in
-    let is : c.args.key ≡ Some (0 ∷ 0 ∷ 0 ∷ 0 ∷ []) = c.in-Some.is ∙ ap Some zeros in
-    sym (ap (λ (key : Option (List ℕ)). unmasked_by key 0 payload) is ∙ masked-zero 0 payload)
+    sym (ap (λ (key : Option (List ℕ)). unmasked_by key 0 payload) (c.in-Some.is ∙ ap Some zeros) ∙ masked-zero 0 payload)

@@ -16,14 +16,5 @@ unmask-requires g c = search rules
 pub unmask-requires-2 : goal.unmask-requires-2
 unmask-requires-2 g c = search rules
 
-pub put_frame-done-requires-clause-unfailed : goal.put_frame-done-requires-clause-unfailed
-put_frame-done-requires-clause-unfailed g c = search rules
-
-pub put_frame-done-requires-clause-size : goal.put_frame-done-requires-clause-size
-put_frame-done-requires-clause-size g c = search rules
-
-pub put_frame-done-requires-clause-control : goal.put_frame-done-requires-clause-control
-put_frame-done-requires-clause-control g c = search rules
-
-pub put_frame-done-requires-clause-fits : goal.put_frame-done-requires-clause-fits
-put_frame-done-requires-clause-fits g c = search rules
+pub put_frame-done-requires : goal.put_frame-done-requires
+put_frame-done-requires g c = record { unfailed = search rules; size = search rules; control = search rules; fits = search rules }

@@ -69,14 +69,13 @@ returns-clause-planned g c =
 pub returns-clause-whole : goal.returns-clause-whole
 returns-clause-whole g c all known = whole_plan c.args.role c.args.limits _ _ _ all (returns-clause-planned g c) known
 
-pub plan_chunk-requires-clause-begun : goal.plan_chunk-requires-clause-begun
-plan_chunk-requires-clause-begun g c = is_running c.args.role c.args.limits c.args.input.now c.loop-plan.input c.loop-plan.chunks c.loop-plan.scan c.loop-plan.plan c.loop-plan.invariant.planned
-
-pub plan_chunk-requires-clause-fits : goal.plan_chunk-requires-clause-fits
-plan_chunk-requires-clause-fits g c =
-    let so_far = c.loop-plan.invariant.planned in
-    let got = next_chunk c.in-Some.is (c.in_ok-len.ensures.next c.args.limits c.args.input.now so_far.came so_far.read.come) in
-    fits c.args.role c.args.limits c.args.input.now c.loop-plan.input c.loop-plan.chunks c.loop-plan.scan so_far.came so_far.heads so_far.read c.next.new.input c.next.new.self c.loop-plan.scan (take c.in-Some.len c.next.new.buffer) got.come
+pub plan_chunk-requires : goal.plan_chunk-requires
+plan_chunk-requires g c = record {
+  begun = is_running c.args.role c.args.limits c.args.input.now c.loop-plan.input c.loop-plan.chunks c.loop-plan.scan c.loop-plan.plan c.loop-plan.invariant.planned;
+  fits = let so_far = c.loop-plan.invariant.planned in
+      let got = next_chunk c.in-Some.is (c.in_ok-len.ensures.next c.args.limits c.args.input.now so_far.came so_far.read.come) in
+      fits c.args.role c.args.limits c.args.input.now c.loop-plan.input c.loop-plan.chunks c.loop-plan.scan so_far.came so_far.heads so_far.read c.next.new.input c.next.new.self c.loop-plan.scan (take c.in-Some.len c.next.new.buffer) got.come;
+}
 
 pub slice_bounds-next-end : goal.slice_bounds-next-end
 slice_bounds-next-end g c = search rules
@@ -90,8 +89,7 @@ same-plan g c = search rules
 pub slice_bounds-buffer-end : goal.slice_bounds-buffer-end
 slice_bounds-buffer-end g c =
     let so_far = c.loop-plan.invariant.planned in
-    let got = next_chunk c.in-Some.is (c.in_ok-len.ensures.next c.args.limits c.args.input.now so_far.came so_far.read.come) in
-    got.in_buffer
+    (next_chunk c.in-Some.is (c.in_ok-len.ensures.next c.args.limits c.args.input.now so_far.came so_far.read.come)).in_buffer
 
 pub slice_bounds-plan_chunk-end : goal.slice_bounds-plan_chunk-end
 slice_bounds-plan_chunk-end g c =

@@ -26,17 +26,15 @@ loop-step-init g c = record {
   written = (c.requires.unfailed, Appends-nil c.args.output.now.written);
 }
 
-pub put_step-requires-clause-may : goal.put_step-requires-clause-may
-put_step-requires-clause-may g c = rw c.loop-step.invariant.same (may_here (map kept_meant c.args.events.now) c.args.steps.now c.loop-step.step-index c.loop-step.walk c.loop-step.invariant.way (Piece 0 None Shortest) c.loop-step-test.true)
-
-pub put_step-requires-clause-form : goal.put_step-requires-clause-form
-put_step-requires-clause-form g c = rw c.loop-step.invariant.same (form_here (map kept_meant c.args.events.now) c.args.steps.now c.loop-step.step-index c.loop-step.walk c.loop-step.invariant.way (Piece 0 None Shortest) c.loop-step-test.true)
-
-pub put_step-requires-clause-held : goal.put_step-requires-clause-held
-put_step-requires-clause-held g c = rw c.loop-step.invariant.same (held_fits (map kept_meant c.args.events.now) c.args.steps.now c.loop-step.step-index c.loop-step.walk c.loop-step.invariant.way)
-
-pub put_step-requires-clause-lawful : goal.put_step-requires-clause-lawful
-put_step-requires-clause-lawful g c = rw c.loop-step.invariant.same (c.requires.fits.limits.message, c.requires.fits.lawful)
+pub put_step-requires : goal.put_step-requires
+put_step-requires g c = record {
+  may = rw c.loop-step.invariant.same (may_here (map kept_meant c.args.events.now) c.args.steps.now c.loop-step.step-index c.loop-step.walk c.loop-step.invariant.way (Piece 0 None Shortest) c.loop-step-test.true);
+  form = rw c.loop-step.invariant.same (form_here (map kept_meant c.args.events.now) c.args.steps.now c.loop-step.step-index c.loop-step.walk c.loop-step.invariant.way (Piece 0 None Shortest) c.loop-step-test.true);
+  held = rw c.loop-step.invariant.same (held_fits (map kept_meant c.args.events.now) c.args.steps.now c.loop-step.step-index c.loop-step.walk c.loop-step.invariant.way);
+  lawful = rw c.loop-step.invariant.same (c.requires.fits.limits.message, c.requires.fits.lawful);
+  unfailed = search rules;
+  placed = search rules;
+}
 
 pub returns-in_err-put_step : goal.returns-in_err-put_step
 returns-in_err-put_step g c =
@@ -45,11 +43,13 @@ returns-in_err-put_step g c =
     let partly = subst (λ (es : List MeantEvent). IsPartlyWritten c.loop-step.output c.put_step.new.output (frame_bytes (frame_here c.loop-step.walk (drop c.loop-step.walk.event es) (get_or c.args.steps.now c.loop-step.step-index (Piece 0 None Shortest))))) c.loop-step.invariant.same c.in_err-put_step.ensures.put.1 in
     rw is (c.in_err-put_step.ensures.put.0, partly_on (map kept_meant c.args.events.now) c.args.steps.now c.loop-step.step-index c.loop-step.walk c.loop-step.invariant.way (Piece 0 None Shortest) c.loop-step-test.true c.args.output.now c.loop-step.output c.put_step.new.output c.loop-step.invariant.written partly)
 
-pub take-requires-clause-may : goal.take-requires-clause-may
-take-requires-clause-may g c = rw (c.in_ok-put_step.ensures.same, c.loop-step.invariant.same) (may_here (map kept_meant c.args.events.now) c.args.steps.now c.loop-step.step-index c.loop-step.walk c.loop-step.invariant.way (Piece 0 None Shortest) c.loop-step-test.true)
-
-pub take-requires-clause-small : goal.take-requires-clause-small
-take-requires-clause-small g c = small_here (map kept_meant c.args.events.now) c.args.steps.now c.loop-step.step-index c.loop-step.walk c.loop-step.invariant.way (Piece 0 None Shortest) c.loop-step-test.true c.loop-step.invariant.small
+pub take-requires : goal.take-requires
+take-requires g c = record {
+  may = rw (c.in_ok-put_step.ensures.same, c.loop-step.invariant.same) (may_here (map kept_meant c.args.events.now) c.args.steps.now c.loop-step.step-index c.loop-step.walk c.loop-step.invariant.way (Piece 0 None Shortest) c.loop-step-test.true);
+  small = small_here (map kept_meant c.args.events.now) c.args.steps.now c.loop-step.step-index c.loop-step.walk c.loop-step.invariant.way (Piece 0 None Shortest) c.loop-step-test.true c.loop-step.invariant.small;
+  placed = search rules;
+  few = search rules;
+}
 
 pub loop-step-preserved : goal.loop-step-preserved
 loop-step-preserved g c =
@@ -68,15 +68,3 @@ returns g c = all_written (map kept_meant c.args.events.now) c.args.steps.now c.
 
 pub offset_bounds-steps-step-index : goal.offset_bounds-steps-step-index
 offset_bounds-steps-step-index g c = search rules
-
-pub put_step-requires-clause-unfailed : goal.put_step-requires-clause-unfailed
-put_step-requires-clause-unfailed g c = search rules
-
-pub put_step-requires-clause-placed : goal.put_step-requires-clause-placed
-put_step-requires-clause-placed g c = search rules
-
-pub take-requires-clause-placed : goal.take-requires-clause-placed
-take-requires-clause-placed g c = search rules
-
-pub take-requires-clause-few : goal.take-requires-clause-few
-take-requires-clause-few g c = search rules

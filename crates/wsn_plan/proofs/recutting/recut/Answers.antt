@@ -25,16 +25,14 @@ returns-in_default g c =
 pub refragment-requires-clause-lawful : goal.refragment-requires-clause-lawful
 refragment-requires-clause-lawful g c = rw c.deref_mut.ensures.value (are_lawful c.args.role c.args.limits (λ _. c.args.plan.now) c.args.input.now c.gather.new.input c.args.output.now c.in_ok-verdict.field-0 c.in_ok-verdict.ensures c.in-Accepted.field-0 c.in-Accepted.is)
 
-pub returns-clause-recut : goal.returns-clause-recut
-returns-clause-recut g c =
-    let steps = subst (λ (steps : List Step). IsRefragmented c.args.role c.args.limits steps (map kept_meant c.deref_mut.result.now) c.args.output.now c.refragment.new.output c.refragment.result) c.steps.ensures.steps c.refragment.ensures in
-    let did = subst (λ (es : List (Kept _)). IsRefragmented c.args.role c.args.limits c.args.plan.now (map kept_meant es) c.args.output.now c.refragment.new.output c.refragment.result) c.deref_mut.ensures.value steps in
-    let has_reported = cut c.args.role c.args.limits (λ _. c.args.plan.now) c.args.input.now c.gather.new.input c.args.output.now c.in_ok-verdict.field-0 c.in_ok-verdict.ensures c.in-Accepted.field-0 c.in-Accepted.is c.refragment.new.output c.refragment.result did in
-    has_reported
-
-pub returns-clause-whole : goal.returns-clause-whole
-returns-clause-whole g c =
-    let steps = subst (λ (steps : List Step). IsRefragmented c.args.role c.args.limits steps (map kept_meant c.deref_mut.result.now) c.args.output.now c.refragment.new.output c.refragment.result) c.steps.ensures.steps c.refragment.ensures in
-    let did = subst (λ (es : List (Kept _)). IsRefragmented c.args.role c.args.limits c.args.plan.now (map kept_meant es) c.args.output.now c.refragment.new.output c.refragment.result) c.deref_mut.ensures.value steps in
-    let has_reported = cut c.args.role c.args.limits (λ _. c.args.plan.now) c.args.input.now c.gather.new.input c.args.output.now c.in_ok-verdict.field-0 c.in_ok-verdict.ensures c.in-Accepted.field-0 c.in-Accepted.is c.refragment.new.output c.refragment.result did in
-    λ all known. whole_recut c.args.role c.args.limits (λ _. c.args.plan.now) c.args.input.now c.gather.new.input c.args.output.now c.refragment.new.output c.refragment.result all has_reported known
+pub returns : goal.returns
+returns g c = record {
+  recut = let steps = subst (λ (steps : List Step). IsRefragmented c.args.role c.args.limits steps (map kept_meant c.deref_mut.result.now) c.args.output.now c.refragment.new.output c.refragment.result) c.steps.ensures.steps c.refragment.ensures in
+      let did = subst (λ (es : List (Kept _)). IsRefragmented c.args.role c.args.limits c.args.plan.now (map kept_meant es) c.args.output.now c.refragment.new.output c.refragment.result) c.deref_mut.ensures.value steps in
+      let has_reported = cut c.args.role c.args.limits (λ _. c.args.plan.now) c.args.input.now c.gather.new.input c.args.output.now c.in_ok-verdict.field-0 c.in_ok-verdict.ensures c.in-Accepted.field-0 c.in-Accepted.is c.refragment.new.output c.refragment.result did in
+      has_reported;
+  whole = let steps = subst (λ (steps : List Step). IsRefragmented c.args.role c.args.limits steps (map kept_meant c.deref_mut.result.now) c.args.output.now c.refragment.new.output c.refragment.result) c.steps.ensures.steps c.refragment.ensures in
+      let did = subst (λ (es : List (Kept _)). IsRefragmented c.args.role c.args.limits c.args.plan.now (map kept_meant es) c.args.output.now c.refragment.new.output c.refragment.result) c.deref_mut.ensures.value steps in
+      let has_reported = cut c.args.role c.args.limits (λ _. c.args.plan.now) c.args.input.now c.gather.new.input c.args.output.now c.in_ok-verdict.field-0 c.in_ok-verdict.ensures c.in-Accepted.field-0 c.in-Accepted.is c.refragment.new.output c.refragment.result did in
+      λ all known. whole_recut c.args.role c.args.limits (λ _. c.args.plan.now) c.args.input.now c.gather.new.input c.args.output.now c.refragment.new.output c.refragment.result all has_reported known;
+}

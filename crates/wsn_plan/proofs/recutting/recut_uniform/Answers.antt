@@ -37,30 +37,25 @@ returns-in_err-plan-clause-recut g c =
     let some : 0 < length c.in_ok-verdict.field-0.events.items = subst (λ (es : List (Kept _)). 0 < length es) c.deref.ensures.value c.in_err-plan.ensures.stop.1 in
     rw (is, c.in_err-plan.ensures.stop.0) (no_memory c.args.role c.args.limits (uniform_plan c.args.size c.args.weave c.args.key) c.args.input.now c.gather.new.input c.args.output.now c.in_ok-verdict.field-0 c.in_ok-verdict.ensures c.in-Accepted.field-0 c.in-Accepted.is some)
 
-pub returns-clause-recut : goal.returns-clause-recut
-returns-clause-recut g c =
-    let same : c.steps.result.now ≡ uniform_plan c.args.size c.args.weave c.args.key (map kept_meant c.in_ok-verdict.field-0.events.items) =
-    c.steps.ensures.steps ∙ c.in_ok-plan.ensures.plan ∙ ap (λ (es : List (Kept _)). uniform_plan c.args.size c.args.weave c.args.key (map kept_meant es)) c.deref.ensures.value in
-    let steps = subst (λ (steps : List Step). IsRefragmented c.args.role c.args.limits steps (map kept_meant c.deref_mut.result.now) c.args.output.now c.refragment.new.output c.refragment.result) same c.refragment.ensures in
-    let did = subst (λ (es : List (Kept _)). IsRefragmented c.args.role c.args.limits (uniform_plan c.args.size c.args.weave c.args.key (map kept_meant c.in_ok-verdict.field-0.events.items)) (map kept_meant es) c.args.output.now c.refragment.new.output c.refragment.result) c.deref_mut.ensures.value steps in
-    let has_reported = cut c.args.role c.args.limits (uniform_plan c.args.size c.args.weave c.args.key) c.args.input.now c.gather.new.input c.args.output.now c.in_ok-verdict.field-0 c.in_ok-verdict.ensures c.in-Accepted.field-0 c.in-Accepted.is c.refragment.new.output c.refragment.result did in
-    has_reported
-
-pub returns-clause-whole : goal.returns-clause-whole
-returns-clause-whole g c =
-    let same : c.steps.result.now ≡ uniform_plan c.args.size c.args.weave c.args.key (map kept_meant c.in_ok-verdict.field-0.events.items) =
-    c.steps.ensures.steps ∙ c.in_ok-plan.ensures.plan ∙ ap (λ (es : List (Kept _)). uniform_plan c.args.size c.args.weave c.args.key (map kept_meant es)) c.deref.ensures.value in
-    let steps = subst (λ (steps : List Step). IsRefragmented c.args.role c.args.limits steps (map kept_meant c.deref_mut.result.now) c.args.output.now c.refragment.new.output c.refragment.result) same c.refragment.ensures in
-    let did = subst (λ (es : List (Kept _)). IsRefragmented c.args.role c.args.limits (uniform_plan c.args.size c.args.weave c.args.key (map kept_meant c.in_ok-verdict.field-0.events.items)) (map kept_meant es) c.args.output.now c.refragment.new.output c.refragment.result) c.deref_mut.ensures.value steps in
-    let has_reported = cut c.args.role c.args.limits (uniform_plan c.args.size c.args.weave c.args.key) c.args.input.now c.gather.new.input c.args.output.now c.in_ok-verdict.field-0 c.in_ok-verdict.ensures c.in-Accepted.field-0 c.in-Accepted.is c.refragment.new.output c.refragment.result did in
-    λ all known. whole_recut c.args.role c.args.limits (uniform_plan c.args.size c.args.weave c.args.key) c.args.input.now c.gather.new.input c.args.output.now c.refragment.new.output c.refragment.result all has_reported known
-
-pub returns-clause-only_fault : goal.returns-clause-only_fault
-returns-clause-only_fault g c =
-    let same : c.steps.result.now ≡ uniform_plan c.args.size c.args.weave c.args.key (map kept_meant c.in_ok-verdict.field-0.events.items) =
-    c.steps.ensures.steps ∙ c.in_ok-plan.ensures.plan ∙ ap (λ (es : List (Kept _)). uniform_plan c.args.size c.args.weave c.args.key (map kept_meant es)) c.deref.ensures.value in
-    let steps = subst (λ (steps : List Step). IsRefragmented c.args.role c.args.limits steps (map kept_meant c.deref_mut.result.now) c.args.output.now c.refragment.new.output c.refragment.result) same c.refragment.ensures in
-    let did = subst (λ (es : List (Kept _)). IsRefragmented c.args.role c.args.limits (uniform_plan c.args.size c.args.weave c.args.key (map kept_meant c.in_ok-verdict.field-0.events.items)) (map kept_meant es) c.args.output.now c.refragment.new.output c.refragment.result) c.deref_mut.ensures.value steps in
-    λ step why is.
-    uniform_fault c.args.role c.args.limits (map kept_meant c.in_ok-verdict.field-0.events.items) c.args.size c.args.weave c.args.key c.requires.key step why
-    (subst (λ (r : Result RecutAnswer Stop). IsRefragmented c.args.role c.args.limits (uniform_plan c.args.size c.args.weave c.args.key (map kept_meant c.in_ok-verdict.field-0.events.items)) (map kept_meant c.in_ok-verdict.field-0.events.items) c.args.output.now c.refragment.new.output r) is did).0
+pub returns : goal.returns
+returns g c = record {
+  recut = let same : c.steps.result.now ≡ uniform_plan c.args.size c.args.weave c.args.key (map kept_meant c.in_ok-verdict.field-0.events.items) =
+      c.steps.ensures.steps ∙ c.in_ok-plan.ensures.plan ∙ ap (λ (es : List (Kept _)). uniform_plan c.args.size c.args.weave c.args.key (map kept_meant es)) c.deref.ensures.value in
+      let steps = subst (λ (steps : List Step). IsRefragmented c.args.role c.args.limits steps (map kept_meant c.deref_mut.result.now) c.args.output.now c.refragment.new.output c.refragment.result) same c.refragment.ensures in
+      let did = subst (λ (es : List (Kept _)). IsRefragmented c.args.role c.args.limits (uniform_plan c.args.size c.args.weave c.args.key (map kept_meant c.in_ok-verdict.field-0.events.items)) (map kept_meant es) c.args.output.now c.refragment.new.output c.refragment.result) c.deref_mut.ensures.value steps in
+      let has_reported = cut c.args.role c.args.limits (uniform_plan c.args.size c.args.weave c.args.key) c.args.input.now c.gather.new.input c.args.output.now c.in_ok-verdict.field-0 c.in_ok-verdict.ensures c.in-Accepted.field-0 c.in-Accepted.is c.refragment.new.output c.refragment.result did in
+      has_reported;
+  whole = let same : c.steps.result.now ≡ uniform_plan c.args.size c.args.weave c.args.key (map kept_meant c.in_ok-verdict.field-0.events.items) =
+      c.steps.ensures.steps ∙ c.in_ok-plan.ensures.plan ∙ ap (λ (es : List (Kept _)). uniform_plan c.args.size c.args.weave c.args.key (map kept_meant es)) c.deref.ensures.value in
+      let steps = subst (λ (steps : List Step). IsRefragmented c.args.role c.args.limits steps (map kept_meant c.deref_mut.result.now) c.args.output.now c.refragment.new.output c.refragment.result) same c.refragment.ensures in
+      let did = subst (λ (es : List (Kept _)). IsRefragmented c.args.role c.args.limits (uniform_plan c.args.size c.args.weave c.args.key (map kept_meant c.in_ok-verdict.field-0.events.items)) (map kept_meant es) c.args.output.now c.refragment.new.output c.refragment.result) c.deref_mut.ensures.value steps in
+      let has_reported = cut c.args.role c.args.limits (uniform_plan c.args.size c.args.weave c.args.key) c.args.input.now c.gather.new.input c.args.output.now c.in_ok-verdict.field-0 c.in_ok-verdict.ensures c.in-Accepted.field-0 c.in-Accepted.is c.refragment.new.output c.refragment.result did in
+      λ all known. whole_recut c.args.role c.args.limits (uniform_plan c.args.size c.args.weave c.args.key) c.args.input.now c.gather.new.input c.args.output.now c.refragment.new.output c.refragment.result all has_reported known;
+  only_fault = let same : c.steps.result.now ≡ uniform_plan c.args.size c.args.weave c.args.key (map kept_meant c.in_ok-verdict.field-0.events.items) =
+      c.steps.ensures.steps ∙ c.in_ok-plan.ensures.plan ∙ ap (λ (es : List (Kept _)). uniform_plan c.args.size c.args.weave c.args.key (map kept_meant es)) c.deref.ensures.value in
+      let steps = subst (λ (steps : List Step). IsRefragmented c.args.role c.args.limits steps (map kept_meant c.deref_mut.result.now) c.args.output.now c.refragment.new.output c.refragment.result) same c.refragment.ensures in
+      let did = subst (λ (es : List (Kept _)). IsRefragmented c.args.role c.args.limits (uniform_plan c.args.size c.args.weave c.args.key (map kept_meant c.in_ok-verdict.field-0.events.items)) (map kept_meant es) c.args.output.now c.refragment.new.output c.refragment.result) c.deref_mut.ensures.value steps in
+      λ step why is.
+      uniform_fault c.args.role c.args.limits (map kept_meant c.in_ok-verdict.field-0.events.items) c.args.size c.args.weave c.args.key c.requires.key step why
+      (subst (λ (r : Result RecutAnswer Stop). IsRefragmented c.args.role c.args.limits (uniform_plan c.args.size c.args.weave c.args.key (map kept_meant c.in_ok-verdict.field-0.events.items)) (map kept_meant c.in_ok-verdict.field-0.events.items) c.args.output.now c.refragment.new.output r) is did).0;
+}

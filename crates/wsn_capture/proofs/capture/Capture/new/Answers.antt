@@ -1,4 +1,4 @@
-use Rattle.std.proofs.Common.{[], refl}
+use Rattle.std.proofs.Common.{[], arith}
 use Rattle.wsn_wire.specs.declared.endpoint.Role.{Role}
 use Rattle.wsn_rules.specs.Limits.{Limits}
 use Rattle.wsn_scan.specs.declared.scan.Scan.{Scan}
@@ -9,14 +9,7 @@ use Rattle.wsn_capture.proofs.capture.Capture.new.Goals as goal
 
 -- a scan that has consumed nothing
 none_came : (role : Role) (limits : Limits) (scan : Scan) → HasScanned role limits scan [] [] [] BetweenFrames → HasStreamed role limits scan []
-none_came role limits scan new = record {
-  came = [];
-  following = [];
-  heads = [];
-  whole = refl;
-  taken = record { frames = []; since = []; position = BetweenFrames; has_scanned = new; heads_are = refl };
-  all = λ none. refl;
-}
+none_came role limits scan new = grind arith
 
 pub returns : goal.returns
 returns c = record {

@@ -4,15 +4,13 @@ use Rattle.wsn_events.specs.declared.event.Event.TheVariants as events
 use Rattle.wsn_events.proofs.LentMessages.{copied, not_copied}
 use Rattle.wsn_events.proofs.event_reader.EventReader.copy.Goals as goal
 
-pub returns-in_default-clause-next : goal.returns-in_default-clause-next
-returns-in_default-clause-next g c role limits input came given lends unfailed =
-    not_copied role limits input c.args.self.now came given c.args.kind lends unfailed (λ none. c.in_default.ensures.none (c.payload.ensures ∙ none)) c.finish.new.self c.finish.ensures.answer c.finish.ensures.held
-
-pub returns-in_default-clause-sound : goal.returns-in_default-clause-sound
-returns-in_default-clause-sound g c = search rules
-
-pub returns-in_default-clause-left : goal.returns-in_default-clause-left
-returns-in_default-clause-left g c = search rules
+pub returns-in_default : goal.returns-in_default
+returns-in_default g c = record {
+  next = λ role limits input came given lends unfailed.
+      not_copied role limits input c.args.self.now came given c.args.kind lends unfailed (λ none. c.in_default.ensures.none (c.payload.ensures ∙ none)) c.finish.new.self c.finish.ensures.answer c.finish.ensures.held;
+  sound = search rules;
+  left = search rules;
+}
 
 pub returns-clause-next : goal.returns-clause-next
 returns-clause-next g c role limits input came given lends unfailed =

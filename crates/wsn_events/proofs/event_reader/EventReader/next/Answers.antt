@@ -8,18 +8,15 @@ use Rattle.wsn_events.proofs.event_reader.EventReader.next.Goals as goal
 pub next_turn-requires : goal.next_turn-requires
 next_turn-requires g c = search rules
 
-pub returns-in_err-next-clause-next : goal.returns-in_err-next-clause-next
-returns-in_err-next-clause-next g c role limits came given has =
-    let out = err_from_is_err_and c.from_residual.result c.from_residual.ensures.1 in
-    let is : c.from_residual.result ≡ Err c.in_err-next.field-0.0 = out.1 ∙ ap Err out.2 in
-    subst (λ (r : _). GoesOn role limits c.args.input.now c.next_turn.new.input c.next_turn.new.self came given r) (sym is)
-    (stops_next role limits c.args.input.now c.next_turn.new.input c.next_turn.new.self came given c.next_turn.result (c.next_turn.ensures.next role limits came given has) c.in_err-next.field-0.0 c.in_err-next.was)
-
-pub returns-in_err-next-clause-falls : goal.returns-in_err-next-clause-falls
-returns-in_err-next-clause-falls g c = search rules
-
-pub returns-in_err-next-clause-sound : goal.returns-in_err-next-clause-sound
-returns-in_err-next-clause-sound g c none = absurd (subst (λ (r : _). GivesEvent r) c.in_err-next.was (c.next_turn.ensures.sound none))
+pub returns-in_err-next : goal.returns-in_err-next
+returns-in_err-next g c = record {
+  next = λ role limits came given has.
+      let out = err_from_is_err_and c.from_residual.result c.from_residual.ensures.1 in
+      subst (λ (r : _). GoesOn role limits c.args.input.now c.next_turn.new.input c.next_turn.new.self came given r) (sym (out.1 ∙ ap Err out.2))
+      (stops_next role limits c.args.input.now c.next_turn.new.input c.next_turn.new.self came given c.next_turn.result (c.next_turn.ensures.next role limits came given has) c.in_err-next.field-0.0 c.in_err-next.was);
+  falls = search rules;
+  sound = λ none. absurd (subst (λ (r : _). GivesEvent r) c.in_err-next.was (c.next_turn.ensures.sound none));
+}
 
 pub copy-requires : goal.copy-requires
 copy-requires g c = let b = c.requires.begun in lent_going b.role b.limits c.args.input.now c.next_turn.new.input c.next_turn.new.self b.came b.given c.next_turn.result (c.next_turn.ensures.next b.role b.limits b.came b.given b.has) c.in-Lent.kind (c.in_ok-next.was ∙ ap Ok c.in-Lent.is)
@@ -33,13 +30,11 @@ returns-in-Own-clause-falls g c event = c.next_turn.ensures.falls (subst (λ (r 
 pub returns-in-Own-clause-sound : goal.returns-in-Own-clause-sound
 returns-in-Own-clause-sound g c none = subst (λ (r : _). GivesEvent r) (c.in_ok-next.was ∙ ap Ok c.in-Own.is) (c.next_turn.ensures.sound none)
 
-pub returns-in-Lent-clause-next : goal.returns-in-Lent-clause-next
-returns-in-Lent-clause-next g c role limits came given has = lent_next role limits c.args.input.now c.next_turn.new.input c.next_turn.new.self came given c.next_turn.result (c.next_turn.ensures.next role limits came given has) c.in-Lent.kind (c.in_ok-next.was ∙ ap Ok c.in-Lent.is) c.copy.new.self c.copy.result c.copy.ensures.next
-
-pub returns-in-Lent-clause-falls : goal.returns-in-Lent-clause-falls
-returns-in-Lent-clause-falls g c event =
-    let falls = c.next_turn.ensures.falls (subst (λ (r : _). GivesEvent r) (sym (c.in_ok-next.was ∙ ap Ok c.in-Lent.is)) tt) in
-    omega (arith, falls, c.copy.ensures.left)
-
-pub returns-in-Lent-clause-sound : goal.returns-in-Lent-clause-sound
-returns-in-Lent-clause-sound g c = search rules
+pub returns-in-Lent : goal.returns-in-Lent
+returns-in-Lent g c = record {
+  next = λ role limits came given has. lent_next role limits c.args.input.now c.next_turn.new.input c.next_turn.new.self came given c.next_turn.result (c.next_turn.ensures.next role limits came given has) c.in-Lent.kind (c.in_ok-next.was ∙ ap Ok c.in-Lent.is) c.copy.new.self c.copy.result c.copy.ensures.next;
+  falls = λ event.
+      let falls = c.next_turn.ensures.falls (subst (λ (r : _). GivesEvent r) (sym (c.in_ok-next.was ∙ ap Ok c.in-Lent.is)) tt) in
+      omega (arith, falls, c.copy.ensures.left);
+  sound = search rules;
+}

@@ -11,14 +11,13 @@ loop-self-init g c = record {
   left = omega arith;
 }
 
-pub next-requires-clause-begun : goal.next-requires-clause-begun
-next-requires-clause-begun g c =
-    let b = c.requires.begun in
-    let read = c.loop-self.invariant.read b.role b.limits b.came b.given b.has in
-    reading_of c.loop-self.self (begun_sound b.role b.limits c.loop-self.self (b.came ++ read.more) b.given read.has)
-
-pub next-requires-clause-readable : goal.next-requires-clause-readable
-next-requires-clause-readable g c = c.loop-self.invariant.unfailed
+pub next-requires : goal.next-requires
+next-requires g c = record {
+  begun = let b = c.requires.begun in
+      let read = c.loop-self.invariant.read b.role b.limits b.came b.given b.has in
+      reading_of c.loop-self.self (begun_sound b.role b.limits c.loop-self.self (b.came ++ read.more) b.given read.has);
+  readable = c.loop-self.invariant.unfailed;
+}
 
 pub returns-in-Some-clause-next : goal.returns-in-Some-clause-next
 returns-in-Some-clause-next g c role limits came given has =
@@ -29,23 +28,20 @@ returns-in-Some-clause-next g c role limits came given has =
 
 pub returns-in-Some-clause-falls : goal.returns-in-Some-clause-falls
 returns-in-Some-clause-falls g c is =
-    let was : c.next.result ≡ Ok None = c.in-Ok-None.is ∙ ap Ok c.in-Ok-None.field-0-is in
-    omega (arith, c.next.ensures.falls was, c.loop-self.invariant.left)
+    omega (arith, c.next.ensures.falls (c.in-Ok-None.is ∙ ap Ok c.in-Ok-None.field-0-is), c.loop-self.invariant.left)
 
-pub returns-then-not-take-clause-next : goal.returns-then-not-take-clause-next
-returns-then-not-take-clause-next g c role limits came given has =
-    let read = c.loop-self.invariant.read role limits came given has in
-    let reads = c.next.ensures.next role limits (came ++ read.more) read.has.frames read.has.position read.has.has_taken in
-    let was : c.next.result ≡ Ok None = c.in-Ok-None.is ∙ ap Ok c.in-Ok-None.field-0-is in
-    let refused : c.take.result ≡ false = search rules in
-    let failed = c.take.ensures.refused refused in
-    no_memory role limits c.args.input.now came given c.loop-self.input c.next.new.input c.loop-self.self c.next.new.self c.next.new.part read c.next.result reads was c.begin.new.self c.begin.ensures (failed.0, λ none. failed.1 (c.payload.ensures ∙ none)) c.finish.new.self c.finish.ensures.answer c.finish.ensures.held
-
-pub returns-then-not-take-clause-falls : goal.returns-then-not-take-clause-falls
-returns-then-not-take-clause-falls g c = search rules
-
-pub returns-then-not-take-clause-sound : goal.returns-then-not-take-clause-sound
-returns-then-not-take-clause-sound g c = search rules
+pub returns-then-not-take : goal.returns-then-not-take
+returns-then-not-take g c = record {
+  next = λ role limits came given has.
+      let read = c.loop-self.invariant.read role limits came given has in
+      let reads = c.next.ensures.next role limits (came ++ read.more) read.has.frames read.has.position read.has.has_taken in
+      let was : c.next.result ≡ Ok None = c.in-Ok-None.is ∙ ap Ok c.in-Ok-None.field-0-is in
+      let refused : c.take.result ≡ false = search rules in
+      let failed = c.take.ensures.refused refused in
+      no_memory role limits c.args.input.now came given c.loop-self.input c.next.new.input c.loop-self.self c.next.new.self c.next.new.part read c.next.result reads was c.begin.new.self c.begin.ensures (failed.0, λ none. failed.1 (c.payload.ensures ∙ none)) c.finish.new.self c.finish.ensures.answer c.finish.ensures.held;
+  falls = search rules;
+  sound = search rules;
+}
 
 pub end-requires : goal.end-requires
 end-requires g c =
@@ -66,8 +62,7 @@ returns-in-Some-end-clause-next g c role limits came given has =
 
 pub returns-in-Some-end-clause-falls : goal.returns-in-Some-end-clause-falls
 returns-in-Some-end-clause-falls g c is =
-    let was : c.next.result ≡ Ok None = c.in-Ok-None.is ∙ ap Ok c.in-Ok-None.field-0-is in
-    omega (arith, c.next.ensures.falls was, c.loop-self.invariant.left)
+    omega (arith, c.next.ensures.falls (c.in-Ok-None.is ∙ ap Ok c.in-Ok-None.field-0-is), c.loop-self.invariant.left)
 
 pub loop-self-smaller-in_default-end : goal.loop-self-smaller-in_default-end
 loop-self-smaller-in_default-end g c = c.next.ensures.falls (c.in-Ok-None.is ∙ ap Ok c.in-Ok-None.field-0-is)
@@ -109,26 +104,22 @@ loop-self-preserved g c =
       left = omega (arith, c.next.ensures.falls was, c.loop-self.invariant.left);
     }
 
-pub returns-in-Ok-Some-clause-next : goal.returns-in-Ok-Some-clause-next
-returns-in-Ok-Some-clause-next g c role limits came given has =
-    let read = c.loop-self.invariant.read role limits came given has in
-    let reads = c.next.ensures.next role limits (came ++ read.more) read.has.frames read.has.position read.has.has_taken in
-    finished role limits c.args.input.now came given c.loop-self.input c.next.new.input c.loop-self.self c.next.new.self c.next.new.part read c.next.result reads c.in-Ok-Some.verdict (c.in-Ok-Some.is ∙ ap Ok c.in-Ok-Some.field-0-is) c.finish-in-Ok-Some.new.self c.finish-in-Ok-Some.ensures.answer c.finish-in-Ok-Some.ensures.held
+pub returns-in-Ok-Some : goal.returns-in-Ok-Some
+returns-in-Ok-Some g c = record {
+  next = λ role limits came given has.
+      let read = c.loop-self.invariant.read role limits came given has in
+      let reads = c.next.ensures.next role limits (came ++ read.more) read.has.frames read.has.position read.has.has_taken in
+      finished role limits c.args.input.now came given c.loop-self.input c.next.new.input c.loop-self.self c.next.new.self c.next.new.part read c.next.result reads c.in-Ok-Some.verdict (c.in-Ok-Some.is ∙ ap Ok c.in-Ok-Some.field-0-is) c.finish-in-Ok-Some.new.self c.finish-in-Ok-Some.ensures.answer c.finish-in-Ok-Some.ensures.held;
+  falls = search rules;
+  sound = search rules;
+}
 
-pub returns-in-Ok-Some-clause-falls : goal.returns-in-Ok-Some-clause-falls
-returns-in-Ok-Some-clause-falls g c = search rules
-
-pub returns-in-Ok-Some-clause-sound : goal.returns-in-Ok-Some-clause-sound
-returns-in-Ok-Some-clause-sound g c = search rules
-
-pub returns-in-Err-clause-next : goal.returns-in-Err-clause-next
-returns-in-Err-clause-next g c role limits came given has =
-    let read = c.loop-self.invariant.read role limits came given has in
-    let reads = c.next.ensures.next role limits (came ++ read.more) read.has.frames read.has.position read.has.has_taken in
-    stopped role limits c.args.input.now came given c.loop-self.input c.next.new.input c.loop-self.self c.next.new.self c.next.new.part read c.next.result reads c.in-Err.stop c.in-Err.is c.finish-in-Err.new.self c.finish-in-Err.ensures.answer c.finish-in-Err.ensures.held
-
-pub returns-in-Err-clause-falls : goal.returns-in-Err-clause-falls
-returns-in-Err-clause-falls g c = search rules
-
-pub returns-in-Err-clause-sound : goal.returns-in-Err-clause-sound
-returns-in-Err-clause-sound g c = search rules
+pub returns-in-Err : goal.returns-in-Err
+returns-in-Err g c = record {
+  next = λ role limits came given has.
+      let read = c.loop-self.invariant.read role limits came given has in
+      let reads = c.next.ensures.next role limits (came ++ read.more) read.has.frames read.has.position read.has.has_taken in
+      stopped role limits c.args.input.now came given c.loop-self.input c.next.new.input c.loop-self.self c.next.new.self c.next.new.part read c.next.result reads c.in-Err.stop c.in-Err.is c.finish-in-Err.new.self c.finish-in-Err.ensures.answer c.finish-in-Err.ensures.held;
+  falls = search rules;
+  sound = search rules;
+}

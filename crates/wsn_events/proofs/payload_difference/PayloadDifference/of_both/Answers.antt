@@ -20,14 +20,8 @@ returns-in-None c =
     sym c.in-None.is ∙ c.place_between.ensures.is ∙ ap (λ (bs : List ℕ). place_between bs c.bytes-2.result.now) c.bytes.ensures ∙ ap (λ (bs : List ℕ). place_between (payload_in event) bs) c.bytes-2.ensures in
     subst (λ (p : Option ℕ). ArePartsKept None p (Some event) (Some that)) place tt
 
-pub new-requires-clause-within : goal.new-requires-clause-within
-new-requires-clause-within c = search rules
+pub new-requires : goal.new-requires
+new-requires c = record { within = search rules; lawful = search rules }
 
-pub new-requires-clause-lawful : goal.new-requires-clause-lawful
-new-requires-clause-lawful c = search rules
-
-pub new-requires-in-Some-clause-within : goal.new-requires-in-Some-clause-within
-new-requires-in-Some-clause-within c = search rules
-
-pub new-requires-in-Some-clause-lawful : goal.new-requires-in-Some-clause-lawful
-new-requires-in-Some-clause-lawful c = search rules
+pub new-requires-in-Some : goal.new-requires-in-Some
+new-requires-in-Some c = record { within = search rules; lawful = search rules }

@@ -31,11 +31,8 @@ returns c =
           ∙ ap (take 4107) on;
     }
 
-pub view_start-from-requires-clause-within : goal.view_start-from-requires-clause-within
-view_start-from-requires-clause-within c = search rules
-
-pub view_start-from-requires-clause-lawful : goal.view_start-from-requires-clause-lawful
-view_start-from-requires-clause-lawful c = search rules
+pub view_start-from-requires : goal.view_start-from-requires
+view_start-from-requires c = record { within = search rules; lawful = search rules }
 
 pub slice_bounds-bytes-count : goal.slice_bounds-bytes-count
 slice_bounds-bytes-count c = search rules

@@ -8,20 +8,14 @@ nothing_in : (xs : List ℕ) → nat_eq (length xs) 0 ≡ true → xs ≡ []
 nothing_in [] is = refl
 nothing_in (x ∷ xs) is = let none : suc (length xs) ≡ 0 = eqb-true (suc (length xs)) 0 is in absurd cc
 
-pub returns-then-is_control-clause-taken : goal.returns-then-is_control-clause-taken
-returns-then-is_control-clause-taken g c = grind (arith, common_steps)
-
-pub returns-then-is_control-clause-refused : goal.returns-then-is_control-clause-refused
-returns-then-is_control-clause-refused g c = search rules
+pub returns-then-is_control : goal.returns-then-is_control
+returns-then-is_control g c = record { taken = grind (arith, common_steps); refused = search rules }
 
 pub try_extend_from_slice-fits-requires : goal.try_extend_from_slice-fits-requires
 try_extend_from_slice-fits-requires g c = search rules
 
-pub returns-clause-taken : goal.returns-clause-taken
-returns-clause-taken g c = grind (arith, common_steps)
-
-pub returns-clause-refused : goal.returns-clause-refused
-returns-clause-refused g c = search rules
+pub returns : goal.returns
+returns g c = record { taken = grind (arith, common_steps); refused = search rules }
 
 pub returns-then-is_empty-clause-taken : goal.returns-then-is_empty-clause-taken
 returns-then-is_empty-clause-taken g c fs op before is within =

@@ -11,47 +11,17 @@ invariant_of-self g c none =
 pub same-self : goal.same-self
 same-self g c = search rules
 
-pub returns-in_err-answer-in-Some-clause-next : goal.returns-in_err-answer-in-Some-clause-next
-returns-in_err-answer-in-Some-clause-next g c = search rules
-
-pub returns-in_err-answer-in-Some-clause-falls : goal.returns-in_err-answer-in-Some-clause-falls
-returns-in_err-answer-in-Some-clause-falls g c = search rules
-
-pub returns-in_err-answer-in-Some-clause-again : goal.returns-in_err-answer-in-Some-clause-again
-returns-in_err-answer-in-Some-clause-again g c = search rules
-
-pub returns-in_err-answer-in-Some-clause-sound : goal.returns-in_err-answer-in-Some-clause-sound
-returns-in_err-answer-in-Some-clause-sound g c = search rules
+pub returns-in_err-answer-in-Some : goal.returns-in_err-answer-in-Some
+returns-in_err-answer-in-Some g c = record { next = search rules; falls = search rules; again = search rules; sound = search rules }
 
 pub same-self-in-Some : goal.same-self-in-Some
 same-self-in-Some g c = search rules
 
-pub next_turn-requires-clause-begun : goal.next_turn-requires-clause-begun
-next_turn-requires-clause-begun g c = search rules
+pub next_turn-requires : goal.next_turn-requires
+next_turn-requires g c = record { begun = search rules; readable = search rules }
 
-pub next_turn-requires-clause-readable : goal.next_turn-requires-clause-readable
-next_turn-requires-clause-readable g c = search rules
+pub returns-in_ok-answer-in-Some : goal.returns-in_ok-answer-in-Some
+returns-in_ok-answer-in-Some g c = record { next = search rules; falls = search rules; again = search rules; sound = search rules }
 
-pub returns-in_ok-answer-in-Some-clause-next : goal.returns-in_ok-answer-in-Some-clause-next
-returns-in_ok-answer-in-Some-clause-next g c = search rules
-
-pub returns-in_ok-answer-in-Some-clause-falls : goal.returns-in_ok-answer-in-Some-clause-falls
-returns-in_ok-answer-in-Some-clause-falls g c = search rules
-
-pub returns-in_ok-answer-in-Some-clause-again : goal.returns-in_ok-answer-in-Some-clause-again
-returns-in_ok-answer-in-Some-clause-again g c = search rules
-
-pub returns-in_ok-answer-in-Some-clause-sound : goal.returns-in_ok-answer-in-Some-clause-sound
-returns-in_ok-answer-in-Some-clause-sound g c = search rules
-
-pub returns-in-None-clause-next : goal.returns-in-None-clause-next
-returns-in-None-clause-next g c = search rules
-
-pub returns-in-None-clause-falls : goal.returns-in-None-clause-falls
-returns-in-None-clause-falls g c = search rules
-
-pub returns-in-None-clause-again : goal.returns-in-None-clause-again
-returns-in-None-clause-again g c = search rules
-
-pub returns-in-None-clause-sound : goal.returns-in-None-clause-sound
-returns-in-None-clause-sound g c = search rules
+pub returns-in-None : goal.returns-in-None
+returns-in-None g c = record { next = search rules; falls = search rules; again = search rules; sound = search rules }

@@ -10,11 +10,8 @@ returns-in-Last g c = rw c.in-Last.is c.against_last.ensures
 pub returns-in-Control : goal.returns-in-Control
 returns-in-Control g c = rw c.in-Control.is (c.against_control.ensures c.args.limits)
 
-pub against_piece-requires-clause-placed : goal.against_piece-requires-clause-placed
-against_piece-requires-clause-placed g c = search rules
-
-pub against_piece-requires-clause-few : goal.against_piece-requires-clause-few
-against_piece-requires-clause-few g c = search rules
+pub against_piece-requires : goal.against_piece-requires
+against_piece-requires g c = record { placed = search rules; few = search rules }
 
 pub against_last-requires : goal.against_last-requires
 against_last-requires g c = search rules
