@@ -42,13 +42,13 @@ IsStopBy limits came Read = ⊥
 abbrev pub bytes_left : LineSplitter → ℕ
 bytes_left splitter = (1000001 - count_of splitter.capture.lines) * begun_most - length splitter.begun
 
--- The stop is certain from one byte of the piece on, which comes after the bytes `came`: this byte ends its line, or
+-- The stop is certain from one byte of the chunk on, which comes after the bytes `came`: this byte ends its line, or
 -- makes it too long.
-pub record IsStopWithin (limits : Limits) (came piece : List ℕ) (stop : CaptureStop) : Type 0 where
+pub record IsStopWithin (limits : Limits) (came chunk : List ℕ) (stop : CaptureStop) : Type 0 where
   pub earlier : List ℕ
   pub last : ℕ
   pub ahead : List ℕ
-  pub whole : piece ≡ earlier ++ last ∷ ahead
+  pub whole : chunk ≡ earlier ++ last ∷ ahead
   pub unfaulted : IsUnfaulted limits (came ++ earlier)
   pub is_evident : (last ≡ 10) ⊎ (suc (length unfaulted.begun) ≡ begun_most)
   pub stops : IsStopBy limits ((came ++ earlier) ++ last ∷ []) stop

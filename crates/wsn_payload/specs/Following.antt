@@ -189,27 +189,27 @@ abbrev pub IsStepOf : ℕ → Result (Option Payload) Stop → Result (ℕ × Op
 IsStepOf n (Ok answer) given = given ≡ Ok (n, answer)
 IsStepOf n (Err stopped) given = given ≡ Err stopped
 
--- Of the bytes and then the first n of this piece, an answer; or what is kept. After a failed write, a prefix of the
--- payload in some of them was written, and all that came before the piece.
+-- Of the bytes and then the first n of this chunk, an answer; or what is kept. After a failed write, a prefix of the
+-- payload in some of them was written, and all that came before the chunk.
 abbrev pub SeeksOn : Role → Limits → ℕ → Scan → EventAt → List ℕ → List ℕ → Outgoing → Outgoing →
     Result (ℕ × Option Payload) Stop → Type 0
-SeeksOn role limits at scan kept came piece first now (Ok (n, None)) =
-    HasSought role limits at scan kept (came ++ take n piece) first now
-SeeksOn role limits at scan kept came piece first now (Ok (n, Some answer)) =
-    (length (came ++ take n piece) ≤ limits.input)
-    × IsAnsweredAt role limits at (came ++ take n piece) first now answer
-SeeksOn role limits at scan kept came piece first now (Err stopped) =
+SeeksOn role limits at scan kept came chunk first now (Ok (n, None)) =
+    HasSought role limits at scan kept (came ++ take n chunk) first now
+SeeksOn role limits at scan kept came chunk first now (Ok (n, Some answer)) =
+    (length (came ++ take n chunk) ≤ limits.input)
+    × IsAnsweredAt role limits at (came ++ take n chunk) first now answer
+SeeksOn role limits at scan kept came chunk first now (Err stopped) =
     (stopped ≡ stop.Write)
-    × ((payload : List ℕ) × IsPayloadInFront role limits (came ++ piece) at payload × IsPartlyWritten first now payload)
-    × IsWrittenBut (length piece) role limits at (came ++ piece) first now
+    × ((payload : List ℕ) × IsPayloadInFront role limits (came ++ chunk) at payload × IsPartlyWritten first now payload)
+    × IsWrittenBut (length chunk) role limits at (came ++ chunk) first now
 
--- The same of a whole piece, or of its bytes up to the answer.
+-- The same of a whole chunk, or of its bytes up to the answer.
 abbrev pub SeeksThrough : Role → Limits → ℕ → Scan → EventAt → List ℕ → List ℕ → Outgoing → Outgoing →
     Result (Option Payload) Stop → Type 0
-SeeksThrough role limits at scan kept came piece first now (Ok None) =
-    HasSought role limits at scan kept (came ++ piece) first now
-SeeksThrough role limits at scan kept came piece first now (Ok (Some answer)) =
-    (n : ℕ) × (n ≤ length piece)
-    × SeeksOn role limits at scan kept came piece first now (Ok (n, Some answer))
-SeeksThrough role limits at scan kept came piece first now (Err stopped) =
-    SeeksOn role limits at scan kept came piece first now (Err stopped)
+SeeksThrough role limits at scan kept came chunk first now (Ok None) =
+    HasSought role limits at scan kept (came ++ chunk) first now
+SeeksThrough role limits at scan kept came chunk first now (Ok (Some answer)) =
+    (n : ℕ) × (n ≤ length chunk)
+    × SeeksOn role limits at scan kept came chunk first now (Ok (n, Some answer))
+SeeksThrough role limits at scan kept came chunk first now (Err stopped) =
+    SeeksOn role limits at scan kept came chunk first now (Err stopped)

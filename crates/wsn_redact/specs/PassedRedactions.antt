@@ -49,14 +49,14 @@ StopsAtLine limits new lines entries others redacted line lf before after (Captu
 StopsAtLine limits new lines entries others redacted line lf before after Write =
     PutsLine limits new lines entries others redacted line lf before after × (after.failed ≡ true)
 
--- The stop is within the piece, after the bytes that came.
+-- The stop is within the chunk, after the bytes that came.
 abbrev pub StopsWithin : Limits → Outgoing → Outgoing → List ℕ → List ℕ → RedactStop → Type 0
-StopsWithin limits first now came piece (Capture (capture.Line number fault)) =
-    IsStopWithin limits came piece (capture.Line number fault) × IsWrittenBefore limits (came ++ piece) number first now
-StopsWithin limits first now came piece (Capture capture.Read) = ⊥
-StopsWithin limits first now came piece Write =
-    ((text : List ℕ) × IsTextOf limits (came ++ piece) text × IsPartlyWritten first now text)
-    × IsWrittenBut (length piece) limits (came ++ piece) first now
+StopsWithin limits first now came chunk (Capture (capture.Line number fault)) =
+    IsStopWithin limits came chunk (capture.Line number fault) × IsWrittenBefore limits (came ++ chunk) number first now
+StopsWithin limits first now came chunk (Capture capture.Read) = ⊥
+StopsWithin limits first now came chunk Write =
+    ((text : List ℕ) × IsTextOf limits (came ++ chunk) text × IsPartlyWritten first now text)
+    × IsWrittenBut (length chunk) limits (came ++ chunk) first now
 
 -- the number of bytes that may still come
 abbrev pub bytes_ahead : CaptureRedactor → List ℕ → ℕ

@@ -1,4 +1,4 @@
--- A frame that begins in a piece: its head, and what the piece has of its payload.
+-- A frame that begins in a chunk: its head, and what the chunk has of its payload.
 use Rattle.std.proofs.Common.{rules, nat_eq, Bool, None, Some, false, ◌≡◌, ◌↔◌, ℕ, zero, suc, ◌+◌, ◌-◌, ◌≤◌, true, Ok, Option, List, [], ◌++◌, length, take, drop, refl, sym, ap, ◌∙◌, subst, arith, append-nil}
 use Rattle.wsn_wire.specs.declared.endpoint.Role.{Role}
 use Rattle.wsn_wire.specs.declared.refusal.Reason.{Reason}
@@ -59,13 +59,13 @@ total_is count len fed size = (ends, whole)
     whole : 0 + length fed ≡ len → nat_eq count len ≡ true
     whole all = let same : count ≡ len = omega (arith, all, size) in search (rules, same)
 
--- The payload in the piece after it was unmasked: from its start up to the end of the part.
-pub drop_mid : (start count : ℕ) (piece new : List ℕ) (key : Option (List ℕ)) → start + count ≤ length piece → new ≡ unmasked_by key 0 (mid_of start (start + count - start) piece)
-    → drop start (take (start + count) (put_mid start (start + count - start) piece new)) ≡ unmasked_by key 0 (mid_of start (start + count - start) piece)
-drop_mid start count piece new key within unmasked =
-    let after = put_mid start (start + count - start) piece new in
+-- The payload in the chunk after it was unmasked: from its start up to the end of the part.
+pub drop_mid : (start count : ℕ) (chunk new : List ℕ) (key : Option (List ℕ)) → start + count ≤ length chunk → new ≡ unmasked_by key 0 (mid_of start (start + count - start) chunk)
+    → drop start (take (start + count) (put_mid start (start + count - start) chunk new)) ≡ unmasked_by key 0 (mid_of start (start + count - start) chunk)
+drop_mid start count chunk new key within unmasked =
+    let after = put_mid start (start + count - start) chunk new in
     let same : count ≡ start + count - start = omega arith in
-    drop-take start count after ∙ ap (λ (n : ℕ). take n (drop start after)) same ∙ payload_after key start (start + count) piece new (omega arith) within unmasked
+    drop-take start count after ∙ ap (λ (n : ℕ). take n (drop start after)) same ∙ payload_after key start (start + count) chunk new (omega arith) within unmasked
 
 -- Whether a part begins its frame doesn't say how the frame goes on.
 pub begun_part : (fs : List Frame) (part : Part) (payload shown : List ℕ) (frames : List Frame) (position : Position) → shown ≡ payload → GoesOn fs [] part payload frames position

@@ -20,8 +20,8 @@ by_past true if_so if_not = if_so refl
 by_past false if_so if_not = if_not refl
 
 -- a buffer of which a call had the first n items
-pub same_size : (n : ℕ) (buffer piece : List ℕ) → n ≤ length buffer → length piece ≡ length (take n buffer) → length (piece ++ drop n buffer) ≡ length buffer
-same_size n buffer piece within same = omega (arith, same, length-take-le n buffer within, length-append piece (drop n buffer), length-drop n buffer)
+pub same_size : (n : ℕ) (buffer chunk : List ℕ) → n ≤ length buffer → length chunk ≡ length (take n buffer) → length (chunk ++ drop n buffer) ≡ length buffer
+same_size n buffer chunk within same = omega (arith, same, length-take-le n buffer within, length-append chunk (drop n buffer), length-drop n buffer)
 
 -- ---- what came within the limit, and past it
 

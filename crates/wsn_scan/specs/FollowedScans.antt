@@ -21,23 +21,23 @@ pub record HasFollowed (role : Role) (limits : Limits) (scan : Scan) (came : Lis
   pub has_scanned : HasScanned role limits scan came done rest at
   pub unrefused : refusal_in scan ≡ None
 
--- A call of the scan, which got this piece, consumed n bytes of it and found this. `after` is the piece after the call.
-pub record IsCall (old new : Scan) (piece after : List ℕ) (n : ℕ) (found : Taken) (part : Part) : Type 0 where
-  pub in_bytes : IsBytes piece
+-- A call of the scan, which got this chunk, consumed n bytes of it and found this. `after` is the chunk after the call.
+pub record IsCall (old new : Scan) (chunk after : List ℕ) (n : ℕ) (found : Taken) (part : Part) : Type 0 where
+  pub in_bytes : IsBytes chunk
   pub advances : IsAdvance (record {
     before = old;
     after = new;
-    piece = piece;
-    piece_after = after;
+    chunk = chunk;
+    chunk_after = after;
     count = n;
     found = found;
     part = part;
   })
-  pub within : n ≤ length piece
+  pub within : n ≤ length chunk
   pub room : room_of new + n ≡ room_of old
-  pub untouched : found ≢ taken.Part → found ≢ taken.Refused → after ≡ piece
+  pub untouched : found ≢ taken.Part → found ≢ taken.Refused → after ≡ chunk
   pub whole : found ≡ taken.Part → part.ends ≡ true → HasNoRest new
-  pub refused : found ≡ taken.Refused → Unmasks old.stage old piece after n
+  pub refused : found ≡ taken.Refused → Unmasks old.stage old chunk after n
   pub reported : IsSome (refusal_in new) ↔ (found ≡ taken.Refused)
 
 -- After the frames fs and the bytes `rest`, the bytes `share` came. The part takes this payload in them, after `before`,

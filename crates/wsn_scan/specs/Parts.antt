@@ -48,7 +48,7 @@ Finds taken.Part part payload fs at frames position = IsPart fs at part payload 
 Finds taken.Closed part payload fs at frames position = (frames ≡ fs) × (position ≡ at) × EndsWithClose fs
 Finds taken.Refused part payload fs at frames position = (frames ≡ fs) × (position ≡ at)
 
--- How many bytes of a piece of this size a call consumes: of a frame's part all that the piece has of the frame, or its
+-- How many bytes of a chunk of this size a call consumes: of a frame's part all that the chunk has of the frame, or its
 -- head alone, if it begins there.
 abbrev pub Consumes : Taken → Part → ℕ → ℕ → Type 0
 Consumes taken.More part size n = n ≡ size
@@ -57,12 +57,12 @@ Consumes taken.Part part size n =
 Consumes taken.Closed part size n = n ≡ size
 Consumes taken.Refused part size n = ⊤
 
--- What a call finds in a piece of this size, by what was taken before it, and how many bytes n it consumes.
+-- What a call finds in a chunk of this size, by what was taken before it, and how many bytes n it consumes.
 pub record FindsByCase (fs : List Frame) (refused : Option Refusal) (size n : ℕ) (found : Taken) (part : Part)
     : Type 0 where
   -- after a refusal, the refusal again
   pub again : (refusal : Refusal) → refused ≡ Some refusal → (found ≡ taken.Refused) × (n ≡ 0)
-  -- after a Close, all of the piece
+  -- after a Close, all of the chunk
   pub tail : refused ≡ None → EndsWithClose fs → (found ≡ taken.Closed) × (n ≡ size)
   -- otherwise part of a head, a part of a frame, or a refusal
   pub frame : refused ≡ None → HasNoClose fs → (found ≢ taken.Closed) × Consumes found part size n

@@ -193,8 +193,8 @@ fn part_in(
     ensures taken { IsAdvance (record {
       before = scan.old;
       after = scan.new;
-      piece = slice_range buffer.old at end;
-      piece_after = slice_range buffer.new at end;
+      chunk = slice_range buffer.old at end;
+      chunk_after = slice_range buffer.new at end;
       count = result.0;
       found = result.1;
       part = part.new;

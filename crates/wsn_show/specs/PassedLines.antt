@@ -48,16 +48,16 @@ StopsAtLine limits style new lines entries line before after (Capture capture.Re
 StopsAtLine limits style new lines entries line before after Write =
     ShowsLine limits style new lines entries line before after × (after.failed ≡ true)
 
--- The stop is within the piece, after the bytes that came.
+-- The stop is within the chunk, after the bytes that came.
 abbrev pub StopsWithin : Limits → Style → Outgoing → Outgoing → List ℕ → List ℕ → ShowStop → Type 0
-StopsWithin limits style first now came piece (Capture (capture.Line number fault)) =
-    IsStopWithin limits came piece (capture.Line number fault)
-    × ((lines : List (List ℕ)) × (text : List ℕ) × BeginWithLines (came ++ piece) lines × (number ≡ length lines + 1)
+StopsWithin limits style first now came chunk (Capture (capture.Line number fault)) =
+    IsStopWithin limits came chunk (capture.Line number fault)
+    × ((lines : List (List ℕ)) × (text : List ℕ) × BeginWithLines (came ++ chunk) lines × (number ≡ length lines + 1)
     × IsTextOfLines limits style lines text × IsWritten first now text)
-StopsWithin limits style first now came piece (Capture capture.Read) = ⊥
-StopsWithin limits style first now came piece Write =
-    ((text : List ℕ) × IsTextOf limits style (came ++ piece) text × IsPartlyWritten first now text)
-    × IsPrintedBut (length piece) limits style (came ++ piece) first now
+StopsWithin limits style first now came chunk (Capture capture.Read) = ⊥
+StopsWithin limits style first now came chunk Write =
+    ((text : List ℕ) × IsTextOf limits style (came ++ chunk) text × IsPartlyWritten first now text)
+    × IsPrintedBut (length chunk) limits style (came ++ chunk) first now
 
 -- the number of bytes that may still come
 abbrev pub bytes_ahead : CaptureView → List ℕ → ℕ

@@ -11,7 +11,7 @@ invariant-loop-count g l = record {
   unfailed : l.input.failed ≡ false;
   few : count_of l.lines.capture.lines ≤ 1000000;
   short : length l.lines.begun < 8196;
-  size : length l.piece ≡ 4096;
+  size : length l.chunk ≡ 4096;
 }
 
 abbrev pub decreases-loop-count : goal.decreases-loop-count

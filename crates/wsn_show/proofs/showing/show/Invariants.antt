@@ -12,7 +12,7 @@ invariant-loop-count g l = record {
   writable : l.output.failed ≡ false;
   few : count_of l.capture.lines ≤ 1000000;
   short : length l.lines < 8196;
-  size : length l.piece ≡ 4096;
+  size : length l.chunk ≡ 4096;
 }
 
 abbrev pub decreases-loop-count : goal.decreases-loop-count
