@@ -26,7 +26,7 @@ use Rattle.wsn_scan.specs.FrameReaders.{HasTaken, held_payload}
 use Rattle.wsn_scan.specs.Positions.{Position, BetweenFrames, IsTakenOf}
 use Rattle.wsn_scan.specs.Parts.{IsWholeMessage}
 use Rattle.wsn_scan.specs.ReadParts.{TakesPart}
-use Rattle.wsn_scan.specs.Refill.{chunk_size}
+use Rattle.wsn_scan.specs.Judging.{chunk_size}
 use Rattle.wsn_scan.proofs.ReaderReports.{reported_of}
 use Rattle.wsn_scan.proofs.FollowedScans.{begins_at}
 use Rattle.wsn_events.specs.declared.event.Event.{Event}

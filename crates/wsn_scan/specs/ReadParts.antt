@@ -40,8 +40,8 @@ AllTaken role limits bytes fs at = AreHeads role limits bytes fs (heads_of fs ++
 
 -- The verdict on the bytes that came, as a judge reaches it. Each whole frame in them was taken to its end, and each
 -- head.
-abbrev pub IsDone : Role → Limits → Incoming → List ℕ → List Frame → Position → Verdict → Type 0
-IsDone role limits new came fs at verdict =
+abbrev pub IsJudgedAt : Role → Limits → Incoming → List ℕ → List Frame → Position → Verdict → Type 0
+IsJudgedAt role limits new came fs at verdict =
     IsReached role limits new came verdict × IsVerdict role limits came fs verdict × AllTaken role limits came fs at
 
 -- A stop, as a judge's. Of the bytes within the limit, each whole frame was taken to its end, and each head.
@@ -56,7 +56,7 @@ abbrev pub IsNextPart : Role → Limits → Incoming → FrameReader → Part �
     Result (Option Verdict) Stop → Type 0
 IsNextPart role limits new reader part came fs at (Ok None) =
     TakesPart role limits reader part came fs at × (new.failed ≡ false)
-IsNextPart role limits new reader part came fs at (Ok (Some verdict)) = IsDone role limits new came fs at verdict
+IsNextPart role limits new reader part came fs at (Ok (Some verdict)) = IsJudgedAt role limits new came fs at verdict
 IsNextPart role limits new reader part came fs at (Err halted) = IsHaltedAt role limits new came fs at halted
 
 -- A call has read these bytes more, and its result is right for all that came: at most one byte past the limit.

@@ -16,7 +16,7 @@ use Rattle.wsn_scan.specs.Positions.{Position}
 use Rattle.wsn_scan.specs.Scans.{refusal_in}
 use Rattle.wsn_scan.specs.FrameReaders.{HasTaken}
 use Rattle.wsn_scan.specs.Judging.{chunk_size}
-use Rattle.wsn_scan.specs.ReadParts.{TakesPart, AllTaken, IsDone, IsHaltedAt}
+use Rattle.wsn_scan.specs.ReadParts.{TakesPart, AllTaken, IsJudgedAt, IsHaltedAt}
 
 -- All bytes that came are scanned.
 pub record IsUsed (role : Role) (limits : Limits) (reader : FrameReader) (came : List ℕ) (fs : List Frame)
@@ -52,7 +52,7 @@ abbrev pub IsFilledBy : Role → Limits → Incoming → FrameReader → List �
     Result (Option Verdict) Stop → Type 0
 IsFilledBy role limits new reader came fs at (Ok None) =
     HasTaken role limits reader came fs at × (new.failed ≡ false)
-IsFilledBy role limits new reader came fs at (Ok (Some verdict)) = IsDone role limits new came fs at verdict
+IsFilledBy role limits new reader came fs at (Ok (Some verdict)) = IsJudgedAt role limits new came fs at verdict
 IsFilledBy role limits new reader came fs at (Err halted) = IsHaltedAt role limits new came fs at halted
 
 -- What one read did after all bytes that came were scanned.
