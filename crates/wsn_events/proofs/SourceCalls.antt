@@ -22,7 +22,7 @@ use Rattle.wsn_io.specs.declared.stop.Stop.TheVariants as stops
 use Rattle.wsn_scan.specs.Positions.{Position, BetweenFrames, InFrame, IsTakenOf}
 use Rattle.wsn_scan.specs.FrameReaders.{HasTaken, IsReading, held_payload}
 use Rattle.wsn_scan.specs.Parts.{IsPartAt, IsWholeMessage}
-use Rattle.wsn_scan.specs.ReadParts.{ReadsOn, TakesPart, IsHaltedAt, IsNextPart}
+use Rattle.wsn_scan.specs.ReadParts.{ReadsOn, ReadsPart, IsHaltedAt, IsNextPart}
 use Rattle.wsn_scan.specs.Judging.{chunk_size}
 use Rattle.wsn_scan.proofs.FrameEnds.{unfinished_few}
 use Rattle.wsn_scan.proofs.ReaderReports.{reported_of}
@@ -93,7 +93,7 @@ module _ {A : Type 0} (role : Role) (limits : Limits) (old : Incoming) (came : L
     -- ---- a part of a frame
 
     module _ (is : result ≡ Ok None) where
-      takes : TakesPart role limits reader part now fs read.has.position
+      takes : ReadsPart role limits reader part now fs read.has.position
       takes = (found (Ok None) is).0
 
       pub unfailed : new.failed ≡ false

@@ -16,7 +16,7 @@ use Rattle.wsn_scan.specs.Positions.{Position}
 use Rattle.wsn_scan.specs.Scans.{refusal_in}
 use Rattle.wsn_scan.specs.FrameReaders.{HasTaken}
 use Rattle.wsn_scan.specs.Judging.{chunk_size}
-use Rattle.wsn_scan.specs.ReadParts.{TakesPart, AllTaken, IsJudgedAt, IsHaltedAt}
+use Rattle.wsn_scan.specs.ReadParts.{ReadsPart, AllTaken, IsJudgedAt, IsHaltedAt}
 
 -- All bytes that came are scanned.
 pub record IsUsed (role : Role) (limits : Limits) (reader : FrameReader) (came : List ℕ) (fs : List Frame)
@@ -42,7 +42,7 @@ pub record HasRefused (role : Role) (limits : Limits) (reader : FrameReader) (ca
 
 -- What a call of the scan found.
 abbrev pub StepsOn : Role → Limits → FrameReader → Part → List ℕ → List Frame → Position → Taken → Type 0
-StepsOn role limits reader part came fs at taken.Part = TakesPart role limits reader part came fs at
+StepsOn role limits reader part came fs at taken.Part = ReadsPart role limits reader part came fs at
 StepsOn role limits reader part came fs at taken.Refused = HasRefused role limits reader came fs at
 StepsOn role limits reader part came fs at taken.More = IsUsed role limits reader came fs at
 StepsOn role limits reader part came fs at taken.Closed = IsUsed role limits reader came fs at
