@@ -9,7 +9,7 @@ use Rattle.wsn_rules.specs.Entries.{Entry}
 use Rattle.wsn_print.proofs.HeldParts.{rest_is}
 use Rattle.wsn_capture.specs.LineFaults.{AreAcceptedLines}
 use Rattle.wsn_capture.specs.CaptureAnswers.{IsUnfaulted}
-use Rattle.wsn_capture.specs.SplitLines.{GoesOn, EndsLine}
+use Rattle.wsn_capture.specs.SplitLines.{ContinuesLine, EndsLine}
 use Rattle.wsn_capture.specs.LineSplitters.{HasPassedOn, IsStopAt, IsStopBy, IsStopWithin}
 use Rattle.wsn_capture.proofs.SplitLines.{split_more, no_long, split_line, stop_line, stop_at_most}
 
@@ -62,7 +62,7 @@ stop_in_rest limits came chunk at stop within =
 
 module _ (limits : Limits) (lines : List (List ℕ)) (begun came : List ℕ) (split : HasPassedOn limits lines begun came) where
   -- it goes on with the line
-  pub goes_on : (after chunk : List ℕ) (count : ℕ) → GoesOn begun after chunk count → HasPassedOn limits lines after (came ++ take count chunk)
+  pub goes_on : (after chunk : List ℕ) (count : ℕ) → ContinuesLine begun after chunk count → HasPassedOn limits lines after (came ++ take count chunk)
   goes_on after chunk count goes = grind (arith, split_more, length-append)
 
   module _ (line chunk : List ℕ) (count : ℕ) (ends : EndsLine begun line chunk count) where

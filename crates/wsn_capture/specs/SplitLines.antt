@@ -4,7 +4,7 @@ use Rattle.wsn_rules.specs.TextLines.{IsLine}
 use Rattle.wsn_capture.specs.CaptureAnswers.{begun_most}
 
 -- The line goes on with the first n bytes of the chunk, and isn't yet too long whatever follows.
-pub record GoesOn (begun after chunk : List ℕ) (n : ℕ) : Type 0 where
+pub record ContinuesLine (begun after chunk : List ℕ) (n : ℕ) : Type 0 where
   pub is : after ≡ begun ++ take n chunk
   pub in_line : IsLine (take n chunk)
   pub short : length after < begun_most

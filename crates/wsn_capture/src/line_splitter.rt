@@ -13,7 +13,7 @@ pub struct LineSplitter {
 
 impl LineSplitter {
     ghost use Rattle.std.specs.Prelude.{◌≡◌, ◌+◌, ◌<◌, ◌≤◌, ◌≢◌, ℕ, List, [], ◌∷◌, ◌++◌, length, take, OnOk, IfOk, IfErr};
-    ghost use Rattle.wsn_capture.specs.Words.{Limits, IsLine, HasAcceptedLines, count_of, IsCaptureAnswerOf, IsReport, AreTails, AreRefusedLines, HasSplit, IsStopAt, IsStopBy, IsStopWithin, bytes_left};
+    ghost use Rattle.wsn_capture.specs.Words.{Limits, IsLine, HasAcceptedLines, count_of, IsCaptureAnswerOf, IsReport, AreTails, AreRefusedLines, HasSplit, IsStopAt, IsStopBy, IsStopWithin, bytes_ahead};
 
     /// A splitter of a text of no bytes.
     pub fn new(limits: Limits) -> LineSplitter
@@ -38,7 +38,8 @@ impl LineSplitter {
             HasSplit limits self.old came → IsStopWithin limits came chunk.now stop) }
         ensures few { OnOk result (count_of self.new.capture.lines ≤ 1000000) }
         ensures short { OnOk result (length self.new.begun < BEGUN_MAX) }
-        ensures left { OnOk result (bytes_left self.new + length chunk.now ≤ bytes_left self.old) }
+        ensures left { OnOk result (bytes_ahead self.new.capture.lines self.new.begun + length chunk.now
+            ≤ bytes_ahead self.old.capture.lines self.old.begun) }
     {
         let mut taken = 0;
         while taken < chunk.len() {
@@ -60,7 +61,8 @@ impl LineSplitter {
             HasSplit limits self.old came → IsStopWithin limits came chunk.now stop) }
         ensures few { OnOk result (count_of self.new.capture.lines ≤ 1000000) }
         ensures short { OnOk result (length self.new.begun < BEGUN_MAX) }
-        ensures left { IfOk result (λ count. bytes_left self.new + count ≤ bytes_left self.old) }
+        ensures left { IfOk result (λ count. bytes_ahead self.new.capture.lines self.new.begun + count
+            ≤ bytes_ahead self.old.capture.lines self.old.begun) }
     {
         let (count, ended) = self.begun.take(chunk);
         if ended {

@@ -21,7 +21,7 @@ impl Model for Lines {
 
 impl Lines {
     ghost use Rattle.std.specs.Prelude.{◌≡◌, ◌+◌, ◌<◌, ◌≤◌, [], length, false, true};
-    ghost use Rattle.wsn_capture.specs.SplitLines.{GoesOn, EndsLine};
+    ghost use Rattle.wsn_capture.specs.SplitLines.{ContinuesLine, EndsLine};
 
     /// No line has begun.
     pub fn new() -> Lines
@@ -38,7 +38,7 @@ impl Lines {
         requires some { 0 < length chunk.now }
         requires short { length self.old < BEGUN_MAX }
         ensures within { (0 < result.0) × (result.0 ≤ length chunk.now) }
-        ensures goes_on { result.1 ≡ false → GoesOn self.old self.new chunk.now result.0 }
+        ensures goes_on { result.1 ≡ false → ContinuesLine self.old self.new chunk.now result.0 }
         ensures ends { result.1 ≡ true → EndsLine self.old self.new chunk.now result.0 }
     {
         let room = BEGUN_MAX - self.begun.len();

@@ -30,7 +30,7 @@ use Rattle.wsn_payload.specs.declared.answer.Payload.{Payload}
 use Rattle.wsn_payload.specs.declared.answer.Payload.TheVariants.{Whole, Unfinished, Inside, Head, Nothing}
 use Rattle.wsn_payload.specs.declared.event_at.EventAt.{EventAt}
 use Rattle.wsn_payload.specs.EventsAt.{IsWholeAt, IsRestAt, judged_bytes, AreApart, IsUnfinishedAt, EndsBefore, IsInHeadAt, IsAfterAll, IsInsideAt}
-use Rattle.wsn_payload.specs.Following.{HasBegunAt, Keeps, is_judged, answer_without_event, ended_answer, HasSought, IsRefusedHere, IsAnsweredAt, SeeksThrough}
+use Rattle.wsn_payload.specs.Following.{HasBegunAt, KeepsEventAt, is_judged, answer_without_event, ended_answer, HasSought, IsRefusedHere, IsAnsweredAt, SeeksThrough}
 use Rattle.wsn_payload.specs.Payloads.{IsPartAt, IsPayloadInFront, IsPayloadAnswer, IsPayloadTaken, IsPayloadOfAll, IsWrittenBut}
 use Rattle.wsn_scan.proofs.FollowedScans.{unrefused_so_far, judged_so_far}
 use Rattle.wsn_payload.proofs.EndedAnswers.{IsAnswered, answered_without, in_head, after_all}
@@ -83,7 +83,7 @@ module _ (role : Role) (limits : Limits) (at : ℕ) where
     pub come : HasCome limits old mid chunks came
     pub sought : HasSought role limits at scan kept came first now
 
-  pub begins : (input : Incoming) (chunks : ChunkReader) (output : Outgoing) (scan : Scan) (kept : EventAt) → HasCome limits input input chunks [] → HasScanned role limits scan [] [] [] BetweenFrames → Keeps kept at [] BetweenFrames [] → output.failed ≡ false
+  pub begins : (input : Incoming) (chunks : ChunkReader) (output : Outgoing) (scan : Scan) (kept : EventAt) → HasCome limits input input chunks [] → HasScanned role limits scan [] [] [] BetweenFrames → KeepsEventAt kept at [] BetweenFrames [] → output.failed ≡ false
       → HasSoughtInput input input chunks output output scan kept []
   begins input chunks output scan kept come has_scanned keeps works = record {
     come = come;

@@ -38,7 +38,7 @@ use Rattle.wsn_payload.specs.declared.answer.Payload.TheVariants.{Whole, Unfinis
 use Rattle.wsn_payload.specs.declared.event_at.EventAt.{EventAt}
 use Rattle.wsn_payload.specs.EventsAt.{IsWholeAt, IsRestAt, IsBegunAt, judged_bytes, AreApart, IsInsideAt}
 use Rattle.wsn_scan.specs.FollowedScans.{HasFollowed, IsCall}
-use Rattle.wsn_payload.specs.Following.{HasBegunAt, Keeps, MayBegin, EndsEvent, TakesPart, own_part, is_judged, answer_without_event, ended_answer, HasSought, IsRefusedHere, IsStepOf, SeeksOn}
+use Rattle.wsn_payload.specs.Following.{HasBegunAt, KeepsEventAt, MayBegin, EndsEvent, TakesPart, own_part, is_judged, answer_without_event, ended_answer, HasSought, IsRefusedHere, IsStepOf, SeeksOn}
 use Rattle.wsn_payload.specs.Payloads.{IsPartAt, IsPayloadInFront, IsWrittenBut}
 use Rattle.wsn_scan.proofs.FollowedScans.{wire_payload_is, few, lawful_done, whole_is, rest_few, room_within, unrefused_so_far, judged_so_far, in_frame, between, reached, same_follows, reach, part_follows, refused_there, refused_begun}
 use Rattle.wsn_scan.proofs.FoundHeads.{heads_after}
@@ -338,12 +338,12 @@ module _ (role : Role) (limits : Limits) (at : ℕ) (old new : Scan) (chunk afte
     abbrev text : List ℕ
     text = h.payload ++ own_part kept evidence
 
-    with_it : (p : Position) → h.position ≡ p → Keeps kept at done p h.payload → Keeps kept at done (with_evidence p evidence) text
-    with_it BetweenFrames here k = subst (Keeps kept at done BetweenFrames) (sym (ap (λ (bs : List ℕ). h.payload ++ bs) (cond-false kept.own evidence [] k.frame.1) ∙ append-nil h.payload)) k
+    with_it : (p : Position) → h.position ≡ p → KeepsEventAt kept at done p h.payload → KeepsEventAt kept at done (with_evidence p evidence) text
+    with_it BetweenFrames here k = subst (KeepsEventAt kept at done BetweenFrames) (sym (ap (λ (bs : List ℕ). h.payload ++ bs) (cond-false kept.own evidence [] k.frame.1) ∙ append-nil h.payload)) k
     with_it (InFrame info payload) here k =
         goes_on kept at done info payload evidence h.payload (in_frame role limits old came done h.position h.rest h.followed info payload here).begins.place k
 
-    kept_here : Keeps kept at done (with_evidence h.position evidence) text
+    kept_here : KeepsEventAt kept at done (with_evidence h.position evidence) text
     kept_here = with_it h.position refl h.keeps
 
     here_refused : IsRefusedHere role limits (came ++ share) (Refused refusal)
@@ -384,7 +384,7 @@ module _ (role : Role) (limits : Limits) (at : ℕ) (old new : Scan) (chunk afte
       before_chunk role limits at old kept came chunk first now out h (own_part kept evidence) partly,
     )
       where
-        has_begun : (p : Position) → with_evidence h.position evidence ≡ p → Keeps kept at done p text → IsBegunAt done p at text
+        has_begun : (p : Position) → with_evidence h.position evidence ≡ p → KeepsEventAt kept at done p text → IsBegunAt done p at text
         has_begun BetweenFrames here k = let both : true ≡ false = sym own ∙ k.frame.1 in absurd cc
         has_begun (InFrame info payload) here k = of kept.begun k.begun
           where

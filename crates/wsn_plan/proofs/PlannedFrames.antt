@@ -22,9 +22,8 @@ use Rattle.wsn_scan.specs.declared.chunk_reader.ChunkReader.{ChunkReader}
 use Rattle.wsn_scan.specs.declared.scan.Scan.{Scan}
 use Rattle.wsn_scan.specs.ChunkReaders.{HasCome, IsEndOf, IsHaltOf, StopsAt}
 use Rattle.wsn_scan.specs.Feeding.{IsRunning}
-use Rattle.wsn_scan.specs.Judging.{IsStopped, IsWithinLimit}
+use Rattle.wsn_scan.specs.Judging.{IsStopped, IsWithinLimit, chunk_size}
 use Rattle.wsn_scan.specs.Positions.{Position, BetweenFrames}
-use Rattle.wsn_scan.specs.Refill.{chunk_size}
 use Rattle.wsn_scan.specs.Scans.{HasScanned, refusal_in, refusal_judged}
 use Rattle.wsn_scan.proofs.ChunksSoFar.{received, within_limit}
 use Rattle.wsn_scan.proofs.JudgedInputs.{HasRead, begins as read_none, stopped, ended, goes_on, refuses_input}

@@ -11,7 +11,7 @@ use Rattle.wsn_rules.proofs.TextLines.{ended-push, each_join, lines_at_end}
 use Rattle.wsn_capture.specs.declared.capture_stop.CaptureStop.TheVariants as capture
 use Rattle.wsn_capture.specs.LineFaults.{AreAcceptedLines}
 use Rattle.wsn_capture.specs.LineSplitters.{HasPassedOn, IsStopAt, IsStopWithin}
-use Rattle.wsn_capture.specs.SplitLines.{GoesOn, EndsLine}
+use Rattle.wsn_capture.specs.SplitLines.{ContinuesLine, EndsLine}
 use Rattle.wsn_capture.proofs.SplitLines.{split_line, line_join, stop_line, stop_at_most, no_long, unfaulted, faulty_last}
 use Rattle.wsn_capture.proofs.ChunkPrefixes.{goes_on, stop_in_rest, last_of}
 use Rattle.wsn_show.proofs.PassedChunks.{more_after, failed_part, whole_part}
@@ -39,7 +39,7 @@ module _ (limits : Limits) (first : Outgoing) (redactor : CaptureRedactor) (begu
   text_so_far = (has.redacted, so_far, refl)
 
   -- the line goes on
-  pub written_on : (after chunk : List ℕ) (k : ℕ) → GoesOn begun after chunk k → HasWritten limits first redactor after now (came ++ take k chunk)
+  pub written_on : (after chunk : List ℕ) (k : ℕ) → ContinuesLine begun after chunk k → HasWritten limits first redactor after now (came ++ take k chunk)
   written_on after chunk k goes = record {
     lines = has.lines;
     passed = goes_on limits has.lines begun came has.passed after chunk k goes;

@@ -15,7 +15,7 @@ use Rattle.wsn_scan.proofs.FollowedScans.{reached}
 use Rattle.wsn_scan.proofs.ReaderSteps.{refusal_by}
 use Rattle.wsn_redact.specs.declared.redactor.Redactor.{Redactor}
 use Rattle.wsn_redact.specs.Redaction.{zeros_for}
-use Rattle.wsn_redact.specs.Keeping.{Rewrites, IsRedacting, HasRefused, HasRedacted, IsRunningFor}
+use Rattle.wsn_redact.specs.RedactedParts.{Rewrites, IsRedacting, HasRefused, HasRedacted, IsRunningFor}
 use Rattle.wsn_redact.proofs.RedactedSteps.{quiet, closed, part_step}
 use Rattle.wsn_redact.proofs.RedactedEnds.{refused_some, refused_step}
 

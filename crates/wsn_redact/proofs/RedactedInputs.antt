@@ -27,7 +27,7 @@ use Rattle.wsn_scan.proofs.Unrefused.{unrefused_first}
 use Rattle.wsn_redact.specs.declared.redactor.Redactor.{Redactor}
 use Rattle.wsn_redact.specs.Redaction.{IsRedactionAt, IsRedaction}
 use Rattle.wsn_redact.specs.Redacting.{IsRedactionWith, IsRedactAnswer, IsRedactedInput, IsRedactedWhole}
-use Rattle.wsn_redact.specs.Keeping.{KeepsAt, HasRedacted, RedactsOn}
+use Rattle.wsn_redact.specs.RedactedParts.{KeepsAt, HasRedacted, RedactsOn}
 use Rattle.wsn_redact.proofs.RedactedEnds.{redacting_ends}
 
 module _ (role : Role) (limits : Limits) where

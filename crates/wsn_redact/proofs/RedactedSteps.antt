@@ -33,7 +33,7 @@ use Rattle.wsn_scan.proofs.FollowedScans.{wire_payload_is, lawful_done, rest_few
 use Rattle.wsn_redact.specs.declared.redactor.Redactor.{Redactor}
 use Rattle.wsn_redact.specs.Dues.{due_of}
 use Rattle.wsn_redact.specs.Redaction.{zeros_for, with_payload, redacted_payload, redacted_frames}
-use Rattle.wsn_redact.specs.Keeping.{replaced, TakesPart, KeepsOpen, KeepsIn, KeepsAt, IsRestWritten, IsRedacting}
+use Rattle.wsn_redact.specs.RedactedParts.{replaced, TakesPart, KeepsOpen, KeepsIn, KeepsAt, IsRestWritten, IsRedacting}
 use Rattle.wsn_redact.proofs.RedactedPayloads.{zeros-append, length-redacted_payload, redacted_push}
 use Rattle.wsn_redact.proofs.KeptParts.{MayBegin, payload_more, keeps_more, keeps_begun, payload_none, keeps_ended}
 

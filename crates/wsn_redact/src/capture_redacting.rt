@@ -3,9 +3,10 @@ ghost use Rattle.wsn_io.specs.Transfer.{Outgoing};
 ghost use Rattle.wsn_rules.specs.Limits.{Limits};
 ghost use Rattle.wsn_rules.specs.Entries.{Entry};
 ghost use Rattle.wsn_capture.specs.CaptureLines.{count_of};
+ghost use Rattle.wsn_capture.specs.LineSplitters.{bytes_ahead};
 ghost use Rattle.wsn_redact.specs.CaptureRedactors.{HasRedactedLines, IsRedactingLines};
 ghost use Rattle.wsn_redact.specs.RedactingCaptures.{IsRedactedCaptureInput};
-ghost use Rattle.wsn_redact.specs.PassedRedactions.{HasWritten, IsWritingLines, PutsLine, StopsAtLine, StopsWithin, EndsRedacting, bytes_ahead};
+ghost use Rattle.wsn_redact.specs.PassedRedactions.{HasWritten, IsWritingLines, PutsLine, StopsAtLine, StopsWithin, EndsRedacting};
 
 use crate::capture_redactor::CaptureRedactor;
 use crate::redacted_line::LINE_ROOM;
@@ -137,8 +138,8 @@ fn redact_lines<W: Write>(
     ensures few { OnOk result (count_of redactor.new.lines ≤ 1000000) }
     ensures short { OnOk result (length lines.new < BEGUN_MAX) }
     ensures writable { OnOk result (output.new.failed ≡ false) }
-    ensures left { OnOk result (bytes_ahead redactor.new lines.new + length chunk.now
-        ≤ bytes_ahead redactor.old lines.old) }
+    ensures left { OnOk result (bytes_ahead redactor.new.lines lines.new + length chunk.now
+        ≤ bytes_ahead redactor.old.lines lines.old) }
 {
     let mut taken = 0;
     while taken < chunk.len() {

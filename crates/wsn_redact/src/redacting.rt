@@ -2,7 +2,7 @@ ghost use Rattle.std.specs.Prelude.{◌≡◌, ℕ, ◌+◌, ◌≤◌, ◌<◌,
 ghost use Rattle.wsn_wire.specs.Frame.{IsBytes};
 ghost use Rattle.wsn_scan.specs.FollowedScans.{IsCall};
 ghost use Rattle.wsn_scan.specs.Scans.{room_of, refusal_in};
-ghost use Rattle.wsn_redact.specs.Keeping.{IsRunningFor, RedactsOn, Rewrites};
+ghost use Rattle.wsn_redact.specs.RedactedParts.{IsRunningFor, RedactsOn, Rewrites};
 ghost use Rattle.wsn_redact.specs.Redaction.{zeros_for};
 ghost use Rattle.wsn_redact.specs.Redacting.{IsRedactedInput, IsRedactedWhole};
 

@@ -23,7 +23,7 @@ use Rattle.wsn_scan.specs.Positions.{Position, BetweenFrames}
 use Rattle.wsn_scan.specs.declared.part.Taken.{Taken}
 use Rattle.wsn_scan.specs.declared.scan.Scan.{Scan}
 use Rattle.wsn_scan.specs.Scans.{IsReachedBy}
-use Rattle.wsn_scan.specs.Parts.{GoesOn, Finds}
+use Rattle.wsn_scan.specs.Parts.{ContinuesFrame, Finds}
 
 -- The check of this part of the payload is that of the frame's bytes so far, also where the frame is empty.
 pub holds_begun : (role : Role) (limits : Limits) (group : List Frame) (head : Head) (check next : PayloadCheck) (head_bytes wire rest : List ℕ) → rest ≡ head_bytes ++ wire → IsBytes wire
@@ -68,10 +68,10 @@ drop_mid start count chunk new key within unmasked =
     drop-take start count after ∙ ap (λ (n : ℕ). take n (drop start after)) same ∙ payload_after key start (start + count) chunk new (omega arith) within unmasked
 
 -- Whether a part begins its frame doesn't say how the frame goes on.
-pub begun_part : (fs : List Frame) (part : Part) (payload shown : List ℕ) (frames : List Frame) (position : Position) → shown ≡ payload → GoesOn fs [] part payload frames position
-    → GoesOn fs [] (record part { begins = true }) shown frames position
+pub begun_part : (fs : List Frame) (part : Part) (payload shown : List ℕ) (frames : List Frame) (position : Position) → shown ≡ payload → ContinuesFrame fs [] part payload frames position
+    → ContinuesFrame fs [] (record part { begins = true }) shown frames position
 begun_part fs part payload shown frames position same goes_on =
-    subst (λ (bs : List ℕ). GoesOn fs [] (record part { begins = true }) bs frames position) (sym same) (record { within = goes_on.within; ends = goes_on.ends })
+    subst (λ (bs : List ℕ). ContinuesFrame fs [] (record part { begins = true }) bs frames position) (sym same) (record { within = goes_on.within; ends = goes_on.ends })
 
 -- A part that doesn't end the frame is not all of it.
 not_both : (b : Bool) → b ≡ true → b ≡ false → ⊥
@@ -95,6 +95,6 @@ pub if_some : {P Q : ℕ → Type 0} (found : Option ℕ) → ((n : ℕ) → P n
 if_some None each is = tt
 if_some (Some n) each is = each n is
 
-pub goes_on_as : (fs : List Frame) (before : List ℕ) (part : Part) (payload shown : List ℕ) (frames : List Frame) (position : Position) → shown ≡ payload → GoesOn fs before part payload frames position
-    → GoesOn fs before part shown frames position
-goes_on_as fs before part payload shown frames position same goes_on = subst (λ (bs : List ℕ). GoesOn fs before part bs frames position) (sym same) goes_on
+pub goes_on_as : (fs : List Frame) (before : List ℕ) (part : Part) (payload shown : List ℕ) (frames : List Frame) (position : Position) → shown ≡ payload → ContinuesFrame fs before part payload frames position
+    → ContinuesFrame fs before part shown frames position
+goes_on_as fs before part payload shown frames position same goes_on = subst (λ (bs : List ℕ). ContinuesFrame fs before part bs frames position) (sym same) goes_on

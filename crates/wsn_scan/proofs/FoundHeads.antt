@@ -10,7 +10,7 @@ use Rattle.wsn_scan.specs.declared.part.Taken.{Taken}
 use Rattle.wsn_scan.specs.declared.part.Taken.TheVariants as taken
 use Rattle.wsn_scan.specs.declared.scan.Scan.{Scan}
 use Rattle.wsn_scan.specs.Positions.{Position, BetweenFrames, InFrame, begun_at}
-use Rattle.wsn_scan.specs.Parts.{GoesOn, IsPartAt, Finds, Consumes}
+use Rattle.wsn_scan.specs.Parts.{ContinuesFrame, IsPartAt, Finds, Consumes}
 use Rattle.wsn_scan.specs.Scans.{AdvancesFrom, refusal_in}
 use Rattle.wsn_scan.specs.Feeding.{ConsumesPrefix, IsRunning, heads_in}
 use Rattle.wsn_scan.proofs.FedChunks.{takes_further, bytes_after}
@@ -19,7 +19,7 @@ use Rattle.wsn_scan.proofs.HeadsReported.{heads_push}
 -- ---- the heads after a call
 
 -- after a part, its head is the last
-pub heads_after : (fs : List Frame) (before : List ℕ) (part : Part) (payload : List ℕ) (frames : List Frame) (position : Position) → GoesOn fs before part payload frames position
+pub heads_after : (fs : List Frame) (before : List ℕ) (part : Part) (payload : List ℕ) (frames : List Frame) (position : Position) → ContinuesFrame fs before part payload frames position
     → heads_of frames ++ begun_at position ≡ heads_of fs ++ part.head ∷ []
 heads_after fs before part payload frames position goes_on =
     elim (cases_Bool part.ends) [

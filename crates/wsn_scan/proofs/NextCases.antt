@@ -15,7 +15,7 @@ use Rattle.wsn_scan.specs.declared.scan.Scan.{Scan}
 use Rattle.wsn_scan.specs.declared.stage.Stage.{Stage}
 use Rattle.wsn_scan.specs.declared.stage.Stage.TheVariants as stages
 use Rattle.wsn_scan.specs.Positions.{Position, BetweenFrames, InFrame}
-use Rattle.wsn_scan.specs.Parts.{GoesOn, Finds, FindsByCase, Consumes}
+use Rattle.wsn_scan.specs.Parts.{ContinuesFrame, Finds, FindsByCase, Consumes}
 use Rattle.wsn_scan.specs.Scans.{IsAt, HasScanned, IsReachedBy, ScanCall, IsAnswered, refusal_at, refusal_in}
 
 no_close_and_close : (fs : List Frame) → HasNoClose fs → EndsWithClose fs → ⊥
@@ -51,7 +51,7 @@ again_of (Some held) found n again refusal is = again
 
 module _ (role : Role) (limits : Limits) (new : Scan) (bytes : List ℕ) (fs : List Frame) (at : Position) (part : Part) (payload : List ℕ) (size n : ℕ) where
   -- a part of a frame comes after no Close
-  no_part_after : (frames : List Frame) (since : List ℕ) (position : Position) (before : List ℕ) → HasScanned role limits new bytes frames since position → GoesOn fs before part payload frames position
+  no_part_after : (frames : List Frame) (since : List ℕ) (position : Position) (before : List ℕ) → HasScanned role limits new bytes frames since position → ContinuesFrame fs before part payload frames position
       → (IsSome (refusal_in new) → ⊥) → EndsWithClose fs → (ends : Bool) → part.ends ≡ ends → ⊥
   no_part_after frames since position before has_scanned goes_on unrefused close true is =
       let ended = goes_on.ends is in

@@ -10,7 +10,7 @@ use Rattle.wsn_scan.specs.declared.part.Part.{Part}
 use Rattle.wsn_scan.specs.declared.part.Taken.{Taken}
 use Rattle.wsn_scan.specs.declared.part.Taken.TheVariants as taken
 use Rattle.wsn_scan.specs.declared.scan.Scan.{Scan}
-use Rattle.wsn_scan.specs.Parts.{GoesOn}
+use Rattle.wsn_scan.specs.Parts.{ContinuesFrame}
 use Rattle.wsn_scan.specs.Positions.{Position}
 use Rattle.wsn_scan.specs.Scans.{HasScanned, IsAdvance, Unmasks, HasNoRest, room_of, refusal_in}
 
@@ -45,7 +45,7 @@ pub record IsCall (old new : Scan) (chunk after : List ℕ) (n : ℕ) (found : T
 -- the bytes. None of the counts is too large.
 pub record IsTaken (role : Role) (limits : Limits) (fs : List Frame) (rest before : List ℕ) (part : Part)
     (payload share : List ℕ) (frames : List Frame) (position : Position) (since : List ℕ) : Type 0 where
-  pub goes_on : GoesOn fs before part payload frames position
+  pub goes_on : ContinuesFrame fs before part payload frames position
   pub lawful : IsLawful role limits frames
   pub whole : stream fs ++ (rest ++ share) ≡ stream frames ++ since
   pub no_rest : part.ends ≡ true → since ≡ []

@@ -14,7 +14,7 @@ use Rattle.wsn_scan.specs.Positions.{Position, BetweenFrames, InFrame}
 
 -- A part of the frame after the frames fs: this payload comes after what came before it. If the part ends the frame, the
 -- frame is one more, with the part's head and all of this payload.
-pub record GoesOn (fs : List Frame) (before : List ℕ) (part : Part) (payload : List ℕ) (frames : List Frame)
+pub record ContinuesFrame (fs : List Frame) (before : List ℕ) (part : Part) (payload : List ℕ) (frames : List Frame)
     (position : Position) : Type 0 where
   pub within : part.ends ≡ false → (frames ≡ fs) × (position ≡ InFrame part.head (before ++ payload))
   pub ends : part.ends ≡ true → (frame : Frame) × (part.head ≡ info_of (length (stream fs)) frame)
@@ -31,7 +31,7 @@ pub record IsPart (fs : List Frame) (at : Position) (part : Part) (payload : Lis
     (position : Position) : Type 0 where
   pub before : List ℕ
   pub is_at : IsPartAt at part before
-  pub goes_on : GoesOn fs before part payload frames position
+  pub goes_on : ContinuesFrame fs before part payload frames position
 
 -- The part is a whole message of this kind: of one frame, which is final.
 pub record IsWholeMessage (part : Part) (kind : Kind) : Type 0 where

@@ -32,7 +32,7 @@ use Rattle.wsn_rules.specs.Heads.{heads_of, info_of, AreHeads}
 use Rattle.wsn_frame.specs.PayloadChecks.{HasChecked}
 use Rattle.wsn_frame.specs.Counts.{AreCounts}
 use Rattle.wsn_scan.specs.Positions.{Position, BetweenFrames, InFrame, begun_at, IsPayloadPrefix}
-use Rattle.wsn_scan.specs.Parts.{Finds, Consumes, GoesOn, unmasked_at}
+use Rattle.wsn_scan.specs.Parts.{Finds, Consumes, ContinuesFrame, unmasked_at}
 
 -- ---- a scan's state
 
@@ -245,7 +245,7 @@ AddsPart old new head check done count part =
     HasConsumed role limits old bytes fs rest → HasNoClose fs → IsBytes last → length last ≡ count
     → HoldsPayload role limits (unfinished fs) head check wire (rest ++ last)
     → done ≡ length wire → length wire ≤ head.len → before ++ payload ≡ unmasked_by head.key 0 wire →
-    IsReachedBy role limits new (bytes ++ last) (GoesOn fs before part payload)
+    IsReachedBy role limits new (bytes ++ last) (ContinuesFrame fs before part payload)
 
 -- A frame with this head and this payload has ended: the scan has one whole frame more.
 pub record HasEnded (role : Role) (limits : Limits) (new : Scan) (bytes : List ℕ) (fs : List Frame) (head : Head)

@@ -25,7 +25,7 @@ use Rattle.wsn_show.specs.declared.showing.ShowStop.{ShowStop}
 use Rattle.wsn_show.specs.declared.showing.ShowStop.TheVariants as stop
 use Rattle.wsn_show.specs.CaptureViews.{ShowsLine}
 use Rattle.wsn_show.specs.Showing.{IsTextOfLines, BeginWithLines, IsPrintedAtLeast, IsTextOf}
-use Rattle.wsn_capture.specs.SplitLines.{GoesOn, EndsLine}
+use Rattle.wsn_capture.specs.SplitLines.{ContinuesLine, EndsLine}
 use Rattle.wsn_show.specs.PassedLines.{HasPrinted, StopsAtLine, StopsWithin}
 
 -- ---- lists
@@ -65,7 +65,7 @@ module _ (limits : Limits) (style : Style) (first : Outgoing) (view : CaptureVie
   text_so_far = record { entries = has.entries; taken = has.has_shown.accepted.taken; shown = has.shown; are = has.are; is = refl }
 
   -- the line goes on
-  pub printed_on : (after chunk : List ℕ) (k : ℕ) → GoesOn begun after chunk k → HasPrinted limits style first view after now (came ++ take k chunk)
+  pub printed_on : (after chunk : List ℕ) (k : ℕ) → ContinuesLine begun after chunk k → HasPrinted limits style first view after now (came ++ take k chunk)
   printed_on after chunk k goes = record {
     lines = has.lines;
     passed = goes_on limits has.lines begun came has.passed after chunk k goes;

@@ -16,7 +16,7 @@ use Rattle.wsn_show.specs.declared.entry_context.EntryContext.{EntryContext}
 use Rattle.wsn_show.specs.declared.stream_parts.StreamParts.{StreamParts}
 use Rattle.wsn_show.specs.declared.first_bytes.FirstBytes.{FirstBytes}
 use Rattle.wsn_show.specs.HeldParts.{HasFirst}
-use Rattle.wsn_show.specs.StreamParts.{Keeps, rest_at}
+use Rattle.wsn_show.specs.StreamParts.{KeepsStream, rest_at}
 use Rattle.wsn_show.specs.ShownItems.{Prints}
 use Rattle.wsn_show.specs.ShownSoFar.{items_in, HasShownFrames, HasShownRefusal, HasShown, ShowsMore, ShowsFrames}
 use Rattle.wsn_show.proofs.PrintedItems.{prints_nothing, prints_both}
@@ -25,7 +25,7 @@ use Rattle.wsn_show.proofs.FramesSoFar.{items_in-append, nothing_so_far}
 
 -- ---- no bytes
 
-pub nothing_shown : (detail : Detail) (role : Role) (limits : Limits) (scan : Scan) (parts : StreamParts) → HasScanned role limits scan [] [] [] BetweenFrames → Keeps parts [] BetweenFrames [] → HasShown detail role limits scan parts [] []
+pub nothing_shown : (detail : Detail) (role : Role) (limits : Limits) (scan : Scan) (parts : StreamParts) → HasScanned role limits scan [] [] [] BetweenFrames → KeepsStream parts [] BetweenFrames [] → HasShown detail role limits scan parts [] []
 nothing_shown detail role limits scan parts scanned keeps =
     let none = unrefused_first role limits scan [] (record { frames = []; since = []; position = BetweenFrames; has_scanned = scanned; heads_are = refl }) in
     inl (record {

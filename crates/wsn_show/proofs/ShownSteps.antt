@@ -39,7 +39,7 @@ use Rattle.wsn_show.specs.HeldParts.{HasFirst}
 use Rattle.wsn_show.specs.LastPayloads.{GoesWrong, GoesWrongAt, character_at}
 use Rattle.wsn_show.specs.ShownItems.{Prints}
 use Rattle.wsn_show.specs.ShownSoFar.{HasShownFrames, HasShownRefusal, ShowsMore}
-use Rattle.wsn_show.specs.StreamParts.{Keeps, held_at}
+use Rattle.wsn_show.specs.StreamParts.{KeepsStream, held_at}
 use Rattle.wsn_show.specs.TakenParts.{ShowsPart}
 use Rattle.wsn_show.proofs.PrintedItems.{prints_nothing}
 use Rattle.wsn_scan.proofs.FollowedScans.{wire_payload_is, few, few_open, rest_few, lawful_done, unrefused_so_far, in_frame, size_in_frame, size_of_share, reached, few_more, same_follows, is_between, reach, part_taken, part_follows, refused_there, refused_begun}
@@ -65,18 +65,18 @@ module _ (role : Role) (limits : Limits) (old new : Scan) (chunk after : List �
     all = reached role limits old new chunk after n found part came done frames.at frames.rest frames.followed call
 
     quiet : (found ≡ taken.Refused → ⊥) → all.0.frames ≡ done → all.0.position ≡ frames.at → 0 < n
-        → ((rest : List ℕ) → length rest + n < 2 ^ 64 → Keeps parts done BetweenFrames rest → Keeps parts_after done BetweenFrames (rest ++ share)) → ShowsMore role limits new parts_after context out out (came ++ share) shown
+        → ((rest : List ℕ) → length rest + n < 2 ^ 64 → KeepsStream parts done BetweenFrames rest → KeepsStream parts_after done BetweenFrames (rest ++ share)) → ShowsMore role limits new parts_after context out out (came ++ share) shown
     quiet other same there some adds =
         let g = same_follows role limits old new chunk after n found part came done frames.at frames.rest frames.followed call same there other in
         let between = is_between role limits old new chunk after n found part came done frames.at frames.rest frames.followed call same there other some in
         let small = few_more role limits old new chunk after n found part came done frames.at frames.rest frames.followed call in
-        let keeps = adds frames.rest small (subst (λ (p : Position). Keeps parts done p frames.rest) between frames.keeps) in
+        let keeps = adds frames.rest small (subst (λ (p : Position). KeepsStream parts done p frames.rest) between frames.keeps) in
         let now : HasShownFrames detail role limits new parts_after (came ++ share) shown = record {
           done = done;
           at = frames.at;
           rest = longer;
           followed = g;
-          keeps = subst (λ (p : Position). Keeps parts_after done p longer) (sym between) keeps;
+          keeps = subst (λ (p : Position). KeepsStream parts_after done p longer) (sym between) keeps;
           is = frames.is;
         } in
         record {
@@ -86,14 +86,14 @@ module _ (role : Role) (limits : Limits) (old new : Scan) (chunk after : List �
         }
 
   pub more_step : IsCall old new chunk after n taken.More part → 0 < length chunk
-      → ((rest : List ℕ) → length rest + n < 2 ^ 64 → Keeps parts done BetweenFrames rest → Keeps parts_after done BetweenFrames (rest ++ share)) → ShowsMore role limits new parts_after context out out (came ++ share) shown
+      → ((rest : List ℕ) → length rest + n < 2 ^ 64 → KeepsStream parts done BetweenFrames rest → KeepsStream parts_after done BetweenFrames (rest ++ share)) → ShowsMore role limits new parts_after context out out (came ++ share) shown
   more_step call some adds =
       let r = reached role limits old new chunk after n taken.More part came done frames.at frames.rest frames.followed call in
       let size = r.1 in
       quiet taken.More call (λ same. cc) r.0.found.0 r.0.found.1 (omega (arith, size, some)) adds
 
   pub closed_step : IsCall old new chunk after n taken.Closed part → 0 < length chunk
-      → ((rest : List ℕ) → length rest + n < 2 ^ 64 → Keeps parts done BetweenFrames rest → Keeps parts_after done BetweenFrames (rest ++ share)) → ShowsMore role limits new parts_after context out out (came ++ share) shown
+      → ((rest : List ℕ) → length rest + n < 2 ^ 64 → KeepsStream parts done BetweenFrames rest → KeepsStream parts_after done BetweenFrames (rest ++ share)) → ShowsMore role limits new parts_after context out out (came ++ share) shown
   closed_step call some adds =
       let r = reached role limits old new chunk after n taken.Closed part came done frames.at frames.rest frames.followed call in
       let size = r.1 in
@@ -103,7 +103,7 @@ module _ (role : Role) (limits : Limits) (old new : Scan) (chunk after : List �
 
   pub part_step : IsCall old new chunk after n taken.Part part
       → ((ended : List Frame) (to : Position) (before since : List ℕ) → IsPartAt frames.at part before → IsTaken role limits done frames.rest before part (take (length (take n after) - part.start) (drop part.start (take n after))) share ended to since
-      → Keeps parts done frames.at frames.rest → ShowsPart done frames.at ended to since parts_after context out out_after)
+      → KeepsStream parts done frames.at frames.rest → ShowsPart done frames.at ended to since parts_after context out out_after)
       → ShowsMore role limits new parts_after context out out_after (came ++ share) shown
   part_step call takes =
       let r = reach role limits old new chunk after n part came done frames.at frames.rest frames.followed call in

@@ -4,10 +4,11 @@ ghost use Rattle.wsn_rules.specs.Limits.{Limits};
 ghost use Rattle.wsn_rules.specs.Entries.{Entry};
 ghost use Rattle.wsn_rules.specs.TextLines.{AreLines};
 ghost use Rattle.wsn_capture.specs.CaptureLines.{count_of};
+ghost use Rattle.wsn_capture.specs.LineSplitters.{bytes_ahead};
 ghost use Rattle.wsn_print.specs.declared.style.Style.{Style};
 ghost use Rattle.wsn_show.specs.CaptureViews.{HasShownLines, IsShowingLines, ShowsLine};
 ghost use Rattle.wsn_show.specs.Showing.{IsShown};
-ghost use Rattle.wsn_show.specs.PassedLines.{HasPrinted, HasPrintedLines, IsPrinting, StopsAtLine, StopsWithin, EndsShowing, bytes_ahead};
+ghost use Rattle.wsn_show.specs.PassedLines.{HasPrinted, HasPrintedLines, IsPrinting, StopsAtLine, StopsWithin, EndsShowing};
 
 use crate::capture_view::CaptureView;
 use std::io::{Read, Write};
@@ -120,8 +121,8 @@ fn show_lines<W: Write>(
     ensures few { OnOk result (count_of view.new.lines ≤ 1000000) }
     ensures short { OnOk result (length lines.new < BEGUN_MAX) }
     ensures writable { OnOk result (output.new.failed ≡ false) }
-    ensures left { OnOk result (bytes_ahead view.new lines.new + length chunk.now
-        ≤ bytes_ahead view.old lines.old) }
+    ensures left { OnOk result (bytes_ahead view.new.lines lines.new + length chunk.now
+        ≤ bytes_ahead view.old.lines lines.old) }
 {
     let mut taken = 0;
     while taken < chunk.len() {

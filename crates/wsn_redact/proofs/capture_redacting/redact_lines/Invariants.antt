@@ -2,7 +2,8 @@ use Rattle.std.proofs.Common.{◌≡◌, ◌≤◌, ◌<◌, ◌+◌, ◌-◌, �
 use Rattle.wsn_io.specs.Transfer.{Outgoing}
 use Rattle.wsn_rules.specs.Limits.{Limits}
 use Rattle.wsn_capture.specs.CaptureLines.{count_of}
-use Rattle.wsn_redact.specs.PassedRedactions.{HasWritten, IsWritingLines, bytes_ahead}
+use Rattle.wsn_capture.specs.LineSplitters.{bytes_ahead}
+use Rattle.wsn_redact.specs.PassedRedactions.{HasWritten, IsWritingLines}
 use Rattle.wsn_redact.proofs.capture_redacting.redact_lines.Given as goal
 
 -- the bytes before `taken` were redacted
@@ -15,7 +16,7 @@ invariant-loop-taken g l = record {
   writable : l.output.failed ≡ false;
   written : (limits : Limits) (first : Outgoing) (came : List ℕ) → HasWritten limits first l.fn.redactor l.fn.lines l.fn.output came
       → HasWritten limits first l.redactor l.lines l.output (came ++ take l.taken l.chunk);
-  left : bytes_ahead l.redactor l.lines + l.taken ≤ bytes_ahead l.fn.redactor l.fn.lines;
+  left : bytes_ahead l.redactor.lines l.lines + l.taken ≤ bytes_ahead l.fn.redactor.lines l.fn.lines;
 }
 
 abbrev pub decreases-loop-taken : goal.decreases-loop-taken

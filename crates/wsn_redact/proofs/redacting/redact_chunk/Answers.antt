@@ -4,7 +4,7 @@ use Rattle.std.proofs.lemmas.List.{length-take-le}
 use borrow.Rule.Slice.PartMut.{mid_of, put_mid, same_len_mid}
 use Rattle.wsn_scan.proofs.EventRuns.{taken_with}
 use Rattle.wsn_scan.proofs.FedChunks.{share_is, same_further, kept_after}
-use Rattle.wsn_redact.specs.Keeping.{HasRedacted}
+use Rattle.wsn_redact.specs.RedactedParts.{HasRedacted}
 use Rattle.wsn_redact.proofs.redacting.redact_chunk.Goals as goal
 
 pub redact_part-at-requires-clause-begun : goal.redact_part-at-requires-clause-begun

@@ -1,7 +1,7 @@
 use Rattle.std.proofs.Common.{◌≡◌, ◌-◌, ◌≤◌, ℕ, List, ◌++◌, length, take, drop}
 use Rattle.wsn_wire.specs.declared.endpoint.Role.{Role}
 use Rattle.wsn_rules.specs.Limits.{Limits}
-use Rattle.wsn_redact.specs.Keeping.{HasRedacted}
+use Rattle.wsn_redact.specs.RedactedParts.{HasRedacted}
 use Rattle.wsn_redact.proofs.redacting.redact_chunk.Given as goal
 
 -- The chunk so far is redacted, and the rest of it is unchanged.

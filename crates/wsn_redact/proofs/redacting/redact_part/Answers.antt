@@ -3,7 +3,7 @@ use Rattle.std.proofs.lemmas.List.{take_all, take_at, length-take-le}
 use Rattle.wsn_redact.specs.Redaction.{zeros_for}
 use Rattle.std.specs.Prelude.{Option}
 use Rattle.wsn_rules.specs.declared.verdict.Refusal.{Refusal}
-use Rattle.wsn_redact.specs.Keeping.{HasRedacted, Rewrites}
+use Rattle.wsn_redact.specs.RedactedParts.{HasRedacted, Rewrites}
 use Rattle.wsn_redact.proofs.RedactedPayloads.{length-zeros}
 use Rattle.wsn_redact.proofs.RedactedEnds.{refused_on}
 use Rattle.wsn_redact.proofs.RedactedCalls.{unrefused_of, refused_of, some_taken, call_step}

@@ -4,7 +4,7 @@ use Rattle.wsn_scan.specs.declared.part.Taken.{Taken}
 use Rattle.wsn_scan.specs.Positions.{BetweenFrames}
 use Rattle.wsn_scan.specs.Scans.{refusal_in}
 use Rattle.wsn_scan.specs.FollowedScans.{IsCall}
-use Rattle.wsn_show.specs.StreamParts.{Keeps, held_at}
+use Rattle.wsn_show.specs.StreamParts.{KeepsStream, held_at}
 use Rattle.wsn_scan.proofs.FollowedScans.{lawful_done}
 use Rattle.wsn_show.proofs.ShownSteps.{more_step, closed_step, part_step, refused_step, goes_wrong, small_evidence, consumes_some}
 use Rattle.wsn_show.proofs.feeding.step.Goals as goal
@@ -23,7 +23,7 @@ returns-in-More-clause-shows g c role limits came shown frames =
     let size = ap (λ (bs : List ℕ). length bs) same in
     more_step role limits old new chunk after n part came shown c.args.parts.now c.add_bytes.new.self context c.args.output.now c.args.output.now frames call c.requires.some
     (λ rest small kept.
-    subst (λ (bs : List ℕ). Keeps c.add_bytes.new.self frames.done BetweenFrames (rest ++ bs)) same
+    subst (λ (bs : List ℕ). KeepsStream c.add_bytes.new.self frames.done BetweenFrames (rest ++ bs)) same
     (c.add_bytes.ensures frames.done rest (omega (arith, small, size, length-take-le n chunk call.within)) kept))
 
 pub returns-in-More-clause-progress : goal.returns-in-More-clause-progress
@@ -45,7 +45,7 @@ returns-in-Closed-clause-shows g c role limits came shown frames =
     let size = ap (λ (bs : List ℕ). length bs) same in
     closed_step role limits old new chunk after n part came shown c.args.parts.now c.add_bytes-in-Closed.new.self context c.args.output.now c.args.output.now frames call c.requires.some
     (λ rest small kept.
-    subst (λ (bs : List ℕ). Keeps c.add_bytes-in-Closed.new.self frames.done BetweenFrames (rest ++ bs)) same
+    subst (λ (bs : List ℕ). KeepsStream c.add_bytes-in-Closed.new.self frames.done BetweenFrames (rest ++ bs)) same
     (c.add_bytes-in-Closed.ensures frames.done rest (omega (arith, small, size, length-take-le n chunk call.within)) kept))
 
 pub returns-in-Closed-clause-progress : goal.returns-in-Closed-clause-progress

@@ -1,7 +1,7 @@
 use Rattle.std.proofs.Common.{◌≤◌, ◌<◌, ◌+◌, ◌-◌, ℕ, List, ◌++◌, length, take}
 use Rattle.wsn_rules.specs.Limits.{Limits}
 use Rattle.wsn_capture.specs.CaptureLines.{count_of}
-use Rattle.wsn_capture.specs.LineSplitters.{HasSplit, bytes_left}
+use Rattle.wsn_capture.specs.LineSplitters.{HasSplit, bytes_ahead}
 use Rattle.wsn_capture.proofs.line_splitter.LineSplitter.take.Given as goal
 
 -- a prefix of the chunk is consumed
@@ -11,7 +11,7 @@ invariant-loop-taken l = record {
   few : count_of l.self.capture.lines ≤ 1000000;
   short : length l.self.begun < 8196;
   split : (limits : Limits) (came : List ℕ) → HasSplit limits l.fn.self came → HasSplit limits l.self (came ++ take l.taken l.chunk);
-  left : bytes_left l.self + l.taken ≤ bytes_left l.fn.self;
+  left : bytes_ahead l.self.capture.lines l.self.begun + l.taken ≤ bytes_ahead l.fn.self.capture.lines l.fn.self.begun;
 }
 
 abbrev pub decreases-loop-taken : goal.decreases-loop-taken
