@@ -10,7 +10,8 @@ use Rattle.wsn_capture.specs.SideTexts.{sent_in, sentinel}
 use Rattle.wsn_c.specs.declared.options.Options.{Options}
 use Rattle.wsn_c.specs.declared.options.Asked.{Asked}
 use Rattle.wsn_c.specs.Asking.{AreInRange, IsAsked}
-use Rattle.wsn_c.specs.Calls.{Call, Gives, GivesUsage}
+use Rattle.wsn_job.specs.Calls.{Call, Gives}
+use Rattle.wsn_c.specs.Calls.{GivesUsage}
 
 -- The call gives the bytes before the first line that isn't accepted, and tells the line.
 pub record IsToldFaulty (role : Role) (capture : List ℕ) (done : Call) : Type 0 where

@@ -1,7 +1,6 @@
 -- What a run of the commands beside `judge` answered, by what its work came to.
 use Rattle.std.specs.Prelude.{Result, Ok, Err}
 use Rattle.wsn_io.specs.declared.stop.Stop.{Stop}
-use Rattle.wsn_rules.specs.declared.verdict.Verdict.{Verdict as GivenVerdict}
 use Rattle.wsn_rules.specs.declared.compared.Compared.{Compared}
 use Rattle.wsn_rules.specs.declared.compared.Compared.TheVariants as compared
 use Rattle.wsn_plan.specs.declared.planning.PlanAnswer.{PlanAnswer}

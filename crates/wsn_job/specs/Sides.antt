@@ -18,7 +18,7 @@ use Rattle.wsn_job.specs.OtherAnswers.{compared_answer}
 use Rattle.wsn_job.specs.Answers.{ran_with}
 use Rattle.wsn_job.specs.Diagnostics.{IsDiagnosed, IsStopDiagnosed}
 use Rattle.wsn_command.specs.Jobs.{MayRun, job_role}
-use Rattle.wsn_job.specs.Jobs.{IsRun}
+use Rattle.wsn_job.specs.Work.{IsRun}
 
 -- The job may be run on a side: it reads one endpoint's stream. `closing` reads both.
 abbrev pub MayRunOnSide : {A : Type 0} → Job A → Type 0

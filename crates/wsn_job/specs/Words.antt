@@ -11,7 +11,6 @@ pub use Rattle.wsn_plan.specs.Recutting.{IsRecut}
 pub use Rattle.wsn_job.specs.Comparisons.{IsComparisonPrinted}
 pub use Rattle.wsn_job.specs.Diagnostics.{IsStopDiagnosed, IsDiagnosed}
 pub use Rattle.wsn_command.specs.Jobs.{MayRecut}
-pub use Rattle.wsn_job.specs.Recuts.{IsRecutRun, IsRecutDiagnosed, planned_by, recut_status}
-pub use Rattle.wsn_job.specs.Verdicts.{IsVerdictPrinted, IsJudgeRun}
-pub use Rattle.wsn_job.specs.NormalForms.{IsVerdictDiagnosed, IsNormalRun}
-pub use Rattle.wsn_job.specs.Listings.{IsFramesRun}
+pub use Rattle.wsn_job.specs.Recuts.{IsRecutDiagnosed, planned_by, recut_status}
+pub use Rattle.wsn_job.specs.Verdicts.{IsVerdictPrinted}
+pub use Rattle.wsn_job.specs.NormalForms.{IsVerdictDiagnosed}
