@@ -1,6 +1,6 @@
 -- What is kept of the event that begins at an offset, while a scan takes the parts of frames.
 use Rattle.std.specs.Prelude.{◌≡◌, ◌≢◌, ℕ, ◌+◌, ◌^◌, ◌<◌, ◌≤◌, ◌↔◌, ◌⊎◌, nat_lt, nat_le, Bool, true, false, IfSome, Option, None, Some, Result, Ok, Err, List, [], ◌∷◌, ◌++◌, length, take, if◌then◌else◌}
-use Rattle.wsn_io.specs.Transfer.{Outgoing, IsWritten, IsPartlyWritten}
+use Rattle.wsn_io.specs.Transfer.{Outgoing, IsWritten, IsPartlyWritten, IsWrittenBut}
 use Rattle.wsn_io.specs.declared.stop.Stop.{Stop}
 use Rattle.wsn_io.specs.declared.stop.Stop.TheVariants as stop
 use Rattle.wsn_wire.specs.declared.endpoint.Role.{Role}
@@ -23,7 +23,7 @@ use Rattle.wsn_payload.specs.declared.answer.Payload.{Payload}
 use Rattle.wsn_payload.specs.declared.answer.Payload.TheVariants.{Whole, Unfinished, Inside, Head, Nothing}
 use Rattle.wsn_payload.specs.declared.event_at.EventAt.{EventAt}
 use Rattle.wsn_payload.specs.EventsAt.{content, IsWholeAt, IsBegunAt, end_of, EndBefore, IsUnfinishedAt, IsInHeadAt, IsAfterAll, IsStartOf, IsInsideAt}
-use Rattle.wsn_payload.specs.Payloads.{IsPayloadInFront, IsWrittenBut}
+use Rattle.wsn_payload.specs.Payloads.{IsPayloadInFront, IsPartOf}
 
 -- The opcode and the offset of the first frame of the open message are kept, if one is open.
 abbrev pub KeepsOpen : EventAt → List Frame → Type 0
@@ -201,7 +201,7 @@ SeeksOn role limits at scan kept came chunk first now (Ok (n, Some answer)) =
 SeeksOn role limits at scan kept came chunk first now (Err stopped) =
     (stopped ≡ stop.Write)
     × ((payload : List ℕ) × IsPayloadInFront role limits (came ++ chunk) at payload × IsPartlyWritten first now payload)
-    × IsWrittenBut (length chunk) role limits at (came ++ chunk) first now
+    × IsWrittenBut (length chunk) (IsPartOf role limits at) (came ++ chunk) first now
 
 -- The same of a whole chunk, or of its bytes up to the answer.
 abbrev pub SeeksThrough : Role → Limits → ℕ → Scan → EventAt → List ℕ → List ℕ → Outgoing → Outgoing →
