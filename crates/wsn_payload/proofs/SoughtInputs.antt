@@ -13,7 +13,7 @@ use Rattle.wsn_rules.specs.declared.verdict.Verdict.{Verdict}
 use Rattle.wsn_rules.specs.declared.verdict.Verdict.TheVariants.{Accepted, Cut, Refused}
 use Rattle.wsn_rules.specs.Accepted.{EndsWithClose}
 use Rattle.wsn_rules.specs.Limits.{Limits}
-use Rattle.wsn_rules.specs.Verdict.{IsRefused, IsVerdict}
+use Rattle.wsn_rules.specs.Verdict.{IsRefused, IsVerdict, judged_bytes}
 use Rattle.wsn_rules.proofs.StaysRefused.{place_within}
 use Rattle.wsn_scan.specs.declared.chunk_reader.ChunkReader.{ChunkReader}
 use Rattle.wsn_scan.specs.declared.scan.Scan.{Scan}
@@ -29,7 +29,7 @@ use Rattle.wsn_payload.specs.declared.answer.EventStart.{EventStart}
 use Rattle.wsn_payload.specs.declared.answer.Payload.{Payload}
 use Rattle.wsn_payload.specs.declared.answer.Payload.TheVariants.{Whole, Unfinished, Inside, Head, Nothing}
 use Rattle.wsn_payload.specs.declared.event_at.EventAt.{EventAt}
-use Rattle.wsn_payload.specs.EventsAt.{IsWholeAt, IsRestAt, judged_bytes, AreApart, IsUnfinishedAt, EndsBefore, IsInHeadAt, IsAfterAll, IsInsideAt}
+use Rattle.wsn_payload.specs.EventsAt.{IsWholeAt, IsRestAt, AreApart, IsUnfinishedAt, EndsBefore, IsInHeadAt, IsAfterAll, IsInsideAt}
 use Rattle.wsn_payload.specs.Following.{HasBegunAt, KeepsEventAt, is_judged, answer_without_event, ended_answer, HasSought, IsRefusedHere, IsAnsweredAt, SeeksThrough}
 use Rattle.wsn_payload.specs.Payloads.{IsPartAt, IsPayloadInFront, IsPayloadAnswer, IsPayloadTaken, IsPayloadOfAll, IsPartOf}
 use Rattle.wsn_scan.proofs.FollowedScans.{unrefused_so_far, judged_so_far}

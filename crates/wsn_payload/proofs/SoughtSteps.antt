@@ -23,7 +23,7 @@ use Rattle.wsn_rules.specs.Evidence.Evidence.{ByFirst}
 use Rattle.wsn_rules.specs.Heads.{heads_of, info_of, IsBegun, AreHeads}
 use Rattle.wsn_rules.specs.Lawful.{IsLawful}
 use Rattle.wsn_rules.specs.ShownStream.{frame_so_far}
-use Rattle.wsn_rules.specs.Verdict.{IsVerdict}
+use Rattle.wsn_rules.specs.Verdict.{IsVerdict, judged_bytes}
 use Rattle.wsn_rules.proofs.HeadsGoOn.{begins_longer}
 use Rattle.wsn_scan.specs.declared.part.Part.{Part}
 use Rattle.wsn_scan.specs.declared.part.Taken.{Taken}
@@ -36,7 +36,7 @@ use Rattle.wsn_scan.proofs.HeadsSoFar.{heads_reported}
 use Rattle.wsn_payload.specs.declared.answer.Payload.{Payload}
 use Rattle.wsn_payload.specs.declared.answer.Payload.TheVariants.{Whole, Unfinished, Inside, Head, Nothing}
 use Rattle.wsn_payload.specs.declared.event_at.EventAt.{EventAt}
-use Rattle.wsn_payload.specs.EventsAt.{IsWholeAt, IsRestAt, IsBegunAt, judged_bytes, AreApart, IsInsideAt}
+use Rattle.wsn_payload.specs.EventsAt.{IsWholeAt, IsRestAt, IsBegunAt, AreApart, IsInsideAt}
 use Rattle.wsn_scan.specs.FollowedScans.{HasFollowed, IsCall}
 use Rattle.wsn_payload.specs.Following.{HasBegunAt, KeepsEventAt, MayBegin, EndsEvent, TakesPart, own_part, is_judged, answer_without_event, ended_answer, HasSought, IsRefusedHere, IsStepOf, SeeksOn}
 use Rattle.wsn_payload.specs.Payloads.{IsPartAt, IsPayloadInFront, IsPartOf}

@@ -39,7 +39,6 @@ pub mod PlacedByte
 pub mod BadCharacter
 pub mod ShownStream
 pub mod ShownEvents
-pub mod ShownBytes
 pub mod ShownPlaces
 pub mod ShownCapture
 -- for the examples
