@@ -1,5 +1,4 @@
 -- Definitions of a frame that is being read: its head, its payload, the open message, the counts.
-pub mod EvidentLast
 pub mod PartialHeads
 pub mod Payloads
 pub mod PayloadChecks

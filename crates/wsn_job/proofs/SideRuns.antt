@@ -8,8 +8,7 @@ use Rattle.wsn_rules.specs.Limits.{Limits}
 use Rattle.wsn_rules.specs.declared.verdict.Verdict.{Verdict}
 use Rattle.wsn_rules.specs.declared.verdict.Verdict.TheVariants.{Accepted}
 use Rattle.wsn_print.specs.declared.format.Format.{Format}
-use Rattle.wsn_print.specs.FaultText.{line_fault_line}
-use Rattle.wsn_print.specs.StopText.{stop_line}
+use Rattle.wsn_print.specs.FaultText.{line_fault_line, stop_line}
 use Rattle.wsn_capture.specs.declared.line_fault.LineFault.{LineFault}
 use Rattle.wsn_capture.specs.LineFaults.{fault_word}
 use Rattle.wsn_scan.specs.Judging.{IsReached, IsJudged}
@@ -32,8 +31,7 @@ use Rattle.wsn_job.specs.declared.done.Done.{Done}
 use Rattle.wsn_job.specs.declared.done.Done.TheVariants as done
 use Rattle.wsn_job.specs.Channels.{Channels, channels}
 use Rattle.wsn_print.specs.Statuses.{verdict_status}
-use Rattle.wsn_job.specs.Answers.{ran_with, verdict_answer}
-use Rattle.wsn_job.specs.OtherAnswers.{plan_answer, recut_answer, payload_answer}
+use Rattle.wsn_job.specs.Answers.{ran_with, verdict_answer, plan_answer, recut_answer, payload_answer}
 use Rattle.wsn_job.specs.Diagnostics.{IsDiagnosed, IsStopDiagnosed}
 use Rattle.wsn_job.specs.Redactions.{redact_status}
 use Rattle.wsn_job.specs.Plans.{IsPlanPrinted, IsPlanDiagnosed, plan_status}

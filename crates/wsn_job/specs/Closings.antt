@@ -10,7 +10,7 @@ use Rattle.wsn_print.specs.declared.format.Format.{Format}
 use Rattle.wsn_print.specs.Formats.{report_text}
 use Rattle.wsn_print.specs.NamedReportText.{named_report_text}
 use Rattle.wsn_print.specs.Statuses.{outcome_status}
-use Rattle.wsn_print.specs.StopText.{stop_line}
+use Rattle.wsn_print.specs.FaultText.{stop_line}
 use Rattle.wsn_show.specs.declared.showing.ShowStop.{ShowStop}
 use Rattle.wsn_show.specs.declared.showing.ShowStop.TheVariants.{Capture, Write}
 use Rattle.wsn_job.specs.Channels.{Channels}

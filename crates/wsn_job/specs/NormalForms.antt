@@ -4,7 +4,7 @@ use Rattle.wsn_io.specs.Transfer.{Outgoing}
 use Rattle.wsn_io.specs.declared.stop.Stop.{Stop}
 use Rattle.wsn_rules.specs.declared.verdict.Verdict.{Verdict}
 use Rattle.wsn_rules.specs.declared.verdict.Verdict.TheVariants.{Accepted}
-use Rattle.wsn_print.specs.StopText.{stop_line}
+use Rattle.wsn_print.specs.FaultText.{stop_line}
 use Rattle.wsn_print.specs.VerdictText.{verdict_line}
 use Rattle.wsn_job.specs.Diagnostics.{IsDiagnosed}
 

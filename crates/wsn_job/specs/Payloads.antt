@@ -2,7 +2,7 @@
 use Rattle.std.specs.Prelude.{◌≡◌, ℕ, Result, Ok, Err}
 use Rattle.wsn_io.specs.Transfer.{Outgoing}
 use Rattle.wsn_io.specs.declared.stop.Stop.{Stop}
-use Rattle.wsn_print.specs.StopText.{stop_line}
+use Rattle.wsn_print.specs.FaultText.{stop_line}
 use Rattle.wsn_print.specs.VerdictText.{verdict_line}
 use Rattle.wsn_print.specs.PayloadText.{inside_line, begun_head_line, nothing_line}
 use Rattle.wsn_payload.specs.declared.answer.Payload.{Payload}

@@ -4,7 +4,7 @@ use Rattle.wsn_wire.specs.declared.endpoint.Role.{Role}
 use Rattle.wsn_io.specs.Transfer.{Incoming, Outgoing, IsWritten, IsPartlyWritten}
 use Rattle.wsn_rules.specs.declared.step.Step.{Step}
 use Rattle.wsn_rules.specs.Limits.{Limits}
-use Rattle.wsn_print.specs.FaultText.{unfinished_line}
+use Rattle.wsn_print.specs.FaultText.{unfinished_line, stop_line}
 use Rattle.wsn_print.specs.VerdictText.{verdict_line}
 use Rattle.wsn_io.specs.declared.stop.Stop.{Stop}
 use Rattle.wsn_io.specs.declared.stop.Stop.TheVariants as stop
@@ -13,7 +13,6 @@ use Rattle.wsn_plan.specs.declared.planning.PlanAnswer.TheVariants.{Plan, NotAcc
 use Rattle.wsn_plan.specs.Planning.{IsPlanned}
 use Rattle.wsn_plan_text.specs.PlanText.{plan_text}
 use Rattle.wsn_job.specs.Diagnostics.{IsDiagnosed}
-use Rattle.wsn_print.specs.StopText.{stop_line}
 
 -- A plan's text was printed; with any other answer or a stop, nothing was. If a write failed, there is a plan, and a
 -- prefix of its text was printed.

@@ -1,7 +1,7 @@
 -- What `recut` prints on standard output and standard error, and its exit status.
 use Rattle.std.specs.Prelude.{◌≡◌, ℕ, Result, Ok, Err}
 use Rattle.wsn_io.specs.Transfer.{Outgoing}
-use Rattle.wsn_print.specs.FaultText.{recut_fault_line}
+use Rattle.wsn_print.specs.FaultText.{recut_fault_line, stop_line}
 use Rattle.wsn_print.specs.VerdictText.{verdict_line}
 use Rattle.wsn_rules.specs.UniformPlan.{uniform_plan}
 use Rattle.wsn_io.specs.declared.stop.Stop.{Stop}
@@ -11,7 +11,6 @@ use Rattle.wsn_plan.specs.Recutting.{Planner}
 use Rattle.wsn_command.specs.declared.job.How.{How}
 use Rattle.wsn_command.specs.declared.job.How.TheVariants.{ByPlan, BySize}
 use Rattle.wsn_job.specs.Diagnostics.{IsDiagnosed}
-use Rattle.wsn_print.specs.StopText.{stop_line}
 
 -- the plan by which a stream of the given events is recut
 abbrev pub planned_by : {A : Type 0} → How A → Planner

@@ -1,9 +1,8 @@
 ghost use Rattle.std.specs.Prelude.{◌≡◌, ◌⊎◌, ℕ, false, true, List, Result, Ok, Some};
-ghost use Rattle.wsn_job.specs.ComparedChannels.{compared_channels};
+ghost use Rattle.wsn_job.specs.Channels.{compared_channels};
 ghost use Rattle.wsn_io.specs.Stops.{IsWrittenOrStops};
 ghost use Rattle.wsn_events.specs.Excerpts.{HasExcerpts};
-ghost use Rattle.wsn_job.specs.OtherAnswers.{compared_answer};
-ghost use Rattle.wsn_job.specs.Answers.{ran_with};
+ghost use Rattle.wsn_job.specs.Answers.{compared_answer, ran_with};
 ghost use Rattle.wsn_job.specs.Comparisons.{IsAnswerText};
 ghost use Rattle.wsn_job.specs.Words.{Stop, Compared, IsComparisonPrinted, comparison_status, IsStopDiagnosed};
 

@@ -7,8 +7,7 @@ ghost use Rattle.wsn_rules.specs.declared.compared.Compared.{Compared};
 ghost use Rattle.wsn_command.specs.declared.answered.Ran.{Ran};
 ghost use Rattle.wsn_command.specs.declared.comparison.Comparison.{Comparison};
 ghost use Rattle.wsn_command.specs.declared.job.Job.{Job};
-ghost use Rattle.wsn_job.specs.Channels.{Channels};
-ghost use Rattle.wsn_job.specs.ComparedChannels.{ComparedChannels};
+ghost use Rattle.wsn_job.specs.Channels.{Channels, ComparedChannels};
 ghost use Rattle.wsn_job.specs.Comparisons.{IsComparisonPrinted};
 ghost use Rattle.wsn_job.specs.Work.{IsRun};
 

@@ -1,6 +1,5 @@
 ghost use Rattle.std.specs.Prelude.{◌≡◌, ◌⊎◌, false, true, Result, IfSome};
-ghost use Rattle.wsn_job.specs.Channels.{channels};
-ghost use Rattle.wsn_job.specs.ComparedChannels.{compared_channels};
+ghost use Rattle.wsn_job.specs.Channels.{channels, compared_channels};
 ghost use Rattle.wsn_job.specs.Sides.{MayRunOnSide, IsRunOnSide, IsFaultySide, IsFirstFaultySide, IsSameDiagnosed};
 ghost use Rattle.wsn_job.specs.Words.{Stop, Compared, IsComparisonPrinted, comparison_status};
 

@@ -1,5 +1,4 @@
 -- for callers and private functions
-pub mod KeptEvents
 pub mod Gathering
 pub mod Walking
 pub mod Uniform

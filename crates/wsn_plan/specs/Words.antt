@@ -23,7 +23,7 @@ pub use Rattle.wsn_io.specs.Stops.{HasNoFailure, IsWrittenOrStops}
 pub use Rattle.wsn_io.specs.declared.stop.Stop.{Stop}
 pub use Rattle.wsn_events.specs.EventsMeant.{meant, close_body}
 pub use Rattle.wsn_events.specs.Normalised.{IsNormalisedWhole}
-pub use Rattle.wsn_plan.specs.KeptEvents.{kept_meant}
+pub use Rattle.wsn_plan.specs.Gathering.{kept_meant}
 pub use Rattle.wsn_plan.specs.Framing.{control_frame, piece_frame, last_frame, frame_here, EncodesItsLength}
 pub use Rattle.wsn_plan.specs.Planning.{IsPlannedWhole, IsRestored}
 pub use Rattle.wsn_plan.specs.Recutting.{IsRecutWhole, Planner}

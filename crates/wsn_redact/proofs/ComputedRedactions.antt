@@ -2,9 +2,8 @@
 use Rattle.std.proofs.Common.{◌≡◌, ℕ, ◌+◌, ◌<◌, ◌≤◌, ◌⊎◌, Bool, true, false, List, [], ◌∷◌, ◌++◌, length, take, drop, inl, inr, nat_lt, refl, sym, ap, ◌∙◌, subst, arith, append-nil, length-append}
 use Rattle.std.proofs.lemmas.List.{take_at}
 use Rattle.wsn_wire.specs.declared.refusal.Reason.{Reason}
-use Rattle.wsn_rules.specs.Evidence.{Evidence}
+use Rattle.wsn_rules.specs.Evidence.{Evidence, HasNoEvidence}
 use Rattle.wsn_rules.specs.Group.{unfinished}
-use Rattle.wsn_rules.specs.NoEvidence.{HasNoEvidence}
 use Rattle.wsn_frame.proofs.HeadsAtOnce.{no_items}
 unfoldable pub use Rattle.wsn_text.proofs.Numbers.{less_or_not, same_or_not}
 use Rattle.wsn_text.proofs.Decide.{nothing, begun, four_long, three_long, after_first, after_byte, following, fill, begins_by, begins_decided, text_by, text_decided}

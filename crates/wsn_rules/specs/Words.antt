@@ -13,8 +13,7 @@ pub use Rattle.wsn_rules.specs.Examples.{greatest, Judged, Means, RefusedAt, Cut
 pub use Rattle.wsn_rules.specs.Fault.{Holds, IsFirstWhy, IsFault}
 pub use Rattle.wsn_rules.specs.Fitting.{Fits}
 pub use Rattle.wsn_rules.specs.Group.{unfinished, is_data, first_op, payload_of}
-pub use Rattle.wsn_rules.specs.Lawful.{LawAt, IsLawful}
-pub use Rattle.wsn_rules.specs.LawfulAfter.{AreLawfulAfter}
+pub use Rattle.wsn_rules.specs.Lawful.{LawAt, IsLawful, AreLawfulAfter}
 pub use Rattle.wsn_rules.specs.LawfulEvents.{AreLawful}
 pub use Rattle.wsn_rules.specs.Limits.{Limits, InRange}
 pub use Rattle.wsn_rules.specs.Meaning.{events_after, meaning, MeantEvent, event_at, Message, Control}

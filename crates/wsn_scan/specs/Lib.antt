@@ -6,7 +6,6 @@ pub mod Parts
 pub mod Feeding
 pub mod ChunkReaders
 pub mod Judging
-pub mod ReportedHeads
 pub mod FrameReaders
 pub mod ReadParts
 pub mod FollowedScans
