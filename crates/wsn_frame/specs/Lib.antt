@@ -4,5 +4,3 @@ pub mod Payloads
 pub mod PayloadChecks
 pub mod OpenMessages
 pub mod Counts
--- the names that the clauses in src/ import
-pub mod Words

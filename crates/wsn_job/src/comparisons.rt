@@ -3,8 +3,11 @@ ghost use Rattle.wsn_job.specs.Channels.{compared_channels};
 ghost use Rattle.wsn_io.specs.Stops.{IsWrittenOrStops};
 ghost use Rattle.wsn_events.specs.Excerpts.{HasExcerpts};
 ghost use Rattle.wsn_job.specs.Answers.{compared_answer, ran_with};
-ghost use Rattle.wsn_job.specs.Comparisons.{IsAnswerText};
-ghost use Rattle.wsn_job.specs.Words.{Stop, Compared, IsComparisonPrinted, comparison_status, IsStopDiagnosed};
+ghost use Rattle.wsn_job.specs.Comparisons.{IsAnswerText, IsComparisonPrinted};
+ghost use Rattle.wsn_io.specs.declared.stop.Stop.{Stop};
+ghost use Rattle.wsn_rules.specs.declared.compared.Compared.{Compared};
+ghost use Rattle.wsn_print.specs.Statuses.{comparison_status};
+ghost use Rattle.wsn_job.specs.Diagnostics.{IsStopDiagnosed};
 
 use crate::answers;
 use crate::diagnostics::diagnose_if_stopped;

@@ -6,4 +6,3 @@ pub mod Framing
 pub mod Recutting
 pub mod Planning
 -- for the clauses in src/
-pub mod Words

@@ -4,4 +4,3 @@ pub mod PlanFiles
 pub mod Plans
 pub mod Splits
 -- for the clauses in src/
-pub mod Words

@@ -40,5 +40,3 @@ pub mod ShownCapture
 -- for the examples
 pub mod Examples
 pub mod PlanExamples
--- the names that the clauses in src/ import
-pub mod Words

@@ -2,7 +2,12 @@
 
 ghost use Rattle.std.specs.Prelude.{◌≡◌, ℕ, ◌<◌, ◌≤◌, Option, List, [], ◌++◌, length, map, slice_get};
 ghost use Rattle.std.specs.List.{AllByRecursion};
-ghost use Rattle.wsn_rules.specs.Words.{Role, Frame, IsBytes, Limits, InRange, Verdict, IsVerdict, meaning};
+ghost use Rattle.wsn_wire.specs.declared.endpoint.Role.{Role};
+ghost use Rattle.wsn_wire.specs.Frame.{Frame, IsBytes};
+ghost use Rattle.wsn_rules.specs.Limits.{Limits, InRange};
+ghost use Rattle.wsn_rules.specs.declared.verdict.Verdict.{Verdict};
+ghost use Rattle.wsn_rules.specs.Verdict.{IsVerdict};
+ghost use Rattle.wsn_rules.specs.Meaning.{meaning};
 ghost use Rattle.wsn_rules.specs.declared.detail.Detail.{Detail};
 ghost use Rattle.wsn_rules.specs.declared.detail.Detail.TheVariants.{Events, Frames};
 ghost use Rattle.wsn_rules.specs.declared.head_info.HeadInfo.{HeadInfo};

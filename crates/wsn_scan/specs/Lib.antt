@@ -14,4 +14,3 @@ pub mod Scans
 pub mod ReaderSteps
 pub mod EventFrames
 -- for the clauses in src/
-pub mod Words
