@@ -12,5 +12,3 @@ pub mod CaptureLines
 pub mod Captures
 pub mod LineSplitters
 pub mod SideStates
--- the names that the clauses in src/ import
-pub mod Words

@@ -12,4 +12,3 @@ pub mod PayloadExcerpts
 pub mod Excerpts
 pub mod Normalised
 -- for the clauses in src/
-pub mod Words

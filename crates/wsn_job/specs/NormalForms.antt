@@ -2,17 +2,10 @@
 use Rattle.std.specs.Prelude.{◌≡◌, Result, Ok, Err}
 use Rattle.wsn_io.specs.Transfer.{Outgoing}
 use Rattle.wsn_io.specs.declared.stop.Stop.{Stop}
-use Rattle.wsn_wire.specs.declared.endpoint.Role.{Role}
 use Rattle.wsn_rules.specs.declared.verdict.Verdict.{Verdict}
 use Rattle.wsn_rules.specs.declared.verdict.Verdict.TheVariants.{Accepted}
-use Rattle.wsn_rules.specs.Limits.{Limits}
-use Rattle.wsn_print.specs.Statuses.{verdict_status}
-use Rattle.wsn_print.specs.StopText.{stop_line}
+use Rattle.wsn_print.specs.FaultText.{stop_line}
 use Rattle.wsn_print.specs.VerdictText.{verdict_line}
-use Rattle.wsn_events.specs.Normalised.{IsNormalised}
-use Rattle.wsn_command.specs.declared.answered.Ran.{Ran}
-use Rattle.wsn_job.specs.Channels.{Channels}
-use Rattle.wsn_job.specs.Answers.{ran_with, verdict_answer}
 use Rattle.wsn_job.specs.Diagnostics.{IsDiagnosed}
 
 -- A stop, and a verdict that isn't accepted, is reported in its line; for an accepted verdict nothing is written.
@@ -20,9 +13,3 @@ abbrev pub IsVerdictDiagnosed : Result Verdict Stop → Outgoing → Outgoing �
 IsVerdictDiagnosed (Ok (Accepted summary)) old new = new ≡ old
 IsVerdictDiagnosed (Ok verdict) old new = IsDiagnosed old new (verdict_line verdict)
 IsVerdictDiagnosed (Err stopped) old new = IsDiagnosed old new (stop_line stopped)
-
--- The normal form of the input's meaning was written.
-abbrev pub IsNormalRun : Role → Limits → Channels → Channels → Ran → Type 0
-IsNormalRun role limits before after ran = (done : Result Verdict Stop)
-    × IsNormalised role limits before.input after.input before.output after.output done × (ran ≡ ran_with (verdict_status done) (verdict_answer done))
-    × IsVerdictDiagnosed done before.errors after.errors

@@ -17,9 +17,9 @@ use Rattle.wsn_rules.specs.Limits.{Limits}
 use Rattle.wsn_rules.specs.Group.{unfinished, first_op}
 use Rattle.wsn_rules.specs.Heads.{info_of, BeginsWithHead}
 use Rattle.wsn_rules.specs.Lawful.{IsLawful}
-use Rattle.wsn_rules.specs.Meaning.{event_at}
+use Rattle.wsn_rules.specs.Meaning.{event_at, payload_in}
 use Rattle.wsn_rules.specs.ShownStream.{event_offset, frame_so_far}
-use Rattle.wsn_rules.specs.Verdict.{IsVerdict}
+use Rattle.wsn_rules.specs.Verdict.{IsVerdict, judged_bytes}
 use Rattle.wsn_rules.proofs.OneHead.{one_begun, one_following}
 use Rattle.wsn_rules.proofs.OneVerdict.{AreAll, all_go_on, all_of_verdict, one_verdict}
 use Rattle.wsn_rules.proofs.Prefixes.{push-append, append_cancel, two_fronts}
@@ -29,7 +29,7 @@ use Rattle.wsn_scan.proofs.WholeInputs.{not_past}
 use Rattle.wsn_payload.specs.declared.answer.EventStart.{EventStart}
 use Rattle.wsn_payload.specs.declared.answer.Payload.{Payload}
 use Rattle.wsn_payload.specs.declared.answer.Payload.TheVariants.{Whole, Unfinished, Inside, Head, Nothing}
-use Rattle.wsn_payload.specs.EventsAt.{content, end_of, judged_bytes, IsWholeAt, IsRestAt, IsBegunAt, EndBefore, AreApart, IsUnfinishedAt, EndsBefore, IsInHeadAt, IsAfterAll, IsInsideAt}
+use Rattle.wsn_payload.specs.EventsAt.{end_of, IsWholeAt, IsRestAt, IsBegunAt, EndBefore, AreApart, IsUnfinishedAt, EndsBefore, IsInHeadAt, IsAfterAll, IsInsideAt}
 use Rattle.wsn_payload.specs.Payloads.{IsPartAt, IsPayloadOfAll}
 use Rattle.wsn_payload.proofs.OpenMessages.{open_before, offset_within, apart_from_control, frame_end}
 use Rattle.wsn_payload.proofs.OneEvent.{ArePast, past_more, past_within, one_event, not_begun, not_before, place_of}
@@ -141,7 +141,7 @@ module _ (role : Role) (limits : Limits) (bytes : List ℕ) where
 
     -- A complete event has one payload.
     pub one_whole : (payload other : List ℕ) → IsWholeAt role limits bytes at payload → IsWholeAt role limits bytes at other → payload ≡ other
-    one_whole payload other a b = a.payload_is ∙ ap content same ∙ sym b.payload_is
+    one_whole payload other a b = a.payload_is ∙ ap payload_in same ∙ sym b.payload_is
       where
         same : event_at a.before a.last ≡ event_at b.before b.last
         same =

@@ -1,26 +1,20 @@
 -- The event that begins at an offset of a stream: its payload, what has come of it, or where the offset is if no event
 -- begins there. RFC 6455 sections 5.4 to 5.6.
-use Rattle.std.specs.Prelude.{◌≡◌, ◌≢◌, ℕ, ◌+◌, ◌<◌, ◌≤◌, ◌⊎◌, true, List, [], ◌∷◌, ◌++◌, length, take, drop, if◌then◌else◌}
+use Rattle.std.specs.Prelude.{◌≡◌, ◌≢◌, ℕ, ◌+◌, ◌<◌, ◌≤◌, ◌⊎◌, true, List, [], ◌∷◌, ◌++◌, length, drop, if◌then◌else◌}
 use Rattle.wsn_wire.specs.declared.endpoint.Role.{Role}
 use Rattle.wsn_wire.specs.Frame.{Frame, is_control, head_bytes, stream, wire_payload}
 use Rattle.wsn_rules.specs.declared.head_info.HeadInfo.{HeadInfo}
 use Rattle.wsn_rules.specs.declared.verdict.Verdict.{Verdict}
-use Rattle.wsn_rules.specs.declared.verdict.Verdict.TheVariants.{Refused}
 use Rattle.wsn_rules.specs.Limits.{Limits}
 use Rattle.wsn_rules.specs.Group.{unfinished, IsOpen, first_op, payload_of}
 use Rattle.wsn_rules.specs.Lawful.{IsLawful}
 use Rattle.wsn_rules.specs.Accepted.{HasNoClose, EndsWithClose}
-use Rattle.wsn_rules.specs.Meaning.{MeantEvent, Message, Control, event_at}
+use Rattle.wsn_rules.specs.Meaning.{event_at, payload_in}
 use Rattle.wsn_rules.specs.Heads.{heads_of, BeginsWithHead, AreHeads}
 use Rattle.wsn_rules.specs.ShownStream.{open_offset, event_offset, frame_so_far}
-use Rattle.wsn_rules.specs.Verdict.{IsVerdict}
+use Rattle.wsn_rules.specs.Verdict.{IsVerdict, judged_bytes}
 use Rattle.wsn_scan.specs.Positions.{Position, BetweenFrames, InFrame}
 use Rattle.wsn_payload.specs.declared.answer.EventStart.{EventStart}
-
--- The payload of an event: a message's, joined from its frames, or a control's.
-abbrev pub content : MeantEvent → List ℕ
-content (Message kind payload) = payload
-content (Control op body) = body
 
 -- ---- complete
 
@@ -35,7 +29,7 @@ pub record IsWholeAt (role : Role) (limits : Limits) (bytes : List ℕ) (at : �
   pub lawful : IsLawful role limits (before ++ last ∷ [])
   pub final : last.fin ≡ true
   pub begins : event_offset before last ≡ at
-  pub payload_is : payload ≡ content (event_at before last)
+  pub payload_is : payload ≡ payload_in (event_at before last)
 
 -- ---- not complete
 
@@ -60,7 +54,7 @@ abbrev pub IsBegunAt : List Frame → Position → ℕ → List ℕ → Type 0
 IsBegunAt fs BetweenFrames at payload = IsOpenAt fs at payload
 IsBegunAt fs (InFrame info part) at payload =
     ((is_control info.op ≡ true) × IsOpenAt fs at payload)
-    ⊎ ((event_offset fs (frame_so_far info part) ≡ at) × (payload ≡ content (event_at fs (frame_so_far info part))))
+    ⊎ ((event_offset fs (frame_so_far info part) ≡ at) × (payload ≡ payload_in (event_at fs (frame_so_far info part))))
 
 -- The offset at which a frame with this head ends.
 abbrev pub end_of : HeadInfo → ℕ
@@ -70,11 +64,6 @@ end_of info = info.place + length (head_bytes info.fin info.op info.key info.for
 abbrev pub EndBefore : List Frame → Position → ℕ → Type 0
 EndBefore fs BetweenFrames at = length (stream fs) ≤ at
 EndBefore fs (InFrame info part) at = end_of info ≤ at
-
--- The bytes of which a verdict takes account: up to the offending byte, with it, or all.
-abbrev pub judged_bytes : Verdict → List ℕ → List ℕ
-judged_bytes (Refused refusal) bytes = take (refusal.place + 1) bytes
-judged_bytes verdict bytes = bytes
 
 -- The bytes have this verdict, and up to their end or to the offending byte they are these frames and then this.
 pub record AreApart (role : Role) (limits : Limits) (bytes : List ℕ) (verdict : Verdict) (fs : List Frame)

@@ -1,6 +1,16 @@
 ghost use Rattle.std.specs.Prelude.{◌≡◌, ℕ, ◌+◌, ◌-◌, ◌<◌, ◌≤◌, ◌^◌, true, false, Option, Some, List, length, map, drop};
-ghost use Rattle.wsn_plan.specs.Words.{FormFits, frame_bytes, is_control, Kind, Message, AreLawful, next_text, Op, op_after, IsWrittenOrStops, kept_meant, close_body, IsPlaced, IsApplicable, control_frame, piece_frame, last_frame, frame_here, EncodesItsLength};
-ghost use Rattle.wsn_rules.specs.Meaning.{Control};
+ghost use Rattle.wsn_wire.specs.Frame.{FormFits, frame_bytes, is_control};
+ghost use Rattle.wsn_wire.specs.declared.opcode.Kind.{Kind};
+ghost use Rattle.wsn_rules.specs.Meaning.{Message, Control};
+ghost use Rattle.wsn_rules.specs.LawfulEvents.{AreLawful};
+ghost use Rattle.wsn_rules.specs.Plan.{next_text};
+ghost use Rattle.wsn_wire.specs.declared.opcode.Op.{Op};
+ghost use Rattle.wsn_rules.specs.Recut.{op_after};
+ghost use Rattle.wsn_io.specs.Stops.{IsWrittenOrStops};
+ghost use Rattle.wsn_plan.specs.Gathering.{kept_meant};
+ghost use Rattle.wsn_events.specs.EventsMeant.{close_body};
+ghost use Rattle.wsn_plan.specs.Walking.{IsPlaced, IsApplicable};
+ghost use Rattle.wsn_plan.specs.Framing.{control_frame, piece_frame, last_frame, frame_here, EncodesItsLength};
 ghost use Rattle.wsn_frame.specs.Payloads.{unmasked_by};
 
 use crate::kept::Kept;

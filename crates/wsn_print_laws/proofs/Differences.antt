@@ -6,11 +6,11 @@ use Rattle.std.proofs.lemmas.Str.{utf8_valid_len_le}
 use Rattle.wsn_wire.specs.declared.endpoint.Role.{Role}
 use Rattle.wsn_wire.specs.declared.opcode.Kind.TheVariants as kinds
 use Rattle.wsn_wire.specs.Frame.{IsBytes}
-use Rattle.wsn_rules.specs.Meaning.{MeantEvent, Message, Control}
+use Rattle.wsn_rules.specs.Meaning.{MeantEvent, Message, Control, payload_in}
 use Rattle.wsn_rules.specs.ShownStream.{Item}
 use Rattle.wsn_rules.specs.ShownStream.Item.{Event, Head}
 use Rattle.wsn_print.specs.Json.{field, string_field, number_field}
-use Rattle.wsn_print.specs.ShownParts.{payload_in, text_part}
+use Rattle.wsn_print.specs.ShownParts.{text_part}
 use Rattle.wsn_shown_text.specs.QuotedTexts.{ShowsTextReason}
 use Rattle.wsn_shown_text.specs.ShownText.{offset_of}
 use Rattle.wsn_shown_text.specs.ShownObjects.{view_fields, side_word, item_type, item_fields}

@@ -12,14 +12,14 @@ use Rattle.wsn_wire.specs.declared.opcode.Op.TheVariants as ops
 use Rattle.wsn_wire.specs.Frame.{IsBytes}
 use Rattle.wsn_wire.specs.Refusal.{word_of, code_of}
 use Rattle.wsn_rules.specs.BadCharacter.{BadCharacter}
-use Rattle.wsn_rules.specs.Meaning.{MeantEvent, Message, Control}
+use Rattle.wsn_rules.specs.Meaning.{MeantEvent, Message, Control, payload_in}
 use Rattle.wsn_rules.specs.ShownCapture.{IsSeconds}
 use Rattle.wsn_rules.specs.ShownStream.{Item}
 use Rattle.wsn_rules.specs.ShownStream.Item.{Event, Head, Unfinished, UnfinishedHead, RefusedFrame, Unread, Tail}
 use Rattle.wsn_print.specs.Fields.{op_word}
 use Rattle.wsn_print.specs.Json.{number_or_null, boolean, field, string_field, number_field, number_or_null_field}
 use Rattle.wsn_print.specs.Objects.{key_value, form_word, head_members}
-use Rattle.wsn_print.specs.ShownParts.{payload_in, HasTextReason, EntryPosition}
+use Rattle.wsn_print.specs.ShownParts.{HasTextReason, EntryPosition}
 use Rattle.wsn_shown_text.specs.QuotedTexts.{ShowsTextReason}
 use Rattle.wsn_shown_text.specs.CharacterText.{from_character, bytes_before, text_before, leaves_out, shown_bytes, truncated_text, character_object, character_fields}
 use Rattle.wsn_print.specs.EscapedText.{quoted}

@@ -14,9 +14,9 @@ use Rattle.wsn_rules.specs.Limits.{Limits}
 use Rattle.wsn_rules.specs.Group.{unfinished, payload_of}
 use Rattle.wsn_rules.specs.Accepted.{HasNoClose, EndsWithClose}
 use Rattle.wsn_rules.specs.Heads.{BeginsWithHead}
-use Rattle.wsn_rules.specs.Verdict.{IsVerdict}
+use Rattle.wsn_rules.specs.Verdict.{IsVerdict, judged_bytes}
 use Rattle.wsn_redact.specs.StandIns.{BeginsCharacter}
-use Rattle.wsn_redact.specs.Redaction.{is_of_text, with_payload, judged}
+use Rattle.wsn_redact.specs.Redaction.{is_of_text, with_payload}
 
 -- ---- kinds of characters
 
@@ -157,5 +157,5 @@ pub record AreAlikeStreams (role : Role) (limits : Limits) (bytes other : List â
   pub frames_alike : AreAlikeFrames [] [] frames other_frames
   pub rests_alike :
       AreAlikeRests role limits frames other_frames
-      (drop (length (stream frames)) (judged verdict bytes))
-      (drop (length (stream other_frames)) (judged verdict other))
+      (drop (length (stream frames)) (judged_bytes verdict bytes))
+      (drop (length (stream other_frames)) (judged_bytes verdict other))

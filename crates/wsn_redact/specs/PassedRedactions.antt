@@ -1,6 +1,6 @@
 -- How the text that came is related to the lines that were redacted.
 use Rattle.std.specs.Prelude.{◌≡◌, ℕ, ◌+◌, true, Result, Ok, Err, List, ◌++◌, length}
-use Rattle.wsn_io.specs.Transfer.{Outgoing, IsWritten, IsPartlyWritten, IsWrittenUpToFailure}
+use Rattle.wsn_io.specs.Transfer.{Outgoing, IsWritten, IsPartlyWritten, IsWrittenUpToFailure, IsWrittenBut, IsWrittenAtLeast}
 use Rattle.wsn_rules.specs.Limits.{Limits}
 use Rattle.wsn_rules.specs.Entries.{Entry}
 use Rattle.wsn_rules.specs.TextLines.{ended}
@@ -12,7 +12,7 @@ use Rattle.wsn_redact.specs.declared.capture_redactor.CaptureRedactor.{CaptureRe
 use Rattle.wsn_redact.specs.declared.capture_redacting.RedactStop.{RedactStop}
 use Rattle.wsn_redact.specs.declared.capture_redacting.RedactStop.TheVariants.{Capture, Write}
 use Rattle.wsn_redact.specs.CaptureRedactors.{HasRedactedLines, RedactsLine}
-use Rattle.wsn_redact.specs.RedactingCaptures.{IsTextOf, IsWholeText, IsWrittenBefore, IsWrittenAtLeast, IsWrittenBut}
+use Rattle.wsn_redact.specs.RedactingCaptures.{IsTextOf, IsWholeText, IsWrittenBefore, IsTextOfWhole}
 
 -- These bytes came: whole lines, whose redaction was written, and a line that has begun.
 pub record HasWritten (limits : Limits) (first : Outgoing) (redactor : CaptureRedactor) (begun : List ℕ)
@@ -55,7 +55,7 @@ StopsWithin limits first now came chunk (Capture (capture.Line number fault)) =
 StopsWithin limits first now came chunk (Capture capture.Read) = ⊥
 StopsWithin limits first now came chunk Write =
     ((text : List ℕ) × IsTextOf limits (came ++ chunk) text × IsPartlyWritten first now text)
-    × IsWrittenBut (length chunk) limits (came ++ chunk) first now
+    × IsWrittenBut (length chunk) (IsTextOfWhole limits) (came ++ chunk) first now
 
 -- The answer where the text ends, and what was written of it.
 abbrev pub EndsRedacting : Limits → Outgoing → Outgoing → List ℕ → Result (Unit {0}) RedactStop → Type 0
@@ -66,4 +66,4 @@ EndsRedacting limits first now came (Err (Capture (capture.Line number fault))) 
 EndsRedacting limits first now came (Err (Capture capture.Read)) = ⊥
 EndsRedacting limits first now came (Err Write) =
     ((text : List ℕ) × IsTextOf limits came text × IsPartlyWritten first now text)
-    × IsWrittenAtLeast limits came first now
+    × IsWrittenAtLeast (IsTextOfWhole limits came) first now

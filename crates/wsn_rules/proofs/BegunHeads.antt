@@ -20,7 +20,7 @@ use Rattle.wsn_rules.specs.Evidence.Evidence.{ByFirst, BySecond, ByLength, ByPay
 use Rattle.wsn_rules.specs.Group.{unfinished}
 use Rattle.wsn_rules.specs.Heads.{BeginsWithHead, info_of}
 use Rattle.wsn_rules.specs.Verdict.{ComesFirst, EndsWithinFrame, IsCut, IsEvidentAt, IsRefused}
-use Rattle.wsn_rules.specs.ShownBytes.{begun_bytes}
+use Rattle.wsn_rules.specs.ShownPlaces.{begun_bytes}
 use Rattle.wsn_rules.specs.ShownPlaces.{IsEncodableHead, IsPartOfHead, HasBegun, AreOfOneFrame, IsEvidenceIn}
 use Rattle.wsn_rules.specs.BadCharacter.{BadCharacter}
 use Rattle.wsn_rules.specs.ShownStream.{IsShownEvidence}

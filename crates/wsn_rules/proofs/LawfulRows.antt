@@ -16,8 +16,7 @@ use Rattle.wsn_text.specs.Utf8.{IsText, BeginsText}
 use Rattle.wsn_text.specs.CloseBody.{IsCloseBody}
 use Rattle.wsn_rules.specs.Limits.{Limits}
 use Rattle.wsn_rules.specs.Group.{unfinished, payload_of}
-use Rattle.wsn_rules.specs.FrameLaw.{FrameLaw}
-use Rattle.wsn_rules.specs.Lawful.{LawAt}
+use Rattle.wsn_rules.specs.Lawful.{FrameLaw, LawAt}
 use Rattle.wsn_rules.specs.Evidence.{EvidentByFirst, EvidentByLength, EvidentByPayload, IsOfText}
 use Rattle.wsn_rules.proofs.RowsOfLayout.{RowAt, payload_in, reported_by, length-unmasked}
 use Rattle.wsn_rules.proofs.RowsOfLayout.RowAt.{FirstShows, SecondShows, LengthShows, PayloadShows}

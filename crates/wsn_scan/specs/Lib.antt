@@ -6,7 +6,6 @@ pub mod Parts
 pub mod Feeding
 pub mod ChunkReaders
 pub mod Judging
-pub mod ReportedHeads
 pub mod FrameReaders
 pub mod ReadParts
 pub mod FollowedScans
@@ -15,4 +14,3 @@ pub mod Scans
 pub mod ReaderSteps
 pub mod EventFrames
 -- for the clauses in src/
-pub mod Words

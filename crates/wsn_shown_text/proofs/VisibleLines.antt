@@ -22,7 +22,7 @@ use Rattle.wsn_wire.specs.Refusal.{word_of, code_of}
 use Rattle.wsn_rules.specs.declared.head_info.HeadInfo.{HeadInfo}
 use Rattle.wsn_rules.specs.declared.verdict.Refusal.{Refusal}
 use Rattle.wsn_rules.specs.BadCharacter.{BadCharacter}
-use Rattle.wsn_rules.specs.Meaning.{MeantEvent, Message, Control}
+use Rattle.wsn_rules.specs.Meaning.{MeantEvent, Message, Control, payload_in}
 use Rattle.wsn_rules.specs.ShownStream.{Item}
 use Rattle.wsn_rules.specs.ShownStream.Item.{Event, Head, Unfinished, UnfinishedHead, RefusedFrame, Unread, Tail}
 use Rattle.wsn_print.specs.Fields.{number_text, refusal_text, fin_word, op_word, key_text, form_text}
@@ -31,7 +31,7 @@ use Rattle.wsn_print.specs.EscapedText.{is_from, quoted_character, quoted, comme
 use Rattle.wsn_shown_text.specs.ShownText.{hex_text, end_view, reason_text, shown_text, seen_text, view_text, event_word, event_size, event_text, role_letter, time_text, front_text, offset_of, item_text, item_line, end_line}
 use Rattle.wsn_shown_text.specs.Views.{Shown, PayloadView, is_printable, view_of_text, view_of_bytes, view_of_close, view_of_event, view_of_unfinished}
 use Rattle.wsn_shown_text.specs.Views.Shown.{Text, Ascii, Hex, Code, NoCode}
-use Rattle.wsn_print.specs.ShownParts.{HasTextReason, payload_in}
+use Rattle.wsn_print.specs.ShownParts.{HasTextReason}
 use Rattle.wsn_shown_text.proofs.HeldViews.{as_view}
 use Rattle.wsn_shown_text.specs.CharacterText.{from_character, bytes_before, text_before, leaves_out, byte_escape, character_text, character_view, character_line}
 use Rattle.wsn_shown_text.specs.QuotedTexts.{IsAllVisible, bytes_in, ShowsTextReason, IsVisibleLine}

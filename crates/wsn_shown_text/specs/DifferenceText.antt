@@ -6,7 +6,7 @@ use Rattle.wsn_rules.specs.declared.compared.Compared.TheVariants.{Different}
 use Rattle.wsn_rules.specs.ShownStream.{Item}
 use Rattle.wsn_print.specs.declared.format.Format.{Format}
 use Rattle.wsn_print.specs.declared.format.Format.TheVariants.{Text, Json}
-use Rattle.wsn_print.specs.ComparisonText.{comparison_line}
+use Rattle.wsn_print.specs.VerdictText.{comparison_line}
 use Rattle.wsn_shown_text.specs.DifferingText.{differ_line, differ_field}
 use Rattle.wsn_print.specs.Json.{field, string_field, number_field}
 use Rattle.wsn_shown_text.specs.ShownText.{offset_of, item_line}

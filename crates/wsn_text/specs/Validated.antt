@@ -1,7 +1,17 @@
 -- The state of a `Utf8` after the bytes fed to it: the ranges that the last character still needs, or `None`.
-use Rattle.std.specs.Prelude.{ℕ, ◌↔◌, List, ◌++◌, Option}
+use Rattle.std.specs.Prelude.{ℕ, ◌↔◌, List, ◌++◌, Option, ◌≤◌, [], ◌∷◌, Some, None}
 use Rattle.wsn_text.specs.Utf8.{Range, IsText}
-use Rattle.wsn_text.specs.Rest.{Follows}
+
+-- One byte in each of the ranges, in order, and then text.
+abbrev pub IsRest : List Range → List ℕ → Type 0
+IsRest [] bytes = IsText bytes
+IsRest (r ∷ row) [] = ⊥
+IsRest (r ∷ row) (b ∷ bytes) = (r.low ≤ b) × (b ≤ r.high) × IsRest row bytes
+
+-- The same, if any bytes may follow.
+abbrev pub Follows : Option (List Range) → List ℕ → Type 0
+Follows None bytes = ⊥
+Follows (Some row) bytes = IsRest row bytes
 
 -- After the bytes taken, exactly the bytes that the state expects make text of them.
 pub record HasValidated (awaited : Option (List Range)) (taken : List ℕ) : Type 0 where
