@@ -60,20 +60,26 @@ fn expect_failed_reads(rt: &impl Abort, alloc: Global, job: &Job, expected: &Exp
     }
 }
 
-/// Fails unless a command reports that its writer fails after each byte. It accepts `at_most` bytes per call.
+/// A writer: the most bytes that it accepts per call, and what it does when it is full.
+#[derive(Clone, Copy)]
+struct Writer {
+    at_most: usize,
+    full: Full,
+}
+
+/// Fails unless a command reports that its writer fails after each byte.
 fn expect_failed_write(
     rt: &impl Abort,
     alloc: Global,
     job: &Job,
     expected: &Expected,
-    at_most: usize,
-    full: Full,
+    writer: Writer,
 )
     requires { MayRun job.now }
 {
     for room in 0..expected.out.len() {
         let reader = Chopped::new(expected.stream.bytes.as_slice(), 3);
-        let writer = Narrow::new(alloc, at_most, room, full);
+        let writer = Narrow::new(alloc, writer.at_most, room, writer.full);
         let done = run_on(alloc, alloc, job, reader, writer);
         expect_run(rt, &done, 2, &expected.out[..room], "write failed");
     }
@@ -84,7 +90,7 @@ fn expect_failed_writes(rt: &impl Abort, alloc: Global, job: &Job, expected: &Ex
 {
     for full in FULL {
         for at_most in [1, usize::MAX] {
-            expect_failed_write(rt, alloc, job, expected, at_most, full);
+            expect_failed_write(rt, alloc, job, expected, Writer { at_most, full });
         }
     }
 }

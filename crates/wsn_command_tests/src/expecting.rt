@@ -12,9 +12,9 @@ use wsn_doubles::answer_lines::{answer_line, line_of, stop_line, verdict_line};
 use wsn_doubles::readers::Chopped;
 use wsn_doubles::vectors::Stream;
 use wsn_doubles::writers::{FULL, Narrow};
+use wsn_io::{Input, Stop};
 use wsn_job::Job;
-use wsn_scan::{Stop, Verdict};
-use wsn_wire::Input;
+use wsn_rules::Verdict;
 
 /// Fails unless this holds.
 pub fn expect(rt: &impl Abort, holds: bool)
@@ -220,23 +220,28 @@ pub fn expect_failed_read<A: Allocator + Copy>(
     expect_run(rt, &done, 2, &[], "read failed");
 }
 
-/// Fails unless a command reports in one line that its writer, which accepts at most `at_most` bytes per call, failed
-/// after this output, for each behaviour of a full writer.
+/// What a command reads, the most bytes that its writer accepts per call, and all that the writer accepts.
+#[derive(Clone, Copy)]
+pub struct FailedWrite<'a> {
+    pub bytes: &'a [u8],
+    pub at_most: usize,
+    pub out: &'a [u8],
+}
+
+/// Fails unless a command reports in one line that its writer failed, for each behaviour of a full writer.
 pub fn expect_failed_writes<A: Allocator + Copy>(
     rt: &impl Abort,
     heap: A,
     alloc: Global,
     job: &Job<A>,
-    bytes: &[u8],
-    at_most: usize,
-    out: &[u8],
+    write: FailedWrite,
 )
     requires { MayRun job.now }
 {
     for full in FULL {
-        let reader = Chopped::new(bytes, usize::MAX);
-        let writer = Narrow::new(alloc, at_most, out.len(), full);
+        let reader = Chopped::new(write.bytes, usize::MAX);
+        let writer = Narrow::new(alloc, write.at_most, write.out.len(), full);
         let done = run_on(heap, alloc, job, reader, writer);
-        expect_run(rt, &done, 2, out, "write failed");
+        expect_run(rt, &done, 2, write.out, "write failed");
     }
 }

@@ -1,7 +1,9 @@
 //! `wsn frames`: the lines of the frames and of the verdict on standard output, and the exit status. It allocates no
 //! memory.
 
-use crate::expecting::{Reading, expect_failed_read, expect_failed_writes, expect_run};
+use crate::expecting::{
+    FailedWrite, Reading, expect_failed_read, expect_failed_writes, expect_run,
+};
 use std::alloc::{Allocator, Global};
 use std::process::Abort;
 use wsn_command_runs::run_on;
@@ -51,7 +53,12 @@ fn a_failed_write_is_reported_in_one_line(rt: HostRuntime) {
     let heap = heap_of(alloc, 0).expect(&rt, "memory");
     for stream in streams(alloc).expect(&rt, "every vector").iter() {
         let job = Job::Frames(stream.role, stream.limits, Format::Text);
-        expect_failed_writes(&rt, &heap, alloc, &job, stream.bytes.as_slice(), 1, &[]);
+        let write = FailedWrite {
+            bytes: stream.bytes.as_slice(),
+            at_most: 1,
+            out: &[],
+        };
+        expect_failed_writes(&rt, &heap, alloc, &job, write);
     }
 }
 

@@ -13,7 +13,7 @@ use wsn_doubles::heaps::heap_of;
 use wsn_doubles::readers::Chopped;
 use wsn_doubles::vectors::greatest;
 use wsn_doubles::writers::Narrow;
-use wsn_scan::Limits;
+use wsn_rules::Limits;
 use wsn_wire::Role;
 
 /// Fails unless this is the line of the comparison of a pair, with memory from this heap.

@@ -1,7 +1,9 @@
 //! `wsn normal`: the normal form on standard output, any verdict but `accepted` on standard error, and the exit
 //! status.
 
-use crate::expecting::{Reading, expect_failed_read, expect_failed_writes, expect_run};
+use crate::expecting::{
+    FailedWrite, Reading, expect_failed_read, expect_failed_writes, expect_run,
+};
 use std::alloc::Global;
 use std::process::Abort;
 use wsn_command_runs::run_on;
@@ -44,9 +46,14 @@ fn a_failed_read_is_reported_in_one_line(rt: HostRuntime) {
 fn a_failed_write_is_reported_in_one_line(rt: HostRuntime) {
     let alloc = rt.alloc();
     for stream in streams(alloc).expect(&rt, "every vector").iter() {
-        if let Some(prefix) = stream.normal.get(..1) {
+        if let Some(out) = stream.normal.get(..1) {
             let job = Job::Normal(stream.role, stream.limits);
-            expect_failed_writes(&rt, alloc, alloc, &job, stream.bytes.as_slice(), 1, prefix);
+            let write = FailedWrite {
+                bytes: stream.bytes.as_slice(),
+                at_most: 1,
+                out,
+            };
+            expect_failed_writes(&rt, alloc, alloc, &job, write);
         }
     }
 }

@@ -10,7 +10,7 @@ use wsn_doubles::engines::compared;
 use wsn_doubles::readers::{Chopped, READS};
 use wsn_doubles::vectors::{Stream, greatest, streams};
 use wsn_doubles::writers::{FULL, Full, Narrow};
-use wsn_scan::{Limits, MESSAGE_MAX};
+use wsn_rules::{Limits, MESSAGE_MAX};
 use wsn_wire::Role;
 
 /// Two streams of a server, the line of their comparison, and the maximum number of messages in memory at a time. A

@@ -24,23 +24,36 @@ const BOTH_SERVER: &[u8] = b"\x89\x00\x01\x02Hi";
 /// A ping and a text's head, and then a line of none of the forms.
 const FAULTY: &[u8] = b"C 00\nS 8900\nS 8102\nX\nS 4869\n";
 
-/// Fails unless this is the result of a command on the server's side of a text, however the text is read.
-fn expect_on_side(
-    rt: &impl Abort,
-    alloc: Global,
-    job: &Job,
-    text: &[u8],
+/// The expected result of a run: its exit status, standard output, and the line on standard error, if any.
+#[derive(Clone, Copy)]
+struct Expected<'a> {
     status: u8,
-    out: &[u8],
-    line: &str,
-)
+    out: &'a [u8],
+    line: &'a str,
+}
+
+/// Fails unless this is the result of a command on the server's side of a text, however the text is read.
+fn expect_on_side(rt: &impl Abort, alloc: Global, job: &Job, text: &[u8], expected: Expected)
     requires { MayRunOnSide job.now }
 {
     for at_most in READS {
         let text = Chopped::new(text, at_most);
         let done = run_on_side_on(alloc, alloc, job, Role::Server, text, Narrow::wide(alloc));
-        expect_run(rt, &done, status, out, line);
+        expect_run(rt, &done, expected.status, expected.out, expected.line);
     }
+}
+
+/// Fails unless a command on the server's side of a text prints this, and then reports the line of a stop.
+fn expect_stop(rt: &impl Abort, alloc: Global, job: &Job, text: &[u8], reported: (&[u8], &str))
+    requires { MayRunOnSide job.now }
+{
+    let (out, line) = reported;
+    let expected = Expected {
+        status: 2,
+        out,
+        line,
+    };
+    expect_on_side(rt, alloc, job, text, expected);
 }
 
 /// Fails unless a command answers on a side of `BOTH` as it does on the side's bytes.
@@ -86,8 +99,13 @@ fn a_side_is_recut_by_size(rt: HostRuntime) {
     let how = How::by_size(Role::Server, 1, false, None).expect(&rt, "a size");
     let job = Job::Recut(Role::Server, greatest(), how);
     let text = b"S 8102\nC 00\nS 4869";
-    expect_on_side(&rt, alloc, &job, text, 0, b"\x01\x01H\x80\x01i", "");
-    expect_on_side(&rt, alloc, &job, FAULTY, 2, b"", "line 4: bad-form");
+    let recut = Expected {
+        status: 0,
+        out: b"\x01\x01H\x80\x01i",
+        line: "",
+    };
+    expect_on_side(&rt, alloc, &job, text, recut);
+    expect_stop(&rt, alloc, &job, FAULTY, (b"", "line 4: bad-form"));
 }
 
 #[test]
@@ -95,14 +113,14 @@ fn what_was_printed_before_a_faulty_line_stays(rt: HostRuntime) {
     let alloc = rt.alloc();
     let line = "line 4: bad-form";
     let judge = Job::Judge(Role::Server, greatest(), Format::Text);
-    expect_on_side(&rt, alloc, &judge, FAULTY, 2, b"", line);
+    expect_stop(&rt, alloc, &judge, FAULTY, (b"", line));
     let frames = Job::Frames(Role::Server, greatest(), Format::Text);
     let heads = b"0 fin ping - 0\n2 fin text - 2\n";
-    expect_on_side(&rt, alloc, &frames, FAULTY, 2, heads, line);
+    expect_stop(&rt, alloc, &frames, FAULTY, (heads, line));
     let normal = Job::Normal(Role::Server, greatest());
-    expect_on_side(&rt, alloc, &normal, FAULTY, 2, b"\x89\x00", line);
+    expect_stop(&rt, alloc, &normal, FAULTY, (b"\x89\x00", line));
     let plan = Job::Plan(Role::Server, greatest());
-    expect_on_side(&rt, alloc, &plan, FAULTY, 2, b"", line);
+    expect_stop(&rt, alloc, &plan, FAULTY, (b"", line));
 }
 
 /// A text, and the line that is reported of it.
@@ -120,7 +138,7 @@ fn bad_form_bad_hex_and_after_end_are_reported(rt: HostRuntime) {
     let alloc = rt.alloc();
     let judge = Job::Judge(Role::Server, greatest(), Format::Text);
     for (text, line) in FAULTS.iter() {
-        expect_on_side(&rt, alloc, &judge, text.as_bytes(), 2, b"", line);
+        expect_stop(&rt, alloc, &judge, text.as_bytes(), (b"", line));
     }
 }
 
@@ -129,14 +147,12 @@ fn too_long_and_too_many_lines_are_reported(rt: HostRuntime) {
     let alloc = rt.alloc();
     let judge = Job::Judge(Role::Server, greatest(), Format::Text);
     let long = filled(alloc, b"#\n#", b'#', 8_194).expect(&rt, "memory");
-    expect_on_side(
+    expect_stop(
         &rt,
         alloc,
         &judge,
         long.as_slice(),
-        2,
-        b"",
-        "line 2: too-long",
+        (b"", "line 2: too-long"),
     );
     let many = filled(alloc, b"", b'\n', 1_000_001).expect(&rt, "memory");
     let text = Chopped::new(many.as_slice(), usize::MAX);
@@ -156,18 +172,19 @@ fn a_refusal_before_a_faulty_line_is_the_answer(rt: HostRuntime) {
     let alloc = rt.alloc();
     let text = b"C 00\nS 89\nS 00c1\nX\n";
     let judge = Job::Judge(Role::Server, greatest(), Format::Text);
-    let verdict = b"refused 2 reserved-bits 1002\n";
-    expect_on_side(&rt, alloc, &judge, text, 1, verdict, "");
+    let printed = Expected {
+        status: 1,
+        out: b"refused 2 reserved-bits 1002\n",
+        line: "",
+    };
+    expect_on_side(&rt, alloc, &judge, text, printed);
     let plan = Job::Plan(Role::Server, greatest());
-    expect_on_side(
-        &rt,
-        alloc,
-        &plan,
-        text,
-        1,
-        b"",
-        "refused 2 reserved-bits 1002",
-    );
+    let reported = Expected {
+        status: 1,
+        out: b"",
+        line: "refused 2 reserved-bits 1002",
+    };
+    expect_on_side(&rt, alloc, &plan, text, reported);
 }
 
 #[test]
