@@ -32,6 +32,17 @@ struct Expected<'a> {
     line: &'a str,
 }
 
+impl<'a> Expected<'a> {
+    /// A run that prints this, and then reports a stop.
+    fn stop(out: &'a [u8], line: &'a str) -> Self {
+        Expected {
+            status: 2,
+            out,
+            line,
+        }
+    }
+}
+
 /// Fails unless this is the result of a command on the server's side of a text, however the text is read.
 fn expect_on_side(rt: &impl Abort, alloc: Global, job: &Job, text: &[u8], expected: Expected)
     requires { MayRunOnSide job.now }
@@ -41,19 +52,6 @@ fn expect_on_side(rt: &impl Abort, alloc: Global, job: &Job, text: &[u8], expect
         let done = run_on_side_on(alloc, alloc, job, Role::Server, text, Narrow::wide(alloc));
         expect_run(rt, &done, expected.status, expected.out, expected.line);
     }
-}
-
-/// Fails unless a command on the server's side of a text prints this, and then reports the line of a stop.
-fn expect_stop(rt: &impl Abort, alloc: Global, job: &Job, text: &[u8], reported: (&[u8], &str))
-    requires { MayRunOnSide job.now }
-{
-    let (out, line) = reported;
-    let expected = Expected {
-        status: 2,
-        out,
-        line,
-    };
-    expect_on_side(rt, alloc, job, text, expected);
 }
 
 /// Fails unless a command answers on a side of `BOTH` as it does on the side's bytes.
@@ -105,7 +103,7 @@ fn a_side_is_recut_by_size(rt: HostRuntime) {
         line: "",
     };
     expect_on_side(&rt, alloc, &job, text, recut);
-    expect_stop(&rt, alloc, &job, FAULTY, (b"", "line 4: bad-form"));
+    expect_on_side(&rt, alloc, &job, FAULTY, Expected::stop(b"", "line 4: bad-form"));
 }
 
 #[test]
@@ -113,14 +111,14 @@ fn what_was_printed_before_a_faulty_line_stays(rt: HostRuntime) {
     let alloc = rt.alloc();
     let line = "line 4: bad-form";
     let judge = Job::Judge(Role::Server, greatest(), Format::Text);
-    expect_stop(&rt, alloc, &judge, FAULTY, (b"", line));
+    expect_on_side(&rt, alloc, &judge, FAULTY, Expected::stop(b"", line));
     let frames = Job::Frames(Role::Server, greatest(), Format::Text);
     let heads = b"0 fin ping - 0\n2 fin text - 2\n";
-    expect_stop(&rt, alloc, &frames, FAULTY, (heads, line));
+    expect_on_side(&rt, alloc, &frames, FAULTY, Expected::stop(heads, line));
     let normal = Job::Normal(Role::Server, greatest());
-    expect_stop(&rt, alloc, &normal, FAULTY, (b"\x89\x00", line));
+    expect_on_side(&rt, alloc, &normal, FAULTY, Expected::stop(b"\x89\x00", line));
     let plan = Job::Plan(Role::Server, greatest());
-    expect_stop(&rt, alloc, &plan, FAULTY, (b"", line));
+    expect_on_side(&rt, alloc, &plan, FAULTY, Expected::stop(b"", line));
 }
 
 /// A text, and the line that is reported of it.
@@ -138,7 +136,7 @@ fn bad_form_bad_hex_and_after_end_are_reported(rt: HostRuntime) {
     let alloc = rt.alloc();
     let judge = Job::Judge(Role::Server, greatest(), Format::Text);
     for (text, line) in FAULTS.iter() {
-        expect_stop(&rt, alloc, &judge, text.as_bytes(), (b"", line));
+        expect_on_side(&rt, alloc, &judge, text.as_bytes(), Expected::stop(b"", line));
     }
 }
 
@@ -147,13 +145,8 @@ fn too_long_and_too_many_lines_are_reported(rt: HostRuntime) {
     let alloc = rt.alloc();
     let judge = Job::Judge(Role::Server, greatest(), Format::Text);
     let long = filled(alloc, b"#\n#", b'#', 8_194).expect(&rt, "memory");
-    expect_stop(
-        &rt,
-        alloc,
-        &judge,
-        long.as_slice(),
-        (b"", "line 2: too-long"),
-    );
+    let expected = Expected::stop(b"", "line 2: too-long");
+    expect_on_side(&rt, alloc, &judge, long.as_slice(), expected);
     let many = filled(alloc, b"", b'\n', 1_000_001).expect(&rt, "memory");
     let text = Chopped::new(many.as_slice(), usize::MAX);
     let done = run_on_side_on(
