@@ -1,8 +1,11 @@
-//! The engines, each applied to a vector's stream and a reader of the tests.
+//! The engines, each applied to a stream and a reader of the tests.
+ghost use Rattle.std.specs.Prelude.{◌≡◌, ◌↔◌, IsSome};
+ghost use Rattle.wsn_wire.specs.declared.endpoint.Role.TheVariants.{Client};
 
+use crate::answer_lines::listing;
 use crate::readers::Chopped;
 use crate::vectors::Stream;
-use std::alloc::Allocator;
+use std::alloc::{AllocError, Allocator, Global};
 use std::io::Write;
 use wsn_canon::{Compared, normalise, same};
 use wsn_list::list;
@@ -45,6 +48,43 @@ pub fn normalised<A: Allocator + Copy, W: Write>(
     )
 }
 
+/// An engine whose answer is a verdict.
+#[derive(Clone, Copy, Debug, PartialEq, Eq)]
+pub enum Engine {
+    Judge,
+    List,
+    Normalise,
+}
+
+/// Every engine whose answer is a verdict.
+pub const ENGINES: [Engine; 3] = [Engine::Judge, Engine::List, Engine::Normalise];
+
+impl Engine {
+    /// The answer for a vector's stream, of which the engine writes to this writer.
+    pub fn run<W: Write>(
+        self,
+        alloc: Global,
+        stream: &Stream,
+        reader: Chopped,
+        writer: &mut W,
+    ) -> Result<Verdict, Stop> {
+        match self {
+            Engine::Judge => judged(stream, reader),
+            Engine::List => listed(stream, reader, writer),
+            Engine::Normalise => normalised(alloc, stream, reader, writer),
+        }
+    }
+
+    /// What the engine writes of a vector's whole stream.
+    pub fn output(self, alloc: Global, stream: &Stream) -> Result<Vec<u8>, AllocError> {
+        match self {
+            Engine::Judge => Ok(Vec::new(alloc)),
+            Engine::List => listing(alloc, stream)?.as_bytes().to_vec(alloc),
+            Engine::Normalise => stream.normal.as_slice().to_vec(alloc),
+        }
+    }
+}
+
 /// The answer of `same` for the streams of two readers. It allocates from this heap.
 pub fn compared<A: Allocator + Copy>(
     heap: A,
@@ -62,37 +102,63 @@ pub fn compared<A: Allocator + Copy>(
     )
 }
 
+/// A stream that comes from the endpoint of this role, under these limits.
+#[derive(Drop)]
+pub struct Incoming<'a> {
+    pub role: Role,
+    pub limits: Limits,
+    pub reader: Chopped<'a>,
+}
+
+impl<'a> Incoming<'a> {
+    /// A stream of a vector's endpoint, under the vector's limits.
+    pub fn of(stream: &Stream, reader: Chopped<'a>) -> Self {
+        Incoming {
+            role: stream.role,
+            limits: stream.limits,
+            reader,
+        }
+    }
+}
+
 /// The answer of `plan_of`, which allocates from this heap.
 pub fn planned<A: Allocator + Copy>(
     heap: A,
-    role: Role,
-    limits: Limits,
-    mut reader: Chopped,
+    mut stream: Incoming,
 ) -> Result<PlanAnswer<A>, Stop> {
-    plan_of(heap, &mut Input::new(&mut reader), role, limits)
+    let mut input = Input::new(&mut stream.reader);
+    plan_of(heap, &mut input, stream.role, stream.limits)
 }
 
 /// The answer of a recut by this plan, which writes to this writer and allocates from this heap.
 pub fn recut_by<A: Allocator + Copy, W: Write>(
     heap: A,
-    role: Role,
-    limits: Limits,
+    mut stream: Incoming,
     plan: &Plan<A>,
-    mut reader: Chopped,
     writer: &mut W,
 ) -> Result<RecutAnswer, Stop> {
     recut(
         heap,
-        &mut Input::new(&mut reader),
+        &mut Input::new(&mut stream.reader),
         &mut Output::new(writer),
-        role,
-        limits,
+        stream.role,
+        stream.limits,
         plan,
     )
 }
 
 /// The key of a client's frames in a recut by size.
 pub const KEY: [u8; 4] = [1, 2, 3, 4];
+
+/// The key of an endpoint's frames in a recut by size: a client masks its frames, and a server doesn't.
+pub fn key_of(role: Role) -> Option<[u8; 4]>
+    ensures { IsSome result ↔ (role ≡ Client) }
+{
+    match role {
+        Role::Client => Some(KEY),
+        Role::Server => None,
+    }
+}
 
 /// The size of frames, at least one byte, and whether the controls before a message are interleaved with its frames.
 #[derive(Clone, Copy, Debug)]
@@ -104,36 +170,18 @@ pub struct Sizes {
 /// The answer of a recut in frames of one size, which writes to this writer and allocates from this heap.
 pub fn recut_uniformly<A: Allocator + Copy, W: Write>(
     heap: A,
-    role: Role,
-    limits: Limits,
+    mut stream: Incoming,
     sizes: Sizes,
-    mut reader: Chopped,
     writer: &mut W,
 ) -> Result<RecutAnswer, Stop> {
-    let mut input = Input::new(&mut reader);
-    let mut output = Output::new(writer);
-    let size = sizes.size.max(1);
-    let weave = sizes.weave;
-    match role {
-        Role::Client => recut_uniform(
-            heap,
-            &mut input,
-            &mut output,
-            Role::Client,
-            limits,
-            size,
-            weave,
-            Some(KEY),
-        ),
-        Role::Server => recut_uniform(
-            heap,
-            &mut input,
-            &mut output,
-            Role::Server,
-            limits,
-            size,
-            weave,
-            None,
-        ),
-    }
+    recut_uniform(
+        heap,
+        &mut Input::new(&mut stream.reader),
+        &mut Output::new(writer),
+        stream.role,
+        stream.limits,
+        sizes.size.max(1),
+        sizes.weave,
+        key_of(stream.role),
+    )
 }
