@@ -6,7 +6,7 @@ use crate::expecting::{expect_count, expect_run, prefix_of};
 use std::alloc::Global;
 use std::process::Abort;
 use wsn_command_runs::{run_on, run_same_on};
-use wsn_doubles::answer_lines::listing;
+use wsn_doubles::engines::Engine;
 use wsn_doubles::readers::{Chopped, READS};
 use wsn_doubles::vectors::{Stream, greatest, stream_named};
 use wsn_doubles::writers::{FULL, Full, Narrow};
@@ -129,10 +129,10 @@ fn judge_is_stopped(rt: HostRuntime) {
 fn frames_is_stopped(rt: HostRuntime) {
     let alloc = rt.alloc();
     let stream = fragments(&rt, alloc);
-    let lines = listing(alloc, &stream).expect(&rt, "memory");
+    let lines = Engine::List.output(alloc, &stream).expect(&rt, "memory");
     let expected = Expected {
         stream: &stream,
-        out: lines.as_bytes(),
+        out: lines.as_slice(),
         due: &LISTED,
     };
     let job = Job::Frames(stream.role, stream.limits, Format::Text);

@@ -5,7 +5,7 @@ use crate::expecting::{expect, expect_again, expect_answer, expect_count, expect
 use std::alloc::{Allocator, Global};
 use std::process::Abort;
 use wsn_canon::{Event, Next, Source};
-use wsn_doubles::engines::normalised;
+use wsn_doubles::engines::Engine;
 use wsn_doubles::heaps::{BLOCK, heap_of};
 use wsn_doubles::readers::Chopped;
 use wsn_doubles::vectors::{Stream, filled, greatest};
@@ -194,7 +194,7 @@ fn messages_written(rt: &impl Abort, alloc: Global, stream: &Stream, blocks: usi
     let heap = heap_of(alloc, blocks).expect(rt, "memory");
     let mut out = Vec::new(alloc);
     let reader = Chopped::new(stream.bytes.as_slice(), 7);
-    let answer = normalised(&heap, stream, reader, &mut out);
+    let answer = Engine::Normalise.run(&heap, stream, reader, &mut out);
     expect(rt, stream.normal.starts_with(out.as_slice()));
     let messages = messages_in(rt, stream, out.as_slice());
     expect_answer(rt, alloc, &answer, line_with(stream, messages));

@@ -1,7 +1,7 @@
 //! `wsn same`: streams with the same events, streams with others, and streams that are not accepted; the line on
 //! standard output, and the exit status.
 
-use crate::expecting::{Reading, expect_line, expect_run};
+use crate::expecting::{expect_line, expect_line_of, expect_run};
 use std::alloc::{Allocator, Global};
 use std::process::Abort;
 use wsn_command_runs::run_same_on;
@@ -166,7 +166,7 @@ fn expect_equal(rt: &impl Abort, alloc: Global, stream: &Stream) {
         stream.limits,
     );
     let line = compared_line(alloc, &answer).expect(rt, "memory");
-    Reading::whole(stream, "compared", 4_095).expect_line(rt, line.as_str(), "equal");
+    expect_line_of(rt, line.as_str(), "equal", &stream.name);
 }
 
 #[test]

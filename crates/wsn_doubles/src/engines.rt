@@ -2,51 +2,15 @@
 ghost use Rattle.std.specs.Prelude.{◌≡◌, ◌↔◌, IsSome};
 ghost use Rattle.wsn_wire.specs.declared.endpoint.Role.TheVariants.{Client};
 
-use crate::answer_lines::listing;
 use crate::readers::Chopped;
 use crate::vectors::Stream;
 use std::alloc::{AllocError, Allocator, Global};
-use std::io::Write;
+use std::io::{Read, Write};
 use wsn_canon::{Compared, normalise, same};
 use wsn_list::list;
 use wsn_plan::{Plan, PlanAnswer, RecutAnswer, plan_of, recut, recut_uniform};
 use wsn_scan::{Limits, Stop, Verdict, judge};
 use wsn_wire::{Input, Output, Role};
-
-/// The answer of `judge`.
-pub fn judged(stream: &Stream, mut reader: Chopped) -> Result<Verdict, Stop> {
-    judge(&mut Input::new(&mut reader), stream.role, stream.limits)
-}
-
-/// The answer of `list`, which writes to this writer.
-pub fn listed<W: Write>(
-    stream: &Stream,
-    mut reader: Chopped,
-    writer: &mut W,
-) -> Result<Verdict, Stop> {
-    list(
-        &mut Input::new(&mut reader),
-        &mut Output::new(writer),
-        stream.role,
-        stream.limits,
-    )
-}
-
-/// The answer of `normalise`, which writes to this writer and allocates from this heap.
-pub fn normalised<A: Allocator + Copy, W: Write>(
-    heap: A,
-    stream: &Stream,
-    mut reader: Chopped,
-    writer: &mut W,
-) -> Result<Verdict, Stop> {
-    normalise(
-        heap,
-        &mut Input::new(&mut reader),
-        &mut Output::new(writer),
-        stream.role,
-        stream.limits,
-    )
-}
 
 /// An engine whose answer is a verdict.
 #[derive(Clone, Copy, Debug, PartialEq, Eq)]
@@ -60,28 +24,42 @@ pub enum Engine {
 pub const ENGINES: [Engine; 3] = [Engine::Judge, Engine::List, Engine::Normalise];
 
 impl Engine {
-    /// The answer for a vector's stream, of which the engine writes to this writer.
-    pub fn run<W: Write>(
+    /// The answer for a vector's stream, which comes from this reader. The engine writes to this writer and allocates from
+    /// this heap.
+    pub fn run<A: Allocator + Copy, R: Read + Drop, W: Write>(
         self,
-        alloc: Global,
+        heap: A,
         stream: &Stream,
-        reader: Chopped,
+        mut reader: R,
         writer: &mut W,
     ) -> Result<Verdict, Stop> {
+        let (role, limits) = (stream.role, stream.limits);
+        let mut input = Input::new(&mut reader);
+        let mut output = Output::new(writer);
         match self {
-            Engine::Judge => judged(stream, reader),
-            Engine::List => listed(stream, reader, writer),
-            Engine::Normalise => normalised(alloc, stream, reader, writer),
+            Engine::Judge => judge(&mut input, role, limits),
+            Engine::List => list(&mut input, &mut output, role, limits),
+            Engine::Normalise => normalise(heap, &mut input, &mut output, role, limits),
         }
     }
 
-    /// What the engine writes of a vector's whole stream.
-    pub fn output(self, alloc: Global, stream: &Stream) -> Result<Vec<u8>, AllocError> {
+    /// What the engine writes of a vector's whole stream before the verdict.
+    pub fn output_before_verdict(self, stream: &Stream) -> &[u8] {
         match self {
-            Engine::Judge => Ok(Vec::new(alloc)),
-            Engine::List => listing(alloc, stream)?.as_bytes().to_vec(alloc),
-            Engine::Normalise => stream.normal.as_slice().to_vec(alloc),
+            Engine::Judge => &[],
+            Engine::List => stream.frames.as_bytes(),
+            Engine::Normalise => stream.normal.as_slice(),
         }
+    }
+
+    /// All that the engine writes of a vector's whole stream.
+    pub fn output(self, alloc: Global, stream: &Stream) -> Result<Vec<u8>, AllocError> {
+        let mut output = self.output_before_verdict(stream).to_vec(alloc)?;
+        if self == Engine::List && !stream.is_too_long() {
+            output.extend_from_slice(stream.verdict.as_bytes())?;
+            output.push(b'\n')?;
+        }
+        Ok(output)
     }
 }
 
