@@ -25,12 +25,12 @@ use Rattle.wsn_capture.specs.declared.line_form.LineEntry.{LineEntry}
 use Rattle.wsn_capture.specs.declared.line_form.LineEntry.TheVariants as entries
 use Rattle.wsn_capture.specs.LineEntries.{held_entry, FitsInLine}
 use Rattle.wsn_capture.specs.Closes.{IsClosedBy, IsCloseLine, noted_line}
-use Rattle.wsn_capture.specs.CaptureLines.{HasAccepted, HasNotedCloses, HasNotedUpTo, IsJudged, IsNotedLine, IsNotedRefusal, count_of, input_of, room_left, close_line_of, refused_line_of, with_room_less, FitsRoom, ExceedsRoom}
+use Rattle.wsn_capture.specs.CaptureLines.{HasAccepted, HasNotedCloses, HasNotedUpTo, IsVerdictOnSide, IsNotedLine, IsNotedRefusal, count_of, input_of, room_left, close_line_of, refused_line_of, with_room_less, FitsRoom, ExceedsRoom}
 use Rattle.wsn_capture.proofs.AcceptedTexts.{as_many, taken_push, accepted_last}
 use Rattle.wsn_capture.proofs.ClosingLines.{sent-push, line_stays, line_new, line_none, line_kept}
 pub use Rattle.wsn_capture.proofs.OffendingLines.{own_bytes}
 use Rattle.wsn_capture.proofs.OffendingLines.{unrefused_by, refused_stays, refused_kept, refused_new}
-use Rattle.wsn_capture.proofs.SideEntries.{Fits, entry_accepted, fault_first, entry_limited, read_entry, short_line}
+use Rattle.wsn_capture.proofs.SideEntries.{FitsInput, entry_accepted, fault_first, entry_limited, read_entry, short_line}
 use Rattle.wsn_capture.proofs.SideLaws.{before-push}
 
 module _ (limits : Limits) (accepted : CaptureLines) (lines : List (List ℕ)) (given : List Entry) (has : HasAccepted limits accepted lines given) where
@@ -54,7 +54,7 @@ module _ (limits : Limits) (accepted : CaptureLines) (lines : List (List ℕ)) (
     -- one more line
     pub accepted_push : (new : CaptureLines) (entry : Entry) → entry_after accepted.before line ≡ Ok entry → new.before ≡ with_entry accepted.before entry
         → ((role : Role) → input_of role new ≡ input_of role accepted)
-        → ((role : Role) → room_left role new + length (bytes_in role entry) ≡ room_left role accepted) → Fits limits given line entry
+        → ((role : Role) → room_left role new + length (bytes_in role entry) ≡ room_left role accepted) → FitsInput limits given line entry
         → HasAccepted limits new (lines ++ line ∷ []) (given ++ entry ∷ [])
     accepted_push new entry is before inputs room fits = grind (arith, taken_push, entry_accepted, after, before-push, sent-push, length-append)
 
@@ -93,7 +93,7 @@ pub refused_by : (old : CaptureLines) (entry : LineEntry) (less : CaptureLines) 
 refused_by old entry less before is role = grind (arith, less_refused)
 
 pub fits_given : (limits : Limits) (old : CaptureLines) (lines : List (List ℕ)) (given : List Entry) (line : List ℕ) (entry : LineEntry) (held : List ℕ) → HasAccepted limits old lines given → FitsRoom old entry
-    → Fits limits given line (held_entry entry held)
+    → FitsInput limits given line (held_entry entry held)
 fits_given limits old lines given line entry held has fits = grind (arith, length-take)
 
 pub exceeds_given : (limits : Limits) (old : CaptureLines) (lines : List (List ℕ)) (given : List Entry) (line : List ℕ) (entry : LineEntry) (held : List ℕ) → HasAccepted limits old lines given → FitsInLine entry → length held ≡ 4096
@@ -125,7 +125,7 @@ noted_up_to limits noted given (entries.Bytes role count) held has = has
 noted_up_to limits noted given (entries.Mark role) held has = noted_kept limits noted given (Mark role) (no_bytes_in_mark role) has
 
 -- the verdict on a stream with these bytes
-pub judged_push : (role : Role) (limits : Limits) (given : List Entry) (bytes : List ℕ) (verdict : Verdict) → ((fs : List Frame) × IsVerdict role limits (sent role given ++ bytes) fs verdict) → IsJudged role limits (given ++ Bytes role bytes ∷ []) verdict
+pub judged_push : (role : Role) (limits : Limits) (given : List Entry) (bytes : List ℕ) (verdict : Verdict) → ((fs : List Frame) × IsVerdict role limits (sent role given ++ bytes) fs verdict) → IsVerdictOnSide role limits (given ++ Bytes role bytes ∷ []) verdict
 judged_push role limits given bytes verdict found = grind (arith, sent-push)
 
 -- what is noted of the endpoint whose bytes came
@@ -197,7 +197,7 @@ module _ (limits : Limits) (old : CaptureLines) (lines : List (List ℕ)) (given
 
   pub client_noted : (role : Role) (client : SentBytes) → role ≡ Client → ((closed : Bool) × IsClosedBy role limits (sent role (given ++ Bytes role bytes ∷ [])) closed × (client.close_line ≡ noted_line old.client.close_line number closed))
       → IsNotedRefusal old.client line verdict client.refused → number ≡ count_of old - 1
-      → HasAccepted limits old (lines ++ line ∷ []) (given ++ Bytes role bytes ∷ []) → HasNotedCloses limits old given → IsJudged role limits (given ++ Bytes role bytes ∷ []) verdict
+      → HasAccepted limits old (lines ++ line ∷ []) (given ++ Bytes role bytes ∷ []) → HasNotedCloses limits old given → IsVerdictOnSide role limits (given ++ Bytes role bytes ∷ []) verdict
       → HasNotedCloses limits (record old { client = client }) (given ++ Bytes role bytes ∷ [])
   client_noted Server client is close refused count has noted judged = absurd (cc is)
   client_noted Client client is close refused count has noted judged = both
@@ -214,7 +214,7 @@ module _ (limits : Limits) (old : CaptureLines) (lines : List (List ℕ)) (given
 
   pub server_noted : (role : Role) (server : SentBytes) → role ≡ Server → ((closed : Bool) × IsClosedBy role limits (sent role (given ++ Bytes role bytes ∷ [])) closed × (server.close_line ≡ noted_line old.server.close_line number closed))
       → IsNotedRefusal old.server line verdict server.refused → number ≡ count_of old - 1
-      → HasAccepted limits old (lines ++ line ∷ []) (given ++ Bytes role bytes ∷ []) → HasNotedCloses limits old given → IsJudged role limits (given ++ Bytes role bytes ∷ []) verdict
+      → HasAccepted limits old (lines ++ line ∷ []) (given ++ Bytes role bytes ∷ []) → HasNotedCloses limits old given → IsVerdictOnSide role limits (given ++ Bytes role bytes ∷ []) verdict
       → HasNotedCloses limits (record old { server = server }) (given ++ Bytes role bytes ∷ [])
   server_noted Client server is close refused count has noted judged = absurd (cc is)
   server_noted Server server is close refused count has noted judged = both

@@ -80,8 +80,8 @@ HasNotedUpTo limits noted given (Bytes role bytes) = HasNotedCloses limits noted
 HasNotedUpTo limits noted given entry = HasNotedCloses limits noted (given ++ entry ∷ [])
 
 -- This is the verdict on an endpoint's stream.
-abbrev pub IsJudged : Role → Limits → List Entry → Verdict → Type 0
-IsJudged role limits given verdict = (fs : List Frame) × IsVerdict role limits (sent role given) fs verdict
+abbrev pub IsVerdictOnSide : Role → Limits → List Entry → Verdict → Type 0
+IsVerdictOnSide role limits given verdict = (fs : List Frame) × IsVerdict role limits (sent role given) fs verdict
 
 -- ---- the line with the offending byte
 

@@ -17,7 +17,7 @@ pub use Rattle.wsn_capture.specs.LineEntries.{HasNoHex}
 pub use Rattle.wsn_capture.specs.Tails.{AreTails}
 pub use Rattle.wsn_capture.specs.RefusedLines.{AreRefusedLines}
 pub use Rattle.wsn_capture.specs.declared.capture_report.CaptureReport.{CaptureReport}
-pub use Rattle.wsn_capture.specs.LineSplitters.{HasSplit, IsStopAt, IsStopBy, IsStopWithin, bytes_left}
+pub use Rattle.wsn_capture.specs.LineSplitters.{HasSplit, IsStopAt, IsStopBy, IsStopWithin, bytes_ahead}
 pub use Rattle.wsn_rules.specs.Reports.{IsReport, SendAlike}
 pub use Rattle.wsn_rules.specs.Sides.{IsSide, sent, has_ended, ended_as}
 pub use Rattle.wsn_capture.specs.declared.line_fault.LineFault.{LineFault}

@@ -68,7 +68,7 @@ impl SideBytes {
     pub fn take_line(&mut self, line: &[u8])
         requires { IsReady self.old }
         ensures left { (lines : List (List ℕ)) → side_left self.new lines ≡ side_left self.old (line.now ∷ lines) }
-        ensures fewer { lines_ahead self.new < lines_ahead self.old }
+        ensures falls { lines_ahead self.new < lines_ahead self.old }
     {
         match self.before.entry(line, &mut self.bytes) {
             Ok(entry) => {

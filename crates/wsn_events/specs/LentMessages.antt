@@ -9,9 +9,9 @@ use Rattle.wsn_rules.specs.Limits.{Limits}
 use Rattle.wsn_rules.specs.Meaning.{MeantEvent, Message, event_at, meaning}
 use Rattle.wsn_rules.specs.ShownStream.{event_offset, event_frames}
 use Rattle.wsn_scan.specs.Positions.{BetweenFrames}
-use Rattle.wsn_scan.specs.Refill.{chunk_size}
+use Rattle.wsn_scan.specs.Judging.{chunk_size}
 use Rattle.wsn_events.specs.declared.event_reader.EventReader.{EventReader}
-use Rattle.wsn_events.specs.EventReaders.{HasGiven, answered, offset_of, frames_of, readings_left}
+use Rattle.wsn_events.specs.EventReaders.{HasGiven, answered, offset_of, frames_of, events_ahead}
 use Rattle.wsn_events.specs.TakenEvents.{held_bytes}
 
 -- the message of this kind whose payload is the bytes that a source holds
@@ -46,4 +46,4 @@ pub record MayLend {A : Type 0} (before reading : EventReader A) (lent : Option 
       HasGiven role limits before came given → LendsMessage role limits reading came given kind)
   pub going : IfSome lent (λ _. answered before ≡ None)
   pub none : IfNone lent (reading ≡ before)
-  pub falls : IfSome lent (λ _. readings_left reading < readings_left before)
+  pub falls : IfSome lent (λ _. events_ahead reading < events_ahead before)

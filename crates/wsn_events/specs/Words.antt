@@ -19,7 +19,7 @@ pub use Rattle.wsn_scan.specs.Parts.{IsPartAt}
 pub use Rattle.wsn_events.specs.Comparing.{DifferAt, IsComparisonOf, IsComparisonOfBy}
 pub use Rattle.wsn_events.specs.EventsMeant.{meant, close_body}
 pub use Rattle.wsn_events.specs.Normalised.{IsNormalisedWhole}
-pub use Rattle.wsn_events.specs.EventReaders.{IsAsBefore, HasGiven, IsAtWork, GoesOn, IsNextEvent, IsEvent, answered, held_of, offset_of, frames_of, readings_left, next_of}
+pub use Rattle.wsn_events.specs.EventReaders.{IsAsBefore, HasGiven, IsAtWork, ReadsNextEvent, IsNextEvent, IsEvent, answered, held_of, offset_of, frames_of, events_ahead, next_of}
 pub use Rattle.wsn_events.specs.Reassembly.{IsReassembled, IsBetweenFrames, IsInFrame, IsEventOf, offset_given, frames_given, IsPlacedAt}
 pub use Rattle.wsn_rules.specs.declared.compared.Compared.{Compared}
 pub use Rattle.wsn_events.specs.TakenEvents.{TakesEventsAfter, PutsTaken, held_bytes}

@@ -86,9 +86,9 @@ read_as own lengths f following count read result same count_is is was =
     subst (λ (ls : Lengths). IsLengthRead ls f (take count following) result) same of_count
 
 -- What is parsed of bytes that begin with a complete head.
-pub head_prefix : (role : Role) (limits : Limits) (message : Option OpenMessage) (bytes piece : List ℕ) (n : ℕ) (parsed : Parsed) (size : ℕ) (head : Head) → bytes ≡ piece → n ≡ length piece → IsWithin n parsed
-    → ((group : List Frame) → IsOpenMessage message group → IsParsed role limits group bytes parsed) → parsed ≡ Whole size head → IsHeadPrefix role limits message piece size head
-head_prefix role limits message bytes piece n parsed size head same count within each is =
+pub head_prefix : (role : Role) (limits : Limits) (message : Option OpenMessage) (bytes chunk : List ℕ) (n : ℕ) (parsed : Parsed) (size : ℕ) (head : Head) → bytes ≡ chunk → n ≡ length chunk → IsWithin n parsed
+    → ((group : List Frame) → IsOpenMessage message group → IsParsed role limits group bytes parsed) → parsed ≡ Whole size head → IsHeadPrefix role limits message chunk size head
+head_prefix role limits message bytes chunk n parsed size head same count within each is =
     let inside = subst (λ (p : Parsed). IsWithin n p) is within in (
       inside.0,
       omega (arith, inside.1, count),

@@ -1,4 +1,4 @@
--- The evidence in a head and part of its payload, and in one more piece of payload.
+-- The evidence in a head and part of its payload, and in one more chunk of payload.
 use Rattle.std.proofs.Common.{◌≡◌, ℕ, ◌+◌, ◌<◌, ◌≤◌, ◌⊎◌, Bool, cond, Option, None, Some, is_some, List, [], ◌∷◌, ◌++◌, length, inl, inr, refl, sym, ap, ◌∙◌, subst, arith, append_assoc, append-nil}
 use Rattle.std.proofs.lemmas.Bool.{cases_eq}
 use Rattle.wsn_wire.specs.declared.endpoint.Role.{Role}

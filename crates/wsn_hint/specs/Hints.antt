@@ -211,29 +211,29 @@ BeginsCapture bytes = BeginsLine bytes ⊎ BeginsEndMark bytes ⊎ Begins (35 �
 -- What the hint says is so of an input that begins with these bytes: a mark or the text of a first line is at the front;
 -- the first two bytes are what an endpoint may send; or all of them are of a text, or one is of none. No other hint is
 -- given.
-abbrev pub Fits : Limits → List ℕ → Hint → Type 0
-Fits limits bytes Empty = bytes ≡ []
-Fits limits bytes Pcap = BeginsPcap bytes
-Fits limits bytes PcapNg = Begins (0x0a ∷ 0x0d ∷ 0x0d ∷ 0x0a ∷ []) bytes
-Fits limits bytes Gzip = Begins (0x1f ∷ 0x8b ∷ 8 ∷ []) bytes
-Fits limits bytes Tls = BeginsTls bytes
-Fits limits bytes ByteOrderMark = Begins (0xef ∷ 0xbb ∷ 0xbf ∷ []) bytes
-Fits limits bytes (OtherRole other) = IsUnrefused other limits (take 2 bytes)
-Fits limits bytes Stream = MayBeStream bytes
-Fits limits bytes Compressed = (role : Role) × BeginsCompressed role limits bytes
-Fits limits bytes Hexadecimal = IsHexText bytes
-Fits limits bytes Text = IsText bytes
-Fits limits bytes Capture = BeginsCapture bytes
-Fits limits bytes Json = BeginsNoLine bytes × Begins (0x7b ∷ []) bytes
-Fits limits bytes SmallLetters = BeginsSmall bytes
-Fits limits bytes Blanks = BeginsBlanks bytes
-Fits limits bytes CaptureToShow = BeginsCapture bytes
-Fits limits bytes HttpHead = BeginsHttp bytes
-Fits limits bytes HexDump = BeginsHexDump bytes
-Fits limits bytes OffsetDump = BeginsOffsetDump bytes
-Fits limits bytes OtherText = BeginsNoLine bytes × IsText bytes
-Fits limits bytes Binary = BeginsNoLine bytes × HasControl bytes
-Fits limits bytes hint = ⊥
+abbrev pub HintFits : Limits → List ℕ → Hint → Type 0
+HintFits limits bytes Empty = bytes ≡ []
+HintFits limits bytes Pcap = BeginsPcap bytes
+HintFits limits bytes PcapNg = Begins (0x0a ∷ 0x0d ∷ 0x0d ∷ 0x0a ∷ []) bytes
+HintFits limits bytes Gzip = Begins (0x1f ∷ 0x8b ∷ 8 ∷ []) bytes
+HintFits limits bytes Tls = BeginsTls bytes
+HintFits limits bytes ByteOrderMark = Begins (0xef ∷ 0xbb ∷ 0xbf ∷ []) bytes
+HintFits limits bytes (OtherRole other) = IsUnrefused other limits (take 2 bytes)
+HintFits limits bytes Stream = MayBeStream bytes
+HintFits limits bytes Compressed = (role : Role) × BeginsCompressed role limits bytes
+HintFits limits bytes Hexadecimal = IsHexText bytes
+HintFits limits bytes Text = IsText bytes
+HintFits limits bytes Capture = BeginsCapture bytes
+HintFits limits bytes Json = BeginsNoLine bytes × Begins (0x7b ∷ []) bytes
+HintFits limits bytes SmallLetters = BeginsSmall bytes
+HintFits limits bytes Blanks = BeginsBlanks bytes
+HintFits limits bytes CaptureToShow = BeginsCapture bytes
+HintFits limits bytes HttpHead = BeginsHttp bytes
+HintFits limits bytes HexDump = BeginsHexDump bytes
+HintFits limits bytes OffsetDump = BeginsOffsetDump bytes
+HintFits limits bytes OtherText = BeginsNoLine bytes × IsText bytes
+HintFits limits bytes Binary = BeginsNoLine bytes × HasControl bytes
+HintFits limits bytes hint = ⊥
 
 -- The hint fits a stream that begins with these bytes and is refused for this reason, where this endpoint is said to
 -- have sent it. Compressed frames are no text; frames of the other endpoint are refused for their masking.
@@ -244,7 +244,7 @@ FitsRefused role limits reason bytes (OtherRole Server) =
     (reason ≡ MaskMissing) × IsUnrefused Server limits (take 2 bytes)
 FitsRefused role limits reason bytes (OtherRole Client) =
     (reason ≡ MaskPresent) × IsUnrefused Client limits (take 2 bytes)
-FitsRefused role limits reason bytes hint = Fits limits bytes hint
+FitsRefused role limits reason bytes hint = HintFits limits bytes hint
 
 -- ---- which hint is given
 

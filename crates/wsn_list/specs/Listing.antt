@@ -23,11 +23,11 @@ use Rattle.wsn_scan.specs.Judging.{HasVerdictAndHeads, IsJudgeAnswer, IsUnrefuse
 abbrev pub listing : Format → List HeadInfo → Verdict → List ℕ
 listing format heads verdict = heads_text format heads ++ verdict_text format verdict
 
--- The scan has consumed the piece up to a refusal, if there is one, and the lines of the heads that it reported were
+-- The scan has consumed the chunk up to a refusal, if there is one, and the lines of the heads that it reported were
 -- written, up to a failed write.
-pub record IsListedChunk (format : Format) (old new : Scan) (before after : Outgoing) (piece : List ℕ)
+pub record IsListedChunk (format : Format) (old new : Scan) (before after : Outgoing) (chunk : List ℕ)
     (refusal : Option Refusal) : Type 0 where
-  pub fed : HasFed old new piece refusal
+  pub fed : HasFed old new chunk refusal
   pub printed : IsWrittenUpToFailure before after (heads_text format fed.heads)
 
 -- This text was written after what was printed before, up to a failed write.

@@ -17,7 +17,7 @@ use Rattle.wsn_payload.specs.declared.answer.Payload.{Payload}
 use Rattle.wsn_payload.specs.declared.answer.Payload.TheVariants.{Unfinished, Head, Nothing}
 use Rattle.wsn_payload.specs.declared.event_at.EventAt.{EventAt}
 use Rattle.wsn_payload.specs.EventsAt.{EndBefore, judged_bytes, AreApart, EndsBefore, IsInHeadAt, IsAfterAll}
-use Rattle.wsn_payload.specs.Following.{next_at, Keeps, is_judged, answer_without_event, ended_answer}
+use Rattle.wsn_payload.specs.Following.{next_at, KeepsEventAt, is_judged, answer_without_event, ended_answer}
 
 -- The offset is in the next frame's head, or it isn't.
 pub data IsAnswered (kept : EventAt) (v : Verdict) (answer : Payload) : Type 0 where
@@ -66,7 +66,7 @@ module _ (role : Role) (limits : Limits) (bytes : List ℕ) (fs : List Frame) (a
       let size = length-take-le (r.place + 1) bytes (place_within role limits fs bytes r.place r.reason is.is_evident) in
       inr (omega (arith, size, leb-false at r.place judged))
 
-  module _ (kept : EventAt) (position : Position) (payload : List ℕ) (k : Keeps kept at fs position payload) (v : Verdict) (a : AreApart role limits bytes v fs position) (end : EndBefore fs position at) where
+  module _ (kept : EventAt) (position : Position) (payload : List ℕ) (k : KeepsEventAt kept at fs position payload) (v : Verdict) (a : AreApart role limits bytes v fs position) (end : EndBefore fs position at) where
     abbrev ends : EndsBefore role limits bytes v at
     ends = record { frames = fs; position = position; are_apart = a; end = end }
 

@@ -20,7 +20,7 @@ use Rattle.wsn_scan.specs.Positions.{BetweenFrames, InFrame}
 use Rattle.wsn_payload.specs.declared.answer.EventStart.{EventStart}
 use Rattle.wsn_payload.specs.declared.event_at.EventAt.{EventAt}
 use Rattle.wsn_payload.specs.EventsAt.{content, IsOpenAt, IsBegunAt, end_of, EndBefore}
-use Rattle.wsn_payload.specs.Following.{KeepsOpen, KeepsFrame, HasBegunAt, Keeps, MayBegin, IsElsewhere, EndsEvent, own_part}
+use Rattle.wsn_payload.specs.Following.{KeepsOpen, KeepsFrame, HasBegunAt, KeepsEventAt, MayBegin, IsElsewhere, EndsEvent, own_part}
 use Rattle.wsn_scan.proofs.FrameEnds.{first_alike}
 use Rattle.wsn_payload.proofs.OpenMessages.{open_or_not, open_before, offset_of_control, offset_of_data, offset_within, content_of_control, content_of_data, apart_from_control, first_of_more, control_is_final, frame_end}
 
@@ -55,7 +55,7 @@ pub record HasStarts (kept : EventAt) (info : HeadInfo) (message start : EventSt
   pub op : start.op ≡ (if is_control info.op then info.op else message.op)
   pub offset : start.offset ≡ (if is_control info.op then info.place else message.offset)
 
-module _ (kept : EventAt) (at : ℕ) (fs : List Frame) (info : HeadInfo) (text : List ℕ) (may : MayBegin fs info) (k : Keeps kept at fs BetweenFrames text)
+module _ (kept : EventAt) (at : ℕ) (fs : List Frame) (info : HeadInfo) (text : List ℕ) (may : MayBegin fs info) (k : KeepsEventAt kept at fs BetweenFrames text)
     (message start : EventStart) (s : HasStarts kept info message start) where
   abbrev f : Frame
   f = frame_so_far info []
@@ -108,7 +108,7 @@ module _ (kept : EventAt) (at : ℕ) (fs : List Frame) (info : HeadInfo) (text :
     frame_kept begun = (kept_open, joined, own_frame)
 
     -- the frame belongs to the event
-    pub begins_own : own ≡ true → Keeps (record { at = kept.at; message = message; own = own; begun = true; next = None }) at fs (InFrame info []) text
+    pub begins_own : own ≡ true → KeepsEventAt (record { at = kept.at; message = message; own = own; begun = true; next = None }) at fs (InFrame info []) text
     begins_own holds = record { sought = k.sought; frame = frame_kept true; next = refl; begun = inr (begins, by kept.begun k.begun) }
       where
         begins : event_offset fs f ≡ at
@@ -130,7 +130,7 @@ module _ (kept : EventAt) (at : ℕ) (fs : List Frame) (info : HeadInfo) (text :
             ]
 
     -- it doesn't, and the event has begun
-    pub begins_other : own ≡ false → kept.begun ≡ true → Keeps (record { at = kept.at; message = message; own = own; begun = kept.begun; next = None }) at fs (InFrame info []) text
+    pub begins_other : own ≡ false → kept.begun ≡ true → KeepsEventAt (record { at = kept.at; message = message; own = own; begun = kept.begun; next = None }) at fs (InFrame info []) text
     begins_other fails begun = record { sought = k.sought; frame = frame_kept kept.begun; next = refl; begun = subst (λ (b : Bool). HasBegunAt b fs (InFrame info []) at text) (sym begun) within }
       where
         open_at : IsOpenAt fs at text
@@ -144,7 +144,7 @@ module _ (kept : EventAt) (at : ℕ) (fs : List Frame) (info : HeadInfo) (text :
             ]
 
     -- it ends before the offset
-    pub begins_before : kept.begun ≡ false → end_of info ≤ kept.at → Keeps (record { at = kept.at; message = message; own = own; begun = kept.begun; next = None }) at fs (InFrame info []) text
+    pub begins_before : kept.begun ≡ false → end_of info ≤ kept.at → KeepsEventAt (record { at = kept.at; message = message; own = own; begun = kept.begun; next = None }) at fs (InFrame info []) text
     begins_before none ends =
         let was : EndBefore fs BetweenFrames at × (text ≡ []) = subst (λ (b : Bool). HasBegunAt b fs BetweenFrames at text) none k.begun in
         record { sought = k.sought; frame = frame_kept kept.begun; next = refl; begun = subst (λ (b : Bool). HasBegunAt b fs (InFrame info []) at text) (sym none) (subst (λ (n : ℕ). end_of info ≤ n) k.sought ends, was.1) }
@@ -182,7 +182,7 @@ module _ (kept : EventAt) (at : ℕ) (fs : List Frame) (info : HeadInfo) (part m
             ∙ ap (λ (bs : List ℕ). bs ++ more) (sym (content_of_data fs here other))
       ]
 
-  pub goes_on : info.place ≡ length (stream fs) → Keeps kept at fs (InFrame info part) text → Keeps kept at fs (InFrame info (part ++ more)) (text ++ own_part kept more)
+  pub goes_on : info.place ≡ length (stream fs) → KeepsEventAt kept at fs (InFrame info part) text → KeepsEventAt kept at fs (InFrame info (part ++ more)) (text ++ own_part kept more)
   goes_on place k = record {
     sought = k.sought;
     frame = (k.frame.0, λ other. ((k.frame.1 other).0, (k.frame.1 other).1 ∙ first_alike (unfinished fs) here longer refl), k.frame.2);
@@ -212,7 +212,7 @@ module _ (kept : EventAt) (at : ℕ) (fs : List Frame) (info : HeadInfo) (part m
 -- ---- a frame ends
 
 module _ (role : Role) (limits : Limits) (kept : EventAt) (at : ℕ) (fs : List Frame) (f : Frame) (text : List ℕ) (lawful : IsLawful role limits (fs ++ f ∷ []))
-    (k : Keeps kept at fs (InFrame (info_of (length (stream fs)) f) f.payload) text) where
+    (k : KeepsEventAt kept at fs (InFrame (info_of (length (stream fs)) f) f.payload) text) where
   abbrev info : HeadInfo
   info = info_of (length (stream fs)) f
 
@@ -272,7 +272,7 @@ module _ (role : Role) (limits : Limits) (kept : EventAt) (at : ℕ) (fs : List 
   abbrev after : EventAt
   after = record kept { own = false; next = Some (end_of info) }
 
-  pub ends_other : (kept.own ≡ true → f.fin ≡ false) → Keeps after at (fs ++ f ∷ []) BetweenFrames text
+  pub ends_other : (kept.own ≡ true → f.fin ≡ false) → KeepsEventAt after at (fs ++ f ∷ []) BetweenFrames text
   ends_other unless = record { sought = k.sought; frame = (open_after, refl); next = ap Some (frame_end fs f); begun = by kept.begun k.begun }
     where
       begun_after : IsBegunAt fs (InFrame info f.payload) at text → IsOpenAt (fs ++ f ∷ []) at text

@@ -14,7 +14,7 @@ use Rattle.wsn_rules.specs.ShownStream.Item.{Head}
 use Rattle.wsn_print.specs.Json.{field, string_field, number_field}
 use Rattle.wsn_shown_text.specs.ShownText.{hex_text, seen_text, offset_of}
 use Rattle.wsn_shown_text.specs.ShownObjects.{object_front, item_type}
-use Rattle.wsn_print.specs.ShownParts.Position.{InStream}
+use Rattle.wsn_print.specs.ShownParts.EntryPosition.{InStream}
 use Rattle.wsn_print.specs.DifferingPayloads.{place_in, view_start, part_at, event_in}
 use Rattle.wsn_shown_text.specs.DifferingText.{view_at, differ_field}
 use Rattle.wsn_shown_text.specs.AsciiText.{ascii_character, ascii_quoted}

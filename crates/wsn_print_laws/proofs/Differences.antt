@@ -15,7 +15,7 @@ use Rattle.wsn_shown_text.specs.QuotedTexts.{ShowsTextReason}
 use Rattle.wsn_shown_text.specs.ShownText.{offset_of}
 use Rattle.wsn_shown_text.specs.ShownObjects.{view_fields, side_word, item_type, item_fields}
 use Rattle.wsn_shown_text.specs.Views.{PayloadView, view_of_part}
-use Rattle.wsn_print.specs.ShownParts.Position.{InStream}
+use Rattle.wsn_print.specs.ShownParts.EntryPosition.{InStream}
 use Rattle.wsn_print.specs.DifferingPayloads.{common_length, place_in, view_start, payload_on, part_length, event_in}
 use Rattle.wsn_shown_text.specs.DifferingText.{view_value, place_value, differ_field}
 use Rattle.wsn_shown_text.specs.DifferenceText.{event_value, difference_object}

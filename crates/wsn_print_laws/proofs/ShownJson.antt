@@ -19,7 +19,7 @@ use Rattle.wsn_rules.specs.ShownStream.Item.{Event, Head, Unfinished, Unfinished
 use Rattle.wsn_print.specs.Fields.{op_word}
 use Rattle.wsn_print.specs.Json.{number_or_null, boolean, field, string_field, number_field, number_or_null_field}
 use Rattle.wsn_print.specs.Objects.{key_value, form_word, head_members}
-use Rattle.wsn_print.specs.ShownParts.{payload_in, HasTextReason, Position}
+use Rattle.wsn_print.specs.ShownParts.{payload_in, HasTextReason, EntryPosition}
 use Rattle.wsn_shown_text.specs.QuotedTexts.{ShowsTextReason}
 use Rattle.wsn_shown_text.specs.CharacterText.{from_character, bytes_before, text_before, leaves_out, shown_bytes, truncated_text, character_object, character_fields}
 use Rattle.wsn_print.specs.EscapedText.{quoted}
@@ -27,7 +27,7 @@ use Rattle.wsn_shown_text.specs.Views.{Shown, PayloadView, is_printable, view_of
 use Rattle.wsn_shown_text.specs.Views.Shown.{Text, Ascii, Hex, Code, NoCode}
 use Rattle.wsn_shown_text.specs.ShownText.{event_word, event_size, offset_of}
 use Rattle.wsn_shown_text.specs.ShownObjects.{truncated_field, reason_field, shown_fields, view_fields, end_fields, line_field, side_word, time_key, time_value, event_fields, item_type, item_fields, item_object}
-use Rattle.wsn_print.specs.ShownParts.Position.{InLine, AtEnd, InStream}
+use Rattle.wsn_print.specs.ShownParts.EntryPosition.{InLine, AtEnd, InStream}
 use Rattle.wsn_shown_text.proofs.HeldViews.{as_view}
 use Rattle.wsn_shown_text.proofs.TextFronts.{part_is_utf8, whole_is_utf8}
 use Rattle.wsn_print_laws.specs.JsonText.{IsNumber, IsInteger, Value, Null, True, Number, String, Object, Members, End, Member, IsJsonLine}
@@ -99,23 +99,23 @@ item_json n (Tail offset bytes) = Member (codes "bytes") (number (length bytes))
 
 -- ---- where it is
 
-abbrev pub time_json : Position → Members → Members
+abbrev pub time_json : EntryPosition → Members → Members
 time_json (InLine number (Some seconds)) others = Member (codes "time") (Number seconds) others
 time_json (InLine number None) others = Member (codes "time") Null others
 time_json (AtEnd (Some seconds)) others = Member (codes "time") (Number seconds) others
 time_json (AtEnd None) others = Member (codes "time") Null others
 time_json InStream others = others
 
-abbrev pub line_json : Position → Members → Members
+abbrev pub line_json : EntryPosition → Members → Members
 line_json (InLine line time) others = Member (codes "line") (number line) others
 line_json (AtEnd time) others = others
 line_json InStream others = others
 
-abbrev pub placed_json : Role → Position → ℕ → Members → Members
+abbrev pub placed_json : Role → EntryPosition → ℕ → Members → Members
 placed_json role position offset others =
     line_json position (Member (codes "side") (String (side_word role)) (time_json position (Member (codes "offset") (number offset) others)))
 
-abbrev pub shown_json : ℕ → Role → Position → Item → Members
+abbrev pub shown_json : ℕ → Role → EntryPosition → Item → Members
 shown_json n role position item = placed_json role position (offset_of item) (item_json n item)
 
 -- ---- texts of views
@@ -336,7 +336,7 @@ seconds_number seconds is = (
 
 -- ---- the whole
 
-pub time_texts : (position : Position) (others : Members) (text : List ℕ) → IsPositionInRange position → AreTextsOf others text
+pub time_texts : (position : EntryPosition) (others : Members) (text : List ℕ) → IsPositionInRange position → AreTextsOf others text
     → AreTextsOf (time_json position others) ((time_key position ++ time_value position) ++ text)
 time_texts (InLine line (Some seconds)) others text fits are = member (codes "time") refl (record { is = (refl, seconds_number seconds fits.1) }) are
 time_texts (InLine line None) others text fits are = member (codes "time") refl null_text are
@@ -344,7 +344,7 @@ time_texts (AtEnd (Some seconds)) others text fits are = member (codes "time") r
 time_texts (AtEnd None) others text fits are = member (codes "time") refl null_text are
 time_texts InStream others text fits are = are
 
-pub line_texts : (position : Position) (others : Members) (text : List ℕ) → IsPositionInRange position → AreTextsOf others text
+pub line_texts : (position : EntryPosition) (others : Members) (text : List ℕ) → IsPositionInRange position → AreTextsOf others text
     → AreTextsOf (line_json position others) (line_field position ++ text)
 line_texts (InLine line time) others text fits are = member (codes "line") refl (number_text line fits.0) are
 line_texts (AtEnd time) others text fits are = are
@@ -373,11 +373,11 @@ plain_type (Unread offset bytes) = refl
 plain_type (Tail offset bytes) = refl
 
 -- The text of the members after the type.
-abbrev pub text_after : ℕ → Role → Position → Item → List ℕ
+abbrev pub text_after : ℕ → Role → EntryPosition → Item → List ℕ
 text_after n role position item =
     line_field position ++ (string_field (codes "side") (side_word role) ++ ((time_key position ++ time_value position) ++ (number_field (codes "offset") (offset_of item) ++ fields_of n item)))
 
-shown_texts : (n : ℕ) (role : Role) (position : Position) (item : Item) → IsPositionInRange position → IsItemInRange item → ShowsTextReason item
+shown_texts : (n : ℕ) (role : Role) (position : EntryPosition) (item : Item) → IsPositionInRange position → IsItemInRange item → ShowsTextReason item
     → AreTextsOf (shown_json n role position item) (text_after n role position item)
 shown_texts n role position item place fits reason =
     let offset = member (codes "offset") refl (number_text (offset_of item) (offset_fits item fits)) (item_texts n item fits reason) in
@@ -392,17 +392,17 @@ ten a k q l s t v o f z = simp append_assoc
 head_ten : (a k q l s t v o f z : List ℕ) → a ++ (k ++ (q ++ ((l ++ (s ++ ((t ++ v) ++ (o ++ f)))) ++ z))) ≡ (a ++ k ++ q ++ l ++ s ++ t ++ v) ++ (o ++ f) ++ z
 head_ten a k q l s t v o f z = simp append_assoc
 
-whole : (n : ℕ) (role : Role) (position : Position) (item : Item)
+whole : (n : ℕ) (role : Role) (position : EntryPosition) (item : Item)
     → codes "{\"type\":\"" ++ (item_type item ++ (codes "\"" ++ (text_after n role position item ++ codes "}\n"))) ≡ item_object n role position item
 whole n role position (Head h) =
     head_ten (codes "{\"type\":\"") (codes "frame") (codes "\"") (line_field position) (string_field (codes "side") (side_word role)) (time_key position) (time_value position) (number_field (codes "offset") h.place) (head_members h) (codes "}\n")
 whole n role position item =
     ten (codes "{\"type\":\"") (item_type item) (codes "\"") (line_field position) (string_field (codes "side") (side_word role)) (time_key position) (time_value position) (number_field (codes "offset") (offset_of item)) (item_fields n item) (codes "}\n")
 
-abbrev pub shown_value : ℕ → Role → Position → Item → Value
+abbrev pub shown_value : ℕ → Role → EntryPosition → Item → Value
 shown_value n role position item = Object (Member (codes "type") (String (item_type item)) (shown_json n role position item))
 
-pub shown_line : (n : ℕ) (role : Role) (position : Position) (item : Item) → IsPositionInRange position → IsItemInRange item → ShowsTextReason item
+pub shown_line : (n : ℕ) (role : Role) (position : EntryPosition) (item : Item) → IsPositionInRange position → IsItemInRange item → ShowsTextReason item
     → IsJsonLine (shown_value n role position item) (item_object n role position item)
 shown_line n role position item place fits reason =
     subst (IsJsonLine (shown_value n role position item)) (whole n role position item)

@@ -13,13 +13,13 @@ use Rattle.wsn_rules.specs.BadCharacter.{BadCharacter}
 use Rattle.wsn_rules.specs.Meaning.{MeantEvent, Message, Control}
 use Rattle.wsn_rules.specs.ShownStream.{Item}
 use Rattle.wsn_rules.specs.ShownStream.Item.{Event, Head, Unfinished, UnfinishedHead, RefusedFrame, Unread, Tail}
-use Rattle.wsn_print.specs.ShownParts.{payload_in, text_part, Position}
+use Rattle.wsn_print.specs.ShownParts.{payload_in, text_part, EntryPosition}
 use Rattle.wsn_shown_text.specs.QuotedTexts.{ShowsTextReason}
 use Rattle.wsn_shown_text.specs.CharacterText.{text_before, leaves_out, shown_bytes, byte_escape, character_view}
 use Rattle.wsn_print.specs.EscapedText.{quoted_character}
 use Rattle.wsn_shown_text.specs.ShownText.{hex_text, hex_view, end_view, reason_text, view_text, event_view, unfinished_view, event_word, event_size, offset_of}
 use Rattle.wsn_shown_text.specs.ShownObjects.{side_word, item_type, item_object}
-use Rattle.wsn_print.specs.ShownParts.Position.{InLine, AtEnd, InStream}
+use Rattle.wsn_print.specs.ShownParts.EntryPosition.{InLine, AtEnd, InStream}
 use Rattle.wsn_shown_text.specs.Views.{is_printable, view_of_text, view_of_bytes, view_of_close, view_of_event, view_of_unfinished}
 use Rattle.wsn_shown_text.specs.Views.Shown.{Code, NoCode}
 use Rattle.wsn_shown_text.proofs.HeldViews.{not_zero, as_view}
@@ -173,11 +173,11 @@ abbrev pub after_first : Members → Members
 after_first End = End
 after_first (Member name value others) = others
 
-abbrev pub Placed : Role → Role → Position → Position → ℕ → ℕ → Members → Members → Type 0
+abbrev pub Placed : Role → Role → EntryPosition → EntryPosition → ℕ → ℕ → Members → Members → Type 0
 Placed role other place other_place offset other_offset rest other_rest =
     (role ≡ other) × (place ≡ other_place) × (number offset ≡ number other_offset) × (rest ≡ other_rest)
 
-pub one_place : (role other : Role) (place other_place : Position) (offset other_offset : ℕ) (rest other_rest : Members) → IsPositionInRange place → IsPositionInRange other_place
+pub one_place : (role other : Role) (place other_place : EntryPosition) (offset other_offset : ℕ) (rest other_rest : Members) → IsPositionInRange place → IsPositionInRange other_place
     → placed_json role place offset rest ≡ placed_json other other_place other_offset other_rest → Placed role other place other_place offset other_offset rest other_rest
 one_place role other (InLine k None) (InLine j None) offset other_offset rest other_rest fits also same =
     let lines : number k ≡ number j = cc in
@@ -373,7 +373,7 @@ look_alike n (Tail offset bytes) (Tail another other) fits also types offsets sa
     (offsets, parts.0, parts.1)
 look_alike n item other fits also types offsets same = absurd (differ (item_type item) (item_type other) refl types)
 
-pub one_shown : (n : ℕ) (role other : Role) (place other_place : Position) (item another : Item) → IsPositionInRange place → IsPositionInRange other_place
+pub one_shown : (n : ℕ) (role other : Role) (place other_place : EntryPosition) (item another : Item) → IsPositionInRange place → IsPositionInRange other_place
     → IsItemInRange item → IsItemInRange another → ShowsTextReason item → ShowsTextReason another
     → item_object n role place item ≡ item_object n other other_place another
     → (role ≡ other) × (place ≡ other_place) × LookAlike n item another

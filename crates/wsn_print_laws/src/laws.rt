@@ -17,7 +17,7 @@ ghost use Rattle.wsn_rules.specs.Verdict.{IsVerdict};
 ghost use Rattle.wsn_print.specs.Objects.{verdict_object, frame_object, report_object, comparison_object};
 ghost use Rattle.wsn_shown_text.specs.DifferenceText.{difference_object};
 ghost use Rattle.wsn_shown_text.specs.QuotedTexts.{IsOfSurrogates, ShowsTextReason};
-ghost use Rattle.wsn_print.specs.ShownParts.{Position};
+ghost use Rattle.wsn_print.specs.ShownParts.{EntryPosition};
 ghost use Rattle.wsn_shown_text.specs.ShownObjects.{item_object, end_object, comment_object};
 ghost use Rattle.wsn_show.specs.declared.ended_by.EndedBy.{EndedBy};
 ghost use Rattle.wsn_show.specs.EndedBy.{ended_by_object};
@@ -77,10 +77,10 @@ pub fn law_objects_are_json()
         IsObjectLine (comparison_object compared) }
     ensures difference { (n : ℕ) (role : Role) (k : ℕ) (one other : Option Item) → IsDifferenceInRange k one other →
         IsObjectLine (difference_object n role k one other) }
-    ensures item { (n : ℕ) (role : Role) (position : Position) (item : Item) →
+    ensures item { (n : ℕ) (role : Role) (position : EntryPosition) (item : Item) →
         IsPositionInRange position → IsItemInRange item → ShowsTextReason item →
         IsObjectLine (item_object n role position item) }
-    ensures end_mark { (role : Role) (position : Position) (sent : ℕ) →
+    ensures end_mark { (role : Role) (position : EntryPosition) (sent : ℕ) →
         IsPositionInRange position → IsInU64 sent → IsObjectLine (end_object role position sent) }
     ensures comment { (line : ℕ) (text : List ℕ) → IsInU64 line → IsBytes text →
         IsObjectLine (comment_object line text) }
@@ -145,7 +145,7 @@ pub fn law_difference_objects()
 
 /// The object of an end mark says which endpoint sent how many bytes, in which line it is and at which time.
 pub fn law_end_objects()
-    ensures { (role other : Role) (position other_position : Position) (sent other_sent : ℕ) →
+    ensures { (role other : Role) (position other_position : EntryPosition) (sent other_sent : ℕ) →
         IsPositionInRange position → IsPositionInRange other_position → IsInU64 sent → IsInU64 other_sent →
         end_object role position sent ≡ end_object other other_position other_sent →
         (role ≡ other) × (position ≡ other_position) × (sent ≡ other_sent) }
@@ -168,12 +168,12 @@ pub fn law_comment_objects()
 /// that its view leaves out. Of a refused text it says whether there is a bad character, where it is, and which bytes it
 /// has; the bytes only if the view isn't 0.
 pub fn law_item_objects()
-    ensures shown { (n : ℕ) (role other_role : Role) (position other_position : Position) (item other : Item) →
+    ensures shown { (n : ℕ) (role other_role : Role) (position other_position : EntryPosition) (item other : Item) →
         IsPositionInRange position → IsPositionInRange other_position → IsItemInRange item → IsItemInRange other →
         ShowsTextReason item → ShowsTextReason other →
         item_object n role position item ≡ item_object n other_role other_position other →
         (role ≡ other_role) × (position ≡ other_position) × LookAlike n item other }
-    ensures unseen { (role : Role) (position : Position) →
+    ensures unseen { (role : Role) (position : EntryPosition) →
         item_object 0 role position (RefusedFrame 0 (record { place = 2; reason = TextBad }) (0xfc ∷ [])
         (Some (record { offset = 2; in_payload = 0; bytes = 0xfc ∷ []; earlier = [] })))
         ≡ item_object 0 role position (RefusedFrame 0 (record { place = 2; reason = TextBad }) (0xff ∷ [])

@@ -20,7 +20,7 @@ use Rattle.wsn_redact.specs.declared.capture_redacting.RedactStop.TheVariants as
 use Rattle.wsn_redact.specs.CaptureRedactors.{HasRedactedLines}
 use Rattle.wsn_redact.specs.RedactingCaptures.{IsWrittenBut, IsCaptureRedactAnswer, IsRedactedCaptureInput}
 use Rattle.wsn_redact.specs.PassedRedactions.{HasWritten, StopsWithin, EndsRedacting}
-use Rattle.wsn_show.proofs.PassedPieces.{whole_part}
+use Rattle.wsn_show.proofs.PassedChunks.{whole_part}
 use Rattle.wsn_redact.proofs.PassedRedactions.{text_so_far}
 
 -- All bytes that came were passed on, and what their lines became was written.
@@ -108,18 +108,18 @@ module _ (limits : Limits) (old mid new : Incoming) (first : Outgoing) (redactor
   }
 
   -- a chunk was redacted
-  pub goes_on : (piece : List ℕ) (further : CaptureRedactor) (left : List ℕ) (after : Outgoing) → IsConsumed mid new piece
-      → HasWritten limits first further left after (read.came ++ piece) → HasRedactedOn limits old new first further left after
-  goes_on piece further left after consumes has_written = record {
-    came = read.came ++ piece;
-    consumed = consumed_on old mid new read.came piece read.consumed consumes;
+  pub goes_on : (chunk : List ℕ) (further : CaptureRedactor) (left : List ℕ) (after : Outgoing) → IsConsumed mid new chunk
+      → HasWritten limits first further left after (read.came ++ chunk) → HasRedactedOn limits old new first further left after
+  goes_on chunk further left after consumes has_written = record {
+    came = read.came ++ chunk;
+    consumed = consumed_on old mid new read.came chunk read.consumed consumes;
     has_written = has_written;
   }
 
-  prompt : (piece : List ℕ) (number : ℕ) (fault : LineFault) → length piece ≤ 4096 → IsStopWithin limits read.came piece (capture.Line number fault)
-      → IsPrompt limits (read.came ++ piece) number fault
-  prompt piece number fault size within =
-      let whole : read.came ++ piece ≡ (read.came ++ within.earlier) ++ within.last ∷ within.ahead = ap (λ (bs : List ℕ). read.came ++ bs) within.whole ∙ sym (append_assoc read.came within.earlier (within.last ∷ within.ahead)) in
+  prompt : (chunk : List ℕ) (number : ℕ) (fault : LineFault) → length chunk ≤ 4096 → IsStopWithin limits read.came chunk (capture.Line number fault)
+      → IsPrompt limits (read.came ++ chunk) number fault
+  prompt chunk number fault size within =
+      let whole : read.came ++ chunk ≡ (read.came ++ within.earlier) ++ within.last ∷ within.ahead = ap (λ (bs : List ℕ). read.came ++ bs) within.whole ∙ sym (append_assoc read.came within.earlier (within.last ∷ within.ahead)) in
       let sizes = ap (λ (bs : List ℕ). length bs) within.whole ∙ length-append within.earlier (within.last ∷ within.ahead) in
       record {
         earlier = read.came ++ within.earlier;
@@ -132,26 +132,26 @@ module _ (limits : Limits) (old mid new : Incoming) (first : Outgoing) (redactor
         few = omega (arith, sizes, size);
       }
 
-  within_piece : (piece : List ℕ) (s : RedactStop) (after : Outgoing) → length piece ≤ 4096 → new.failed ≡ false
-      → StopsWithin limits first after read.came piece s → IsCaptureRedactAnswer limits new (read.came ++ piece) first after (Err s)
-  within_piece piece (stop.Capture (capture.Line number fault)) after size unfailed stops =
-      (inl (prompt piece number fault size stops.0), unfailed, stops.1)
-  within_piece piece (stop.Capture capture.Read) after size unfailed stops = absurd stops
-  within_piece piece stop.Write after size unfailed stops = (unfailed, stops.0)
+  within_chunk : (chunk : List ℕ) (s : RedactStop) (after : Outgoing) → length chunk ≤ 4096 → new.failed ≡ false
+      → StopsWithin limits first after read.came chunk s → IsCaptureRedactAnswer limits new (read.came ++ chunk) first after (Err s)
+  within_chunk chunk (stop.Capture (capture.Line number fault)) after size unfailed stops =
+      (inl (prompt chunk number fault size stops.0), unfailed, stops.1)
+  within_chunk chunk (stop.Capture capture.Read) after size unfailed stops = absurd stops
+  within_chunk chunk stop.Write after size unfailed stops = (unfailed, stops.0)
 
-  all_but_piece : (piece : List ℕ) (s : RedactStop) (after : Outgoing) → length piece ≤ 4096 → StopsWithin limits first after read.came piece s
-      → (let answer : Result (Unit {0}) RedactStop = Err s in answer) ≡ Err stop.Write → IsWrittenBut chunk_size limits (read.came ++ piece) first after
-  all_but_piece piece (stop.Capture capture) after size stops is = cc
-  all_but_piece piece stop.Write after size stops is =
+  all_but_chunk : (chunk : List ℕ) (s : RedactStop) (after : Outgoing) → length chunk ≤ 4096 → StopsWithin limits first after read.came chunk s
+      → (let answer : Result (Unit {0}) RedactStop = Err s in answer) ≡ Err stop.Write → IsWrittenBut chunk_size limits (read.came ++ chunk) first after
+  all_but_chunk chunk (stop.Capture capture) after size stops is = cc
+  all_but_chunk chunk stop.Write after size stops is =
       let but = stops.1 in
       record { done = but.done; last = but.last; whole = but.whole; short = let most = but.short in omega (arith, most, size); written = but.written }
 
   -- the stop is within a chunk
-  pub stops_here : (piece : List ℕ) (s : RedactStop) (after : Outgoing) → IsConsumed mid new piece → length piece ≤ 4096 → new.failed ≡ false
-      → StopsWithin limits first after read.came piece s → IsRedactedCaptureInput limits old new first after (Err s)
-  stops_here piece s after consumes size unfailed stops = record {
-    came = read.came ++ piece;
-    received = received_of (1000001 * 8196 + 4095) old new (read.came ++ piece) (consumed_on old mid new read.came piece read.consumed consumes) (omega (arith, bounded, size, length-append read.came piece));
-    answer = within_piece piece s after size unfailed stops;
-    at_once = all_but_piece piece s after size stops;
+  pub stops_here : (chunk : List ℕ) (s : RedactStop) (after : Outgoing) → IsConsumed mid new chunk → length chunk ≤ 4096 → new.failed ≡ false
+      → StopsWithin limits first after read.came chunk s → IsRedactedCaptureInput limits old new first after (Err s)
+  stops_here chunk s after consumes size unfailed stops = record {
+    came = read.came ++ chunk;
+    received = received_of (1000001 * 8196 + 4095) old new (read.came ++ chunk) (consumed_on old mid new read.came chunk read.consumed consumes) (omega (arith, bounded, size, length-append read.came chunk));
+    answer = within_chunk chunk s after size unfailed stops;
+    at_once = all_but_chunk chunk s after size stops;
   }

@@ -10,7 +10,7 @@ use Rattle.wsn_capture.specs.declared.line_form.LineEntry.TheVariants as entries
 use Rattle.wsn_capture.specs.CaptureLines.{HasAccepted}
 use Rattle.wsn_redact.specs.declared.capture_redactor.CaptureRedactor.{CaptureRedactor}
 use Rattle.wsn_redact.specs.declared.capture_redactor.StreamRedactor.{StreamRedactor}
-use Rattle.wsn_redact.specs.Keeping.{HasRedacted, IsRunningFor}
+use Rattle.wsn_redact.specs.RedactedParts.{HasRedacted, IsRunningFor}
 use Rattle.wsn_redact.specs.RedactedCaptures.{AreRedactedLines}
 
 -- The redactor of an endpoint's stream.

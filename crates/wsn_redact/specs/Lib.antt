@@ -15,4 +15,4 @@ pub mod RedactingCaptures
 pub mod PassedRedactions
 -- what is kept between the parts of frames
 pub mod Dues
-pub mod Keeping
+pub mod RedactedParts

@@ -1,14 +1,13 @@
 -- How the text that came is related to the lines that were redacted.
-use Rattle.std.specs.Prelude.{◌≡◌, ℕ, ◌+◌, ◌*◌, ◌-◌, true, Result, Ok, Err, List, ◌++◌, length}
+use Rattle.std.specs.Prelude.{◌≡◌, ℕ, ◌+◌, true, Result, Ok, Err, List, ◌++◌, length}
 use Rattle.wsn_io.specs.Transfer.{Outgoing, IsWritten, IsPartlyWritten, IsWrittenUpToFailure}
 use Rattle.wsn_rules.specs.Limits.{Limits}
 use Rattle.wsn_rules.specs.Entries.{Entry}
 use Rattle.wsn_rules.specs.TextLines.{ended}
 use Rattle.wsn_capture.specs.declared.capture_stop.CaptureStop.TheVariants as capture
 use Rattle.wsn_capture.specs.LineFaults.{IsFaultAfter}
-use Rattle.wsn_capture.specs.CaptureLines.{count_of}
 use Rattle.wsn_capture.specs.LineSplitters.{HasPassedOn, IsStopWithin}
-use Rattle.wsn_capture.specs.CaptureAnswers.{begun_most, IsFaulty, IsUnfaulted}
+use Rattle.wsn_capture.specs.CaptureAnswers.{IsFaulty, IsUnfaulted}
 use Rattle.wsn_redact.specs.declared.capture_redactor.CaptureRedactor.{CaptureRedactor}
 use Rattle.wsn_redact.specs.declared.capture_redacting.RedactStop.{RedactStop}
 use Rattle.wsn_redact.specs.declared.capture_redacting.RedactStop.TheVariants.{Capture, Write}
@@ -49,18 +48,14 @@ StopsAtLine limits new lines entries others redacted line lf before after (Captu
 StopsAtLine limits new lines entries others redacted line lf before after Write =
     PutsLine limits new lines entries others redacted line lf before after × (after.failed ≡ true)
 
--- The stop is within the piece, after the bytes that came.
+-- The stop is within the chunk, after the bytes that came.
 abbrev pub StopsWithin : Limits → Outgoing → Outgoing → List ℕ → List ℕ → RedactStop → Type 0
-StopsWithin limits first now came piece (Capture (capture.Line number fault)) =
-    IsStopWithin limits came piece (capture.Line number fault) × IsWrittenBefore limits (came ++ piece) number first now
-StopsWithin limits first now came piece (Capture capture.Read) = ⊥
-StopsWithin limits first now came piece Write =
-    ((text : List ℕ) × IsTextOf limits (came ++ piece) text × IsPartlyWritten first now text)
-    × IsWrittenBut (length piece) limits (came ++ piece) first now
-
--- the number of bytes that may still come
-abbrev pub bytes_ahead : CaptureRedactor → List ℕ → ℕ
-bytes_ahead redactor begun = (1000001 - count_of redactor.lines) * begun_most - length begun
+StopsWithin limits first now came chunk (Capture (capture.Line number fault)) =
+    IsStopWithin limits came chunk (capture.Line number fault) × IsWrittenBefore limits (came ++ chunk) number first now
+StopsWithin limits first now came chunk (Capture capture.Read) = ⊥
+StopsWithin limits first now came chunk Write =
+    ((text : List ℕ) × IsTextOf limits (came ++ chunk) text × IsPartlyWritten first now text)
+    × IsWrittenBut (length chunk) limits (came ++ chunk) first now
 
 -- The answer where the text ends, and what was written of it.
 abbrev pub EndsRedacting : Limits → Outgoing → Outgoing → List ℕ → Result (Unit {0}) RedactStop → Type 0

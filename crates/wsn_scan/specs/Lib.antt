@@ -12,7 +12,6 @@ pub mod ReadParts
 pub mod FollowedScans
 -- for private functions
 pub mod Scans
-pub mod Refill
 pub mod ReaderSteps
 pub mod EventFrames
 -- for the clauses in src/

@@ -18,7 +18,7 @@ use Rattle.wsn_scan.specs.FrameReaders.{HasTaken, held_payload}
 
 -- It takes this part of a frame, whose payload it holds. At most `chunk_size` bytes came after the frame's end, if the
 -- part ends it.
-pub record TakesPart (role : Role) (limits : Limits) (reader : FrameReader) (part : Part) (came : List ℕ)
+pub record ReadsPart (role : Role) (limits : Limits) (reader : FrameReader) (part : Part) (came : List ℕ)
     (fs : List Frame) (at : Position) : Type 0 where
   pub frames : List Frame
   pub position : Position
@@ -32,7 +32,7 @@ pub record TakesMessage (role : Role) (limits : Limits) (reader : FrameReader) (
   pub part : Part
   pub whole : IsWholeMessage part kind
   pub place_is : part.head.place ≡ place
-  pub takes : TakesPart role limits reader part came fs at
+  pub takes : ReadsPart role limits reader part came fs at
 
 -- All of these bytes are taken: each whole frame to its end, and each head.
 abbrev pub AllTaken : Role → Limits → List ℕ → List Frame → Position → Type 0
@@ -40,8 +40,8 @@ AllTaken role limits bytes fs at = AreHeads role limits bytes fs (heads_of fs ++
 
 -- The verdict on the bytes that came, as a judge reaches it. Each whole frame in them was taken to its end, and each
 -- head.
-abbrev pub IsDone : Role → Limits → Incoming → List ℕ → List Frame → Position → Verdict → Type 0
-IsDone role limits new came fs at verdict =
+abbrev pub IsJudgedAt : Role → Limits → Incoming → List ℕ → List Frame → Position → Verdict → Type 0
+IsJudgedAt role limits new came fs at verdict =
     IsReached role limits new came verdict × IsVerdict role limits came fs verdict × AllTaken role limits came fs at
 
 -- A stop, as a judge's. Of the bytes within the limit, each whole frame was taken to its end, and each head.
@@ -55,8 +55,8 @@ IsHaltedAt role limits new came fs at halted =
 abbrev pub IsNextPart : Role → Limits → Incoming → FrameReader → Part → List ℕ → List Frame → Position →
     Result (Option Verdict) Stop → Type 0
 IsNextPart role limits new reader part came fs at (Ok None) =
-    TakesPart role limits reader part came fs at × (new.failed ≡ false)
-IsNextPart role limits new reader part came fs at (Ok (Some verdict)) = IsDone role limits new came fs at verdict
+    ReadsPart role limits reader part came fs at × (new.failed ≡ false)
+IsNextPart role limits new reader part came fs at (Ok (Some verdict)) = IsJudgedAt role limits new came fs at verdict
 IsNextPart role limits new reader part came fs at (Err halted) = IsHaltedAt role limits new came fs at halted
 
 -- A call has read these bytes more, and its result is right for all that came: at most one byte past the limit.

@@ -16,7 +16,7 @@ use Rattle.wsn_scan.specs.Positions.{Position}
 use Rattle.wsn_scan.specs.Scans.{refusal_in}
 use Rattle.wsn_scan.specs.FrameReaders.{HasTaken}
 use Rattle.wsn_scan.specs.Judging.{chunk_size}
-use Rattle.wsn_scan.specs.ReadParts.{TakesPart, AllTaken, IsDone, IsHaltedAt}
+use Rattle.wsn_scan.specs.ReadParts.{ReadsPart, AllTaken, IsJudgedAt, IsHaltedAt}
 
 -- All bytes that came are scanned.
 pub record IsUsed (role : Role) (limits : Limits) (reader : FrameReader) (came : List ℕ) (fs : List Frame)
@@ -42,7 +42,7 @@ pub record HasRefused (role : Role) (limits : Limits) (reader : FrameReader) (ca
 
 -- What a call of the scan found.
 abbrev pub StepsOn : Role → Limits → FrameReader → Part → List ℕ → List Frame → Position → Taken → Type 0
-StepsOn role limits reader part came fs at taken.Part = TakesPart role limits reader part came fs at
+StepsOn role limits reader part came fs at taken.Part = ReadsPart role limits reader part came fs at
 StepsOn role limits reader part came fs at taken.Refused = HasRefused role limits reader came fs at
 StepsOn role limits reader part came fs at taken.More = IsUsed role limits reader came fs at
 StepsOn role limits reader part came fs at taken.Closed = IsUsed role limits reader came fs at
@@ -52,7 +52,7 @@ abbrev pub IsFilledBy : Role → Limits → Incoming → FrameReader → List �
     Result (Option Verdict) Stop → Type 0
 IsFilledBy role limits new reader came fs at (Ok None) =
     HasTaken role limits reader came fs at × (new.failed ≡ false)
-IsFilledBy role limits new reader came fs at (Ok (Some verdict)) = IsDone role limits new came fs at verdict
+IsFilledBy role limits new reader came fs at (Ok (Some verdict)) = IsJudgedAt role limits new came fs at verdict
 IsFilledBy role limits new reader came fs at (Err halted) = IsHaltedAt role limits new came fs at halted
 
 -- What one read did after all bytes that came were scanned.

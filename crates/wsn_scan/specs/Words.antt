@@ -15,7 +15,7 @@ pub use Rattle.wsn_frame.specs.PartialHeads.{info_at}
 pub use Rattle.wsn_scan.specs.Feeding.{IsRunning, HasFed, ConsumesPrefix}
 pub use Rattle.wsn_scan.specs.Positions.{Position, BetweenFrames, InFrame, begun_at, IsPayloadSoFar, IsPositionIn, IsTakenOf}
 pub use Rattle.wsn_scan.specs.Parts.{Consumes, FindsByCase}
-pub use Rattle.wsn_scan.specs.FrameReaders.{HasTaken, IsReading, parts_left, held_payload, TakesRun}
+pub use Rattle.wsn_scan.specs.FrameReaders.{HasTaken, IsReading, parts_ahead, held_payload, TakesRun}
 pub use Rattle.wsn_scan.specs.ReadParts.{ReadsOn, TakesMessage}
 pub use Rattle.wsn_scan.specs.ReaderSteps.{StepsOn, IsUsed, IsFilled}
 pub use Rattle.wsn_scan.specs.Scans.{HasScanned, refusal_in, room_of, taken_of, ScanCall, IsAdvance, IsAnswered, AdvancesFrom, BeginsFrame, ContinuesHead, BeginsAt, Unmasks, HasNoRest}

@@ -12,7 +12,7 @@ pub fn law_one_answer()
         IsJudged role limits old new result → IsJudged role limits old other same → result ≡ same }
 {}
 
-/// Where a scan is in the bytes that it has consumed, in whatever pieces they came. They begin with the frames that it
+/// Where a scan is in the bytes that it has consumed, in whatever chunks they came. They begin with the frames that it
 /// has taken, which are lawful, and it has taken all their heads. If another frame has begun, it has taken a prefix of
 /// its payload, unmasked: unless it has refused, all of the payload that came. The room and the bytes consumed are the
 /// input limit together.
@@ -30,12 +30,12 @@ pub fn law_positions()
 {}
 
 /// What a call of [`Scan::next`](crate::Scan::next) finds: after a refusal the refusal again, and no bytes; after a Close
-/// all of the piece; otherwise part of a head, a part of a frame, or a refusal, and how many bytes that consumes.
+/// all of the chunk; otherwise part of a head, a part of a frame, or a refusal, and how many bytes that consumes.
 pub fn law_next_by_case()
     ensures { (role : Role) (limits : Limits) (bytes : List ℕ) (fs : List Frame) (rest : List ℕ) (at : Position)
         (call : ScanCall) →
-        HasScanned role limits call.before bytes fs rest at → IsBytes call.piece → IsAnswered call →
-        FindsByCase fs (refusal_in call.before) (length call.piece) call.count call.found call.part }
+        HasScanned role limits call.before bytes fs rest at → IsBytes call.chunk → IsAnswered call →
+        FindsByCase fs (refusal_in call.before) (length call.chunk) call.count call.found call.part }
 {}
 
 /// What a [`FrameReader`](crate::FrameReader) has taken is in the bytes that came. They begin with its frames, which are

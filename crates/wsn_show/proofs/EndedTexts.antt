@@ -24,7 +24,7 @@ use Rattle.wsn_show.specs.declared.showing.ShowStop.TheVariants as stop
 use Rattle.wsn_show.specs.CaptureViews.{ShowsLine, Finishes}
 use Rattle.wsn_show.specs.Showing.{IsTextOfLines, IsWholeText}
 use Rattle.wsn_show.specs.PassedLines.{HasPrinted, HasPrintedLines, StopsAtLine, EndsShowing}
-use Rattle.wsn_show.proofs.PassedPieces.{text_so_far, text_with_line, partly_with_line, printed_with_line, one_more, failed_part, more_after, at_least, whole_part}
+use Rattle.wsn_show.proofs.PassedChunks.{text_so_far, text_with_line, partly_with_line, printed_with_line, one_more, failed_part, more_after, at_least, whole_part}
 
 -- ---- the report
 

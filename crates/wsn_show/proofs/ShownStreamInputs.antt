@@ -21,7 +21,7 @@ use Rattle.wsn_rules.proofs.OneVerdict.{one_verdict}
 use Rattle.wsn_rules.proofs.StaysRefused.{place_within, stays_refused}
 use Rattle.wsn_rules.proofs.ShownStreams.{shown_goes_on}
 use Rattle.wsn_rules.proofs.ShownLines.{nothing_shown}
-use Rattle.wsn_print.specs.ShownParts.Position.{InStream}
+use Rattle.wsn_print.specs.ShownParts.EntryPosition.{InStream}
 use Rattle.wsn_scan.specs.declared.chunk_reader.ChunkReader.{ChunkReader}
 use Rattle.wsn_scan.specs.ChunkReaders.{HasCome, IsEndOf, IsHaltOf}
 use Rattle.wsn_scan.specs.Judging.{chunk_size, IsReached, IsUnrefused}
@@ -174,23 +174,23 @@ module _ (role : Role) (limits : Limits) (style : Style) where
       ended (Err stop.Memory) e = let h : stop.Memory ≡ stop.Write = e.0 in absurd cc
 
     -- ---- the next chunk came, and the view got it
-    module _ (new : Incoming) (later : ChunkReader) (piece : List ℕ) (come : HasCome limits old new later (came ++ piece)) (short : length piece + length come.past ≤ chunk_size)
-        (next : Viewed) (after : Outgoing) (viewed : HasViewed role limits style next (came ++ piece))
-        (shows : (shown : List Shown) × IsShownStream style.detail role limits (came ++ piece) shown × IsWrittenUpToFailure now after (styled_items style role InStream (beyond (length came) shown))) where
+    module _ (new : Incoming) (later : ChunkReader) (chunk : List ℕ) (come : HasCome limits old new later (came ++ chunk)) (short : length chunk + length come.past ≤ chunk_size)
+        (next : Viewed) (after : Outgoing) (viewed : HasViewed role limits style next (came ++ chunk))
+        (shows : (shown : List Shown) × IsShownStream style.detail role limits (came ++ chunk) shown × IsWrittenUpToFailure now after (styled_items style role InStream (beyond (length came) shown))) where
       abbrev all_came : List ℕ
-      all_came = (came ++ piece) ++ come.past
+      all_came = (came ++ chunk) ++ come.past
 
       abbrev last_bytes : List ℕ
-      last_bytes = piece ++ come.past
+      last_bytes = chunk ++ come.past
 
       after_came : all_came ≡ came ++ last_bytes
-      after_came = append_assoc came piece come.past
+      after_came = append_assoc came chunk come.past
 
       received_all : IsReceived (limits.input + 1) old new all_came
-      received_all = received limits old new later (came ++ piece) come
+      received_all = received limits old new later (came ++ chunk) come
 
-      within_is : take limits.input all_came ≡ came ++ piece
-      within_is = within_limit limits old new later (came ++ piece) come
+      within_is : take limits.input all_came ≡ came ++ chunk
+      within_is = within_limit limits old new later (came ++ chunk) come
 
       abbrev items : List ℕ
       items = styled_items style role InStream (beyond (length came) shows.0)
@@ -198,9 +198,9 @@ module _ (role : Role) (limits : Limits) (style : Style) where
       abbrev lines : List ℕ
       lines = read.text ++ items
 
-      text_now : IsItemText role limits style (came ++ piece) lines
+      text_now : IsItemText role limits style (came ++ chunk) lines
       text_now =
-          let on = shown_goes_on role limits style.detail came piece read.is_text.shown shows.0 read.is_text.is_shown shows.1 in
+          let on = shown_goes_on role limits style.detail came chunk read.is_text.shown shows.0 read.is_text.is_shown shows.1 in
           let texts = λ (all : List Item). styled_items style role InStream all in
           record {
             shown = shows.0;
@@ -215,12 +215,12 @@ module _ (role : Role) (limits : Limits) (style : Style) where
       written_now = prints_on first now after read.text items read.written.0 (inl read.written) shows.2
 
       short_last : length last_bytes ≤ chunk_size
-      short_last = omega (arith, short, length-append piece come.past)
+      short_last = omega (arith, short, length-append chunk come.past)
 
       up_to_refusal : IsReadUpToRefusal role limits all_came
       up_to_refusal fs place reason refused =
           let place_is = place_after role limits came last_bytes fs place reason read.unrefused (subst (λ (bs : List ℕ). IsRefused role limits bs fs place reason) after_came refused) in
-          omega (arith, place_is, length-append (came ++ piece) come.past, length-append came piece, short)
+          omega (arith, place_is, length-append (came ++ chunk) come.past, length-append came chunk, short)
 
       pub write_failed : after.failed ≡ true → IsStreamShown role limits style old new first after (Err stop.Write)
       write_failed failed = record {
@@ -240,11 +240,11 @@ module _ (role : Role) (limits : Limits) (style : Style) where
         wrote = elim written_now [ inl went ↦ went | inr part ↦ (let both : true ≡ false = sym part.0 ∙ works in absurd cc) ]
 
         -- the bytes are refused
-        module _ (fs : List Frame) (refusal : Refusal) (refused : IsRefused role limits (came ++ piece) fs refusal.place refusal.reason) (last : Outgoing) where
+        module _ (fs : List Frame) (refusal : Refusal) (refused : IsRefused role limits (came ++ chunk) fs refusal.place refusal.reason) (last : Outgoing) where
           abbrev verdict_text : List ℕ
           verdict_text = styled_verdict style (Refused refusal)
 
-          whole_text : IsStreamText role limits style (came ++ piece) (Refused refusal) (lines ++ verdict_text)
+          whole_text : IsStreamText role limits style (came ++ chunk) (Refused refusal) (lines ++ verdict_text)
           whole_text = record {
             frames = fs;
             is_verdict = refused;
@@ -257,12 +257,12 @@ module _ (role : Role) (limits : Limits) (style : Style) where
 
           refused_all : (more : List ℕ) → IsRefused role limits (all_came ++ more) fs refusal.place refusal.reason
           refused_all more =
-              subst (λ (bs : List ℕ). IsRefused role limits bs fs refusal.place refusal.reason) (sym (append_assoc (came ++ piece) come.past more))
-              (stays_refused role limits fs (came ++ piece) (come.past ++ more) refusal.place refusal.reason refused)
+              subst (λ (bs : List ℕ). IsRefused role limits bs fs refusal.place refusal.reason) (sym (append_assoc (came ++ chunk) come.past more))
+              (stays_refused role limits fs (came ++ chunk) (come.past ++ more) refusal.place refusal.reason refused)
 
           within : refusal.place < limits.input
           within =
-              let inside = place_within role limits fs (came ++ piece) refusal.place refusal.reason refused.is_evident in
+              let inside = place_within role limits fs (came ++ chunk) refusal.place refusal.reason refused.is_evident in
               let room = come.counted.room in
               omega (arith, inside, room)
 
@@ -306,9 +306,9 @@ module _ (role : Role) (limits : Limits) (style : Style) where
           refuses (Err stop.Memory) e = let h : stop.Memory ≡ stop.Write = e.0 in absurd cc
 
         -- the bytes aren't refused
-        pub goes_on : (fs : List Frame) (verdict : Verdict) → IsVerdict role limits (came ++ piece) fs verdict → ((r : Refusal) → verdict ≢ Refused r) → HasShownInput old new later first after next (came ++ piece)
+        pub goes_on : (fs : List Frame) (verdict : Verdict) → IsVerdict role limits (came ++ chunk) fs verdict → ((r : Refusal) → verdict ≢ Refused r) → HasShownInput old new later first after next (came ++ chunk)
         goes_on fs verdict is other = record { come = come; viewed = viewed; unrefused = none_now; text = lines; is_text = text_now; written = wrote }
           where
-            none_now : IsUnrefused role limits (came ++ piece)
+            none_now : IsUnrefused role limits (came ++ chunk)
             none_now gs place reason refused =
-                other (record { place = place; reason = reason }) (one_verdict role limits (came ++ piece) fs gs verdict (Refused (record { place = place; reason = reason })) is refused).1
+                other (record { place = place; reason = reason }) (one_verdict role limits (came ++ chunk) fs gs verdict (Refused (record { place = place; reason = reason })) is refused).1

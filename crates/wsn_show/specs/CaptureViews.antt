@@ -19,8 +19,8 @@ use Rattle.wsn_show.specs.Styles.{styled_line_item, styled_line, styled_left, st
 use Rattle.wsn_capture.specs.declared.line_fault.LineFault.{LineFault}
 use Rattle.wsn_capture.specs.LineFaults.{HasFault}
 use Rattle.wsn_capture.specs.CaptureLines.{HasAccepted, HasNotedCloses, count_of}
-use Rattle.wsn_print.specs.ShownParts.{Position}
-use Rattle.wsn_print.specs.ShownParts.Position.{InLine}
+use Rattle.wsn_print.specs.ShownParts.{EntryPosition}
+use Rattle.wsn_print.specs.ShownParts.EntryPosition.{InLine}
 use Rattle.wsn_show.specs.StreamViews.{HasViewed}
 use Rattle.wsn_show.specs.declared.capture_view.CaptureView.{CaptureView}
 
@@ -71,7 +71,7 @@ IsTimeNext before text after =
     ((seconds : List ℕ) × GivesTime text seconds × (after ≡ Some seconds)) ⊎ (GivesNoTime text × (after ≡ before))
 
 -- Where the view's last line is: its number, and the time that holds.
-abbrev pub line_position : CaptureView → Position
+abbrev pub line_position : CaptureView → EntryPosition
 line_position view = InLine (count_of view.lines) view.time
 
 -- What a text with this entry shows was printed, with the time that held before it.
@@ -84,7 +84,7 @@ pub record ShowsText (limits : Limits) (style : Style) (old new : CaptureView) (
   pub printed : IsWrittenUpToFailure before after (flat_map (styled_line_item style (line_position old)) items)
 
 -- What an endpoint's end mark shows was printed, at this position.
-pub record ShowsMark (role : Role) (limits : Limits) (style : Style) (given : List Entry) (position : Position)
+pub record ShowsMark (role : Role) (limits : Limits) (style : Style) (given : List Entry) (position : EntryPosition)
     (before after : Outgoing) : Type 0 where
   pub items : List LineItem
   pub shows : IsShownOfEntry style.detail limits given (end_mark role) (Mark role) items

@@ -10,7 +10,7 @@ use Rattle.wsn_rules.specs.Summary.{is_close}
 use Rattle.wsn_rules.specs.ShownStream.{Item, event_offset, event_frames, items_of_final}
 use Rattle.wsn_rules.specs.ShownStream.Item.{Event, Head, Unfinished, UnfinishedHead, RefusedFrame}
 use Rattle.wsn_print.specs.declared.shown.ShownEvent.{ShownEvent}
-use Rattle.wsn_print.specs.ShownParts.{Position, position_of, Represents, HasText, HasTextPayload, IsFrontOf, IsEndOf, character_in, item_of_remainder}
+use Rattle.wsn_print.specs.ShownParts.{EntryPosition, position_of, Represents, HasText, HasTextPayload, IsFrontOf, IsEndOf, character_in, item_of_remainder}
 use Rattle.wsn_show.specs.Styles.{styled_items}
 use Rattle.wsn_show.specs.declared.entry_context.EntryContext.{EntryContext}
 use Rattle.wsn_show.specs.declared.shown_item.ShownItem.{ShownItem}
@@ -30,7 +30,7 @@ IsItem n offset (shown.Remainder which bytes) item = (all : List ℕ) × IsFront
     × (item ≡ item_of_remainder which offset all)
 
 -- Where each entry is.
-abbrev pub position_in : EntryContext → Position
+abbrev pub position_in : EntryContext → EntryPosition
 position_in context = position_of context.origin
 
 -- These items were printed after what was printed before, up to a failed write.

@@ -18,7 +18,7 @@ use Rattle.wsn_scan.specs.Scans.{refusal_in}
 use Rattle.wsn_show.specs.declared.entry_context.EntryContext.{EntryContext}
 use Rattle.wsn_show.specs.declared.stream_parts.StreamParts.{StreamParts}
 use Rattle.wsn_show.specs.HeldParts.{HasFirst}
-use Rattle.wsn_show.specs.StreamParts.{Keeps}
+use Rattle.wsn_show.specs.StreamParts.{KeepsStream}
 use Rattle.wsn_scan.specs.FollowedScans.{HasFollowed}
 use Rattle.wsn_show.specs.ShownItems.{Prints}
 
@@ -39,7 +39,7 @@ pub record HasShownFrames (detail : Detail) (role : Role) (limits : Limits) (sca
   pub at : Position
   pub rest : List ℕ
   pub followed : HasFollowed role limits scan came done at rest
-  pub keeps : Keeps parts done at rest
+  pub keeps : KeepsStream parts done at rest
   pub is : shown ≡ shown_so_far detail done at
 
 -- The bytes up to `read` are refused at the last one, whatever follows; this was shown of them and the refusal. The

@@ -4,7 +4,7 @@ ghost use Rattle.wsn_rules.specs.Entries.{Entry};
 ghost use Rattle.wsn_rules.specs.Sides.{sent};
 ghost use Rattle.wsn_print.specs.declared.style.Style.{Style};
 ghost use Rattle.wsn_show.specs.StreamViews.{HasViewed};
-ghost use Rattle.wsn_print.specs.ShownParts.Position.{InLine};
+ghost use Rattle.wsn_print.specs.ShownParts.EntryPosition.{InLine};
 ghost use Rattle.wsn_print.specs.ShownParts.{position_of};
 ghost use Rattle.wsn_capture.specs.CaptureLines.{count_of};
 ghost use Rattle.wsn_show.specs.CaptureViews.{ShowsMark};

@@ -10,7 +10,7 @@ use Rattle.wsn_print.specs.declared.shown.Remainder.TheVariants as remainders
 use Rattle.wsn_print.specs.Fields.{op_word}
 use Rattle.wsn_print.specs.Json.{number_field}
 use Rattle.wsn_print.specs.EscapedText.{quoted}
-use Rattle.wsn_print.specs.ShownParts.{Position, event_of, Represents, remainder_word, item_of_remainder}
+use Rattle.wsn_print.specs.ShownParts.{EntryPosition, event_of, Represents, remainder_word, item_of_remainder}
 use Rattle.wsn_shown_text.specs.ShownText.{event_word, event_size}
 use Rattle.wsn_shown_text.specs.ShownObjects.{object_front, item_object, event_fields, view_fields, reason_field}
 use Rattle.wsn_shown_text.specs.Views.{view_of_bytes}
@@ -58,7 +58,7 @@ represented n shown e frames shows =
     ap (λ (w : List ℕ). event_fields w shown.bytes frames) (word_is shown.op shows.payload ∙ ap event_word (sym shows.is))
     ∙ ap (λ (k : ℕ). event_fields (event_word e) k frames) (shows.size ∙ size_is shown.op shows.payload ∙ ap event_size (sym shows.is))
 
-pub remainder_is : (n : ℕ) (role : Role) (position : Position) (which : Remainder) (offset : ℕ) (all : List ℕ)
+pub remainder_is : (n : ℕ) (role : Role) (position : EntryPosition) (which : Remainder) (offset : ℕ) (all : List ℕ)
     → object_front (remainder_word which) role position ++ ((number_field (codes "offset") offset ++ number_field (codes "bytes") (length all)) ++ (view_fields (view_of_bytes n all) ++ codes "}\n"))
     ≡ item_object n role position (item_of_remainder which offset all)
 remainder_is n role position remainders.Unread offset all =

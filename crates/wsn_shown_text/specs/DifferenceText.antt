@@ -11,7 +11,7 @@ use Rattle.wsn_shown_text.specs.DifferingText.{differ_line, differ_field}
 use Rattle.wsn_print.specs.Json.{field, string_field, number_field}
 use Rattle.wsn_shown_text.specs.ShownText.{offset_of, item_line}
 use Rattle.wsn_shown_text.specs.ShownObjects.{object_front, item_type, item_fields}
-use Rattle.wsn_print.specs.ShownParts.Position.{InStream}
+use Rattle.wsn_print.specs.ShownParts.EntryPosition.{InStream}
 
 -- An event of one of the streams; a dash if it has no more events.
 abbrev pub event_line : ℕ → Role → Option Item → List ℕ

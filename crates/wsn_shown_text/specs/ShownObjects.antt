@@ -11,8 +11,8 @@ use Rattle.wsn_print.specs.Json.{field, string_field, number_field, number_or_nu
 use Rattle.wsn_print.specs.Objects.{refusal_fields, head_fields}
 use Rattle.wsn_shown_text.specs.CharacterText.{character_fields}
 use Rattle.wsn_print.specs.EscapedText.{quoted}
-use Rattle.wsn_print.specs.ShownParts.{Position}
-use Rattle.wsn_print.specs.ShownParts.Position.{InLine, AtEnd, InStream}
+use Rattle.wsn_print.specs.ShownParts.{EntryPosition}
+use Rattle.wsn_print.specs.ShownParts.EntryPosition.{InLine, AtEnd, InStream}
 use Rattle.wsn_shown_text.specs.AsciiText.{ascii_quoted}
 use Rattle.wsn_shown_text.specs.Views.{Shown, PayloadView, EndView, view_of_bytes, view_of_end, view_of_event, view_of_unfinished}
 use Rattle.wsn_shown_text.specs.Views.Shown.{Text, Ascii, Hex, Code, NoCode}
@@ -52,7 +52,7 @@ end_fields end = hex_field end.bytes ++ truncated_field end.more
 -- ---- entries
 
 -- The number of the line.
-abbrev pub line_field : Position → List ℕ
+abbrev pub line_field : EntryPosition → List ℕ
 line_field (InLine number time) = number_field (codes "line") number
 line_field position = []
 
@@ -62,19 +62,19 @@ side_word Client = codes "client"
 side_word Server = codes "server"
 
 -- The key of the time.
-abbrev pub time_key : Position → List ℕ
+abbrev pub time_key : EntryPosition → List ℕ
 time_key InStream = []
 time_key position = codes ",\"time\":"
 
 -- The time as the capture gives it, which is a number; null if there is none.
-abbrev pub time_value : Position → List ℕ
+abbrev pub time_value : EntryPosition → List ℕ
 time_value (InLine number (Some seconds)) = seconds
 time_value (AtEnd (Some seconds)) = seconds
 time_value InStream = []
 time_value position = codes "null"
 
 -- What is in front of each entry: its type, the line, the endpoint and the time.
-abbrev pub object_front : List ℕ → Role → Position → List ℕ
+abbrev pub object_front : List ℕ → Role → EntryPosition → List ℕ
 object_front kind role position =
     codes "{\"type\":\"" ++ kind ++ codes "\"" ++ line_field position ++ string_field (codes "side") (side_word role)
     ++ time_key position ++ time_value position
@@ -95,7 +95,7 @@ item_type (Unread offset bytes) = codes "unread"
 item_type (Tail offset bytes) = codes "tail"
 
 -- A frame of an endpoint's stream.
-abbrev pub shown_frame_object : Role → Position → HeadInfo → List ℕ
+abbrev pub shown_frame_object : Role → EntryPosition → HeadInfo → List ℕ
 shown_frame_object role position head = object_front (codes "frame") role position ++ head_fields head ++ codes "}\n"
 
 -- The members of an item after its offset, with views of at most n bytes. (A frame has all its members by its head.)
@@ -114,14 +114,14 @@ item_fields n (Unread offset bytes) = number_field (codes "bytes") (length bytes
 item_fields n (Tail offset bytes) = number_field (codes "bytes") (length bytes) ++ view_fields (view_of_bytes n bytes)
 
 -- An item of an endpoint's stream.
-abbrev pub item_object : ℕ → Role → Position → Item → List ℕ
+abbrev pub item_object : ℕ → Role → EntryPosition → Item → List ℕ
 item_object n role position (Head info) = shown_frame_object role position info
 item_object n role position item =
     object_front (item_type item) role position ++ number_field (codes "offset") (offset_of item) ++ item_fields n item
     ++ codes "}\n"
 
 -- An endpoint's end mark. The offset is the number of bytes that the endpoint sent.
-abbrev pub end_object : Role → Position → ℕ → List ℕ
+abbrev pub end_object : Role → EntryPosition → ℕ → List ℕ
 end_object role position sent =
     object_front (codes "end") role position ++ number_field (codes "offset") sent ++ codes "}\n"
 

@@ -15,7 +15,7 @@ ghost use Rattle.wsn_rules.specs.Meaning.{Message, Control};
 ghost use Rattle.wsn_rules.specs.ShownStream.Item.{Event, Unfinished, UnfinishedHead, RefusedFrame, Unread, Tail};
 ghost use Rattle.wsn_print.specs.Objects.{verdict_object, frame_object, report_object, comparison_object};
 ghost use Rattle.wsn_shown_text.specs.ShownObjects.{item_object, end_object, shown_frame_object, comment_object};
-ghost use Rattle.wsn_print.specs.ShownParts.Position.{InLine, AtEnd, InStream};
+ghost use Rattle.wsn_print.specs.ShownParts.EntryPosition.{InLine, AtEnd, InStream};
 
 /// The objects of verdicts.
 pub fn of_verdicts()

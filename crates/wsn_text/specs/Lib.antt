@@ -3,5 +3,5 @@ pub mod Utf8
 pub mod CloseBody
 pub mod Rest
 pub mod Validated
-pub mod Piece
+pub mod Chunk
 pub mod Expected

@@ -2,7 +2,7 @@ use Rattle.std.proofs.Common.{◌≡◌, ℕ, ◌++◌, codes, ap, ◌∙◌}
 use Rattle.wsn_rules.specs.ShownStream.Item.{Event}
 use Rattle.wsn_print.specs.Json.{number_field}
 use Rattle.wsn_shown_text.specs.ShownObjects.{object_front, item_fields}
-use Rattle.wsn_print.specs.ShownParts.Position.{InStream}
+use Rattle.wsn_print.specs.ShownParts.EntryPosition.{InStream}
 use Rattle.wsn_print.proofs.Pieces.{first_stops, two_pieces}
 use Rattle.wsn_shown_text.proofs.differences.put_placed_object.Goals as goal
 

@@ -1,4 +1,4 @@
--- The prefix of a piece that belongs to one line.
+-- The prefix of a chunk that belongs to one line.
 use Rattle.std.proofs.Common.{◌≡◌, ℕ, ◌+◌, ◌-◌, ◌<◌, ◌≤◌, inl, inr, List, [], ◌∷◌, ◌++◌, length, take, drop, refl, sym, ap, ◌∙◌, subst, append_assoc, length-append, take-append-drop, arith}
 use Rattle.std.proofs.Math.Seq.{take-add}
 use Rattle.std.proofs.lemmas.List.{length-take-le}
@@ -9,7 +9,7 @@ use Rattle.wsn_rules.specs.Entries.{Entry}
 use Rattle.wsn_print.proofs.HeldParts.{rest_is}
 use Rattle.wsn_capture.specs.LineFaults.{AreAcceptedLines}
 use Rattle.wsn_capture.specs.CaptureAnswers.{IsUnfaulted}
-use Rattle.wsn_capture.specs.SplitLines.{GoesOn, EndsLine}
+use Rattle.wsn_capture.specs.SplitLines.{ContinuesLine, EndsLine}
 use Rattle.wsn_capture.specs.LineSplitters.{HasPassedOn, IsStopAt, IsStopBy, IsStopWithin}
 use Rattle.wsn_capture.proofs.SplitLines.{split_more, no_long, split_line, stop_line, stop_at_most}
 
@@ -21,8 +21,8 @@ last_of (b ∷ []) some = ([], b, refl)
 last_of (b ∷ c ∷ bytes) some = let rest = last_of (c ∷ bytes) (omega arith) in (b ∷ rest.0, rest.1, ap (λ (bs : List ℕ). b ∷ bs) rest.2)
 
 -- what is consumed of the rest next
-pub taken_more : (came piece : List ℕ) (at count : ℕ) → (came ++ take at piece) ++ take count (take (length piece - at) (drop at piece)) ≡ came ++ take (at + count) piece
-taken_more came piece at count = grind (arith, append_assoc, rest_is, take-add)
+pub taken_more : (came chunk : List ℕ) (at count : ℕ) → (came ++ take at chunk) ++ take count (take (length chunk - at) (drop at chunk)) ≡ came ++ take (at + count) chunk
+taken_more came chunk at count = grind (arith, append_assoc, rest_is, take-add)
 
 -- ---- stops
 
@@ -39,7 +39,7 @@ moved same is = record {
   taken = is.taken;
 }
 
--- a stop in the rest of a piece is a stop in the piece
+-- a stop in the rest of a chunk is a stop in the chunk
 stop_after : (limits : Limits) (came front rest : List ℕ) (stop : CaptureStop) → IsStopWithin limits (came ++ front) rest stop → IsStopWithin limits came (front ++ rest) stop
 stop_after limits came front rest stop within =
     let same = append_assoc came front within.earlier in
@@ -53,48 +53,48 @@ stop_after limits came front rest stop within =
       stops = subst (λ (bs : List ℕ). IsStopBy limits (bs ++ within.last ∷ []) stop) same within.stops;
     }
 
-pub stop_in_rest : (limits : Limits) (came piece : List ℕ) (at : ℕ) (stop : CaptureStop) → IsStopWithin limits (came ++ take at piece) (take (length piece - at) (drop at piece)) stop → IsStopWithin limits came piece stop
-stop_in_rest limits came piece at stop within =
-    subst (λ (bs : List ℕ). IsStopWithin limits came bs stop) (ap (λ (bs : List ℕ). take at piece ++ bs) (rest_is at piece) ∙ take-append-drop at piece)
-    (stop_after limits came (take at piece) (take (length piece - at) (drop at piece)) stop within)
+pub stop_in_rest : (limits : Limits) (came chunk : List ℕ) (at : ℕ) (stop : CaptureStop) → IsStopWithin limits (came ++ take at chunk) (take (length chunk - at) (drop at chunk)) stop → IsStopWithin limits came chunk stop
+stop_in_rest limits came chunk at stop within =
+    subst (λ (bs : List ℕ). IsStopWithin limits came bs stop) (ap (λ (bs : List ℕ). take at chunk ++ bs) (rest_is at chunk) ∙ take-append-drop at chunk)
+    (stop_after limits came (take at chunk) (take (length chunk - at) (drop at chunk)) stop within)
 
--- ---- a prefix of a piece
+-- ---- a prefix of a chunk
 
 module _ (limits : Limits) (lines : List (List ℕ)) (begun came : List ℕ) (split : HasPassedOn limits lines begun came) where
   -- it goes on with the line
-  pub goes_on : (after piece : List ℕ) (count : ℕ) → GoesOn begun after piece count → HasPassedOn limits lines after (came ++ take count piece)
-  goes_on after piece count goes = grind (arith, split_more, length-append)
+  pub goes_on : (after chunk : List ℕ) (count : ℕ) → ContinuesLine begun after chunk count → HasPassedOn limits lines after (came ++ take count chunk)
+  goes_on after chunk count goes = grind (arith, split_more, length-append)
 
-  module _ (line piece : List ℕ) (count : ℕ) (ends : EndsLine begun line piece count) where
+  module _ (line chunk : List ℕ) (count : ℕ) (ends : EndsLine begun line chunk count) where
     size : length line ≡ length begun + length ends.bytes
     size = ap (λ (bs : List ℕ). length bs) ends.is ∙ length-append begun ends.bytes
 
     -- it ends the line
-    pub ends_line : (given : List Entry) → AreAcceptedLines limits (lines ++ line ∷ []) given → HasPassedOn limits (lines ++ line ∷ []) [] (came ++ take count piece)
+    pub ends_line : (given : List Entry) → AreAcceptedLines limits (lines ++ line ∷ []) given → HasPassedOn limits (lines ++ line ∷ []) [] (came ++ take count chunk)
     ends_line given consumes = grind (arith, split_line, size, no_long)
 
     -- the line that it ends isn't accepted
-    pub stops_at_line : (stop : CaptureStop) → IsStopAt limits lines line stop → IsStopWithin limits came piece stop
+    pub stops_at_line : (stop : CaptureStop) → IsStopAt limits lines line stop → IsStopWithin limits came chunk stop
     stops_at_line stop stops =
-        let ahead = drop count piece in
+        let ahead = drop count chunk in
         let here = subst (λ (bs : List ℕ). IsStopAt limits lines bs stop) ends.is stops in
         elim ends.ends [
           | inl lf ↦
               subst (λ (bs : List ℕ). IsStopWithin limits came bs stop)
-              (sym (append_assoc ends.bytes (10 ∷ []) ahead) ∙ ap (λ (bs : List ℕ). bs ++ ahead) (sym lf.0) ∙ take-append-drop count piece)
+              (sym (append_assoc ends.bytes (10 ∷ []) ahead) ∙ ap (λ (bs : List ℕ). bs ++ ahead) (sym lf.0) ∙ take-append-drop count chunk)
               (stop_line limits lines begun came split ends.bytes ahead stop ends.in_line (omega (arith, size, lf.1)) here)
           | inr long ↦
               let sizes : length begun + length ends.bytes ≡ 8196 = sym size ∙ long.1 in
               let parts = last_of ends.bytes (omega (arith, sizes, split.short)) in
-              subst (λ (bs : List ℕ). IsStopWithin limits came bs stop) (ap (λ (bs : List ℕ). bs ++ ahead) (sym long.0) ∙ take-append-drop count piece)
+              subst (λ (bs : List ℕ). IsStopWithin limits came bs stop) (ap (λ (bs : List ℕ). bs ++ ahead) (sym long.0) ∙ take-append-drop count chunk)
               (subst (λ (bs : List ℕ). IsLine bs → length begun + length bs ≡ 8196 → IsStopAt limits lines (begun ++ bs) stop → IsStopWithin limits came (bs ++ ahead) stop) (sym parts.2)
               (stop_at_most limits lines begun came split parts.0 parts.1 ahead stop) ends.in_line sizes here)
         ]
 
 -- The line and the bytes consumed are no more than a line may hold.
-pub room_for_line : (begun line piece : List ℕ) (count : ℕ) → count ≤ length piece → EndsLine begun line piece count → length begun + count ≤ 8196
-room_for_line begun line piece count within ends =
-    let size = length-take-le count piece within in
+pub room_for_line : (begun line chunk : List ℕ) (count : ℕ) → count ≤ length chunk → EndsLine begun line chunk count → length begun + count ≤ 8196
+room_for_line begun line chunk count within ends =
+    let size = length-take-le count chunk within in
     let whole = length-append begun ends.bytes in
     let is = ap (λ (bs : List ℕ). length bs) ends.is in
     elim ends.ends [

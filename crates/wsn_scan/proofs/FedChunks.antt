@@ -1,4 +1,4 @@
--- A piece that a scan consumes part by part.
+-- A chunk that a scan consumes part by part.
 use Rattle.std.proofs.Common.{◌≡◌, ℕ, suc, ◌+◌, ◌-◌, ◌<◌, ◌≤◌, List, [], ◌∷◌, ◌++◌, length, take, drop, get_or, sym, ap, ◌∙◌, subst, append_assoc, append-nil, arith, length-drop, take-append-drop}
 use Rattle.std.proofs.Math.Seq.{take-add, drop-append-add}
 use Rattle.std.proofs.lemmas.List.{take_all, length-take-le, drop-append-le}
@@ -25,7 +25,7 @@ after_share at k n xs ys within fits =
     let front : length (take at xs) ≡ at = length-take-le at xs within in
     ap (λ (m : ℕ). drop (m + n) (put_mid at k xs ys)) (sym front) ∙ drop-append-add (take at xs) (ys ++ post_of at k xs) n ∙ drop-append-le n ys (post_of at k xs) fits
 
--- the bytes after the first n of the part stay in the piece
+-- the bytes after the first n of the part stay in the chunk
 pub kept_after : (at k n : ℕ) (xs ys : List ℕ) → at ≤ length xs → n ≤ length (mid_of at k xs) → length ys ≡ length (mid_of at k xs) → drop n ys ≡ drop n (mid_of at k xs)
     → drop (at + n) (put_mid at k xs ys) ≡ drop (at + n) xs
 kept_after at k n xs ys within fits size same =
@@ -45,52 +45,52 @@ same_further at n xs ys in_xs in_ys same = further xs in_xs ∙ ap (drop n) same
 
 -- ---- what the scan has consumed
 
-pub takes_none : (scan : Scan) (piece : List ℕ) → ConsumesPrefix scan scan piece 0 []
-takes_none scan piece role limits bytes heads taken =
-    subst (λ (hs : List HeadInfo). HasScannedBytes role limits scan (bytes ++ take 0 piece) hs) (sym (append-nil heads))
+pub takes_none : (scan : Scan) (chunk : List ℕ) → ConsumesPrefix scan scan chunk 0 []
+takes_none scan chunk role limits bytes heads taken =
+    subst (λ (hs : List HeadInfo). HasScannedBytes role limits scan (bytes ++ take 0 chunk) hs) (sym (append-nil heads))
     (subst (λ (bs : List ℕ). HasScannedBytes role limits scan bs heads) (sym (append-nil bytes)) taken)
 
--- a piece that is consumed in two parts
-pub takes_further : (old mid new : Scan) (piece share : List ℕ) (at n : ℕ) (more heads : List HeadInfo) → share ≡ drop at piece → ConsumesPrefix old mid piece at more → ConsumesPrefix mid new share n heads
-    → ConsumesPrefix old new piece (at + n) (more ++ heads)
-takes_further old mid new piece share at n more next is first second role limits bytes heads taken =
-    let came = second role limits (bytes ++ take at piece) (heads ++ more) (first role limits bytes heads taken) in
-    let joined : (bytes ++ take at piece) ++ take n share ≡ bytes ++ take (at + n) piece =
-    append_assoc bytes (take at piece) (take n share) ∙ ap (λ (bs : List ℕ). bytes ++ (take at piece ++ take n bs)) is ∙ ap (λ (bs : List ℕ). bytes ++ bs) (sym (take-add at n piece)) in
+-- a chunk that is consumed in two parts
+pub takes_further : (old mid new : Scan) (chunk share : List ℕ) (at n : ℕ) (more heads : List HeadInfo) → share ≡ drop at chunk → ConsumesPrefix old mid chunk at more → ConsumesPrefix mid new share n heads
+    → ConsumesPrefix old new chunk (at + n) (more ++ heads)
+takes_further old mid new chunk share at n more next is first second role limits bytes heads taken =
+    let came = second role limits (bytes ++ take at chunk) (heads ++ more) (first role limits bytes heads taken) in
+    let joined : (bytes ++ take at chunk) ++ take n share ≡ bytes ++ take (at + n) chunk =
+    append_assoc bytes (take at chunk) (take n share) ∙ ap (λ (bs : List ℕ). bytes ++ (take at chunk ++ take n bs)) is ∙ ap (λ (bs : List ℕ). bytes ++ bs) (sym (take-add at n chunk)) in
     subst (λ (bs : List ℕ). HasScannedBytes role limits new bs (heads ++ (more ++ next))) joined
-    (subst (λ (hs : List HeadInfo). HasScannedBytes role limits new ((bytes ++ take at piece) ++ take n share) hs) (append_assoc heads more next) came)
+    (subst (λ (hs : List HeadInfo). HasScannedBytes role limits new ((bytes ++ take at chunk) ++ take n share) hs) (append_assoc heads more next) came)
 
 -- the elements after some bytes are bytes
-pub bytes_after : (at : ℕ) (piece : List ℕ) → IsBytes piece → IsBytes (drop at piece)
-bytes_after at piece in_bytes = IsBytes-right (take at piece) (drop at piece) (subst IsBytes (sym (take-append-drop at piece)) in_bytes)
+pub bytes_after : (at : ℕ) (chunk : List ℕ) → IsBytes chunk → IsBytes (drop at chunk)
+bytes_after at chunk in_bytes = IsBytes-right (take at chunk) (drop at chunk) (subst IsBytes (sym (take-append-drop at chunk)) in_bytes)
 
--- ---- a piece so far
+-- ---- a chunk so far
 
--- The scan has consumed the piece up to this byte, and the rest of the piece is unchanged.
-pub record IsFedTo (old scan : Scan) (piece here : List ℕ) (at : ℕ) : Type 0 where
-  pub in_bytes : IsBytes piece
-  pub within : at ≤ length piece
-  pub size : length here ≡ length piece
-  pub kept : drop at here ≡ drop at piece
+-- The scan has consumed the chunk up to this byte, and the rest of the chunk is unchanged.
+pub record IsFedTo (old scan : Scan) (chunk here : List ℕ) (at : ℕ) : Type 0 where
+  pub in_bytes : IsBytes chunk
+  pub within : at ≤ length chunk
+  pub size : length here ≡ length chunk
+  pub kept : drop at here ≡ drop at chunk
   pub room : room_of scan + at ≡ room_of old
-  pub consumes : (more : List HeadInfo) × ConsumesPrefix old scan piece at more
+  pub consumes : (more : List HeadInfo) × ConsumesPrefix old scan chunk at more
 
 -- some bytes further
-pub fed_further : (old scan new : Scan) (piece here after : List ℕ) (at n : ℕ) → IsFedTo old scan piece here at → n ≤ length (mid_of at (length here - at) here)
+pub fed_further : (old scan new : Scan) (chunk here after : List ℕ) (at n : ℕ) → IsFedTo old scan chunk here at → n ≤ length (mid_of at (length here - at) here)
     → length after ≡ length (mid_of at (length here - at) here) → drop n after ≡ drop n (mid_of at (length here - at) here) → room_of new + n ≡ room_of scan
-    → (IsBytes (mid_of at (length here - at) here) → (heads : List HeadInfo) × ConsumesPrefix scan new (mid_of at (length here - at) here) n heads) → IsFedTo old new piece (put_mid at (length here - at) here after) (at + n)
-fed_further old scan new piece here after at n fed fits same_size same room consumes =
+    → (IsBytes (mid_of at (length here - at) here) → (heads : List HeadInfo) × ConsumesPrefix scan new (mid_of at (length here - at) here) n heads) → IsFedTo old new chunk (put_mid at (length here - at) here after) (at + n)
+fed_further old scan new chunk here after at n fed fits same_size same room consumes =
     let share = mid_of at (length here - at) here in
-    let is : share ≡ drop at piece = share_is at here ∙ fed.kept in
+    let is : share ≡ drop at chunk = share_is at here ∙ fed.kept in
     let in_here : at ≤ length here = omega (arith, fed.within, fed.size) in
-    let in_share : IsBytes share = subst IsBytes (sym is) (bytes_after at piece fed.in_bytes) in
-    let size : length share ≡ length (drop at piece) = ap (λ (bs : List ℕ). length bs) is in
+    let in_share : IsBytes share = subst IsBytes (sym is) (bytes_after at chunk fed.in_bytes) in
+    let size : length share ≡ length (drop at chunk) = ap (λ (bs : List ℕ). length bs) is in
     let more = consumes in_share in
     record {
       in_bytes = fed.in_bytes;
-      within = omega (arith, fits, size, length-drop at piece, fed.within);
+      within = omega (arith, fits, size, length-drop at chunk, fed.within);
       size = same_len_mid at (length here - at) here after same_size ∙ fed.size;
-      kept = kept_after at (length here - at) n here after in_here fits same_size same ∙ same_further at n here piece in_here fed.within fed.kept;
+      kept = kept_after at (length here - at) n here after in_here fits same_size same ∙ same_further at n here chunk in_here fed.within fed.kept;
       room = omega (arith, room, fed.room);
-      consumes = (fed.consumes.0 ++ more.0, takes_further old scan new piece share at n fed.consumes.0 more.0 is fed.consumes.1 more.1);
+      consumes = (fed.consumes.0 ++ more.0, takes_further old scan new chunk share at n fed.consumes.0 more.0 is fed.consumes.1 more.1);
     }

@@ -1,4 +1,4 @@
--- What is shown of a piece, call by call.
+-- What is shown of a chunk, call by call.
 use Rattle.std.proofs.Common.{◌≡◌, ℕ, ◌+◌, ◌^◌, ◌<◌, ◌≤◌, None, Some, List, [], ◌++◌, length, take, drop, inl, inr, refl, sym, ap, ◌∙◌, subst, append-nil, append_assoc, arith, length-append, length-drop, take-append-drop}
 use Rattle.std.proofs.Math.Seq.{take-add}
 use Rattle.std.proofs.lemmas.List.{drop_all, length-take-le}
@@ -16,7 +16,7 @@ use Rattle.wsn_show.specs.declared.entry_context.EntryContext.{EntryContext}
 use Rattle.wsn_show.specs.declared.stream_parts.StreamParts.{StreamParts}
 use Rattle.wsn_show.specs.declared.first_bytes.FirstBytes.{FirstBytes}
 use Rattle.wsn_show.specs.HeldParts.{HasFirst}
-use Rattle.wsn_show.specs.StreamParts.{Keeps, rest_at}
+use Rattle.wsn_show.specs.StreamParts.{KeepsStream, rest_at}
 use Rattle.wsn_show.specs.ShownItems.{Prints}
 use Rattle.wsn_show.specs.ShownSoFar.{items_in, HasShownFrames, HasShownRefusal, HasShown, ShowsMore, ShowsFrames}
 use Rattle.wsn_show.proofs.PrintedItems.{prints_nothing, prints_both}
@@ -25,7 +25,7 @@ use Rattle.wsn_show.proofs.FramesSoFar.{items_in-append, nothing_so_far}
 
 -- ---- no bytes
 
-pub nothing_shown : (detail : Detail) (role : Role) (limits : Limits) (scan : Scan) (parts : StreamParts) → HasScanned role limits scan [] [] [] BetweenFrames → Keeps parts [] BetweenFrames [] → HasShown detail role limits scan parts [] []
+pub nothing_shown : (detail : Detail) (role : Role) (limits : Limits) (scan : Scan) (parts : StreamParts) → HasScanned role limits scan [] [] [] BetweenFrames → KeepsStream parts [] BetweenFrames [] → HasShown detail role limits scan parts [] []
 nothing_shown detail role limits scan parts scanned keeps =
     let none = unrefused_first role limits scan [] (record { frames = []; since = []; position = BetweenFrames; has_scanned = scanned; heads_are = refl }) in
     inl (record {
@@ -53,19 +53,19 @@ module _ (role : Role) (limits : Limits) (scan : Scan) (parts : StreamParts) (co
   pub same_frames_shown : HasShownFrames context.style.detail role limits scan parts came shown → ShowsFrames role limits scan parts context old old came shown
   same_frames_shown frames = record { extra = []; frames = subst (HasShownFrames context.style.detail role limits scan parts came) (sym (append-nil shown)) frames; printed = prints_nothing context old }
 
-pub goes_on : (role : Role) (limits : Limits) (mid new : Scan) (mid_parts new_parts : StreamParts) (context : EntryContext) (before between after : Outgoing) (came piece share : List ℕ) (at n : ℕ) (shown : List Shown) → share ≡ drop at piece
-    → ShowsFrames role limits mid mid_parts context before between (came ++ take at piece) shown
-    → ((so_far : List Shown) → HasShownFrames context.style.detail role limits mid mid_parts (came ++ take at piece) so_far → ShowsMore role limits new new_parts context between after ((came ++ take at piece) ++ take n share) so_far)
-    → ShowsMore role limits new new_parts context before after (came ++ take (at + n) piece) shown
-goes_on role limits mid new mid_parts new_parts context before between after came piece share at n shown is first step =
+pub goes_on : (role : Role) (limits : Limits) (mid new : Scan) (mid_parts new_parts : StreamParts) (context : EntryContext) (before between after : Outgoing) (came chunk share : List ℕ) (at n : ℕ) (shown : List Shown) → share ≡ drop at chunk
+    → ShowsFrames role limits mid mid_parts context before between (came ++ take at chunk) shown
+    → ((so_far : List Shown) → HasShownFrames context.style.detail role limits mid mid_parts (came ++ take at chunk) so_far → ShowsMore role limits new new_parts context between after ((came ++ take at chunk) ++ take n share) so_far)
+    → ShowsMore role limits new new_parts context before after (came ++ take (at + n) chunk) shown
+goes_on role limits mid new mid_parts new_parts context before between after came chunk share at n shown is first step =
     let more = step (shown ++ first.extra) first.frames in
-    let joined : (came ++ take at piece) ++ take n share ≡ came ++ take (at + n) piece =
-    append_assoc came (take at piece) (take n share) ∙ ap (λ (bs : List ℕ). came ++ (take at piece ++ take n bs)) is ∙ ap (λ (bs : List ℕ). came ++ bs) (sym (take-add at n piece)) in
+    let joined : (came ++ take at chunk) ++ take n share ≡ came ++ take (at + n) chunk =
+    append_assoc came (take at chunk) (take n share) ∙ ap (λ (bs : List ℕ). came ++ (take at chunk ++ take n bs)) is ∙ ap (λ (bs : List ℕ). came ++ bs) (sym (take-add at n chunk)) in
     let all : (shown ++ first.extra) ++ more.extra ≡ shown ++ (first.extra ++ more.extra) = append_assoc shown first.extra more.extra in
     subst (λ (bs : List ℕ). ShowsMore role limits new new_parts context before after bs shown) joined
-    (let both : ShowsMore role limits new new_parts context before after ((came ++ take at piece) ++ take n share) shown = record {
+    (let both : ShowsMore role limits new new_parts context before after ((came ++ take at chunk) ++ take n share) shown = record {
       extra = first.extra ++ more.extra;
-      has = subst (HasShown context.style.detail role limits new new_parts ((came ++ take at piece) ++ take n share)) all more.has;
+      has = subst (HasShown context.style.detail role limits new new_parts ((came ++ take at chunk) ++ take n share)) all more.has;
       printed = subst (Prints context before after) (sym (items_in-append first.extra more.extra)) (prints_both context before between after (items_in first.extra) (items_in more.extra) first.printed more.printed);
     } in both)
 
@@ -148,18 +148,18 @@ shows_none role limits scan parts first context old came more shown refusal adds
 }
 
 -- The bytes that were read, and then those that weren't.
-pub shows_rest : (role : Role) (limits : Limits) (scan : Scan) (parts : StreamParts) (first : FirstBytes) (context : EntryContext) (old new : Outgoing) (came piece left : List ℕ) (read : ℕ) (shown : List Shown) → AddsTo parts.rest first left → left ≡ drop read piece
-    → (refusal_in scan ≡ None → read ≡ length piece) → read ≤ length piece → length came + length piece < 2 ^ 64 → ShowsMore role limits scan parts context old new (came ++ take read piece) shown
-    → ShowsMore role limits scan (with_first parts first) context old new (came ++ piece) shown
-shows_rest role limits scan parts first context old new came piece left read shown adds is all within small s =
-    let size : length (came ++ take read piece) ≡ length came + length (take read piece) = length-append came (take read piece) in
-    let whole : (came ++ take read piece) ++ left ≡ came ++ piece = append_assoc came (take read piece) left ∙ ap (λ (bs : List ℕ). came ++ (take read piece ++ bs)) is ∙ ap (λ (bs : List ℕ). came ++ bs) (take-append-drop read piece) in
-    let none : refusal_in scan ≡ None → left ≡ [] = λ unrefused. let equal = all unrefused in is ∙ drop_all read piece (omega (arith, equal)) in
-    let few : length (came ++ take read piece) + length left < 2 ^ 64 = omega (arith, size, length-take-le read piece within, ap (λ (bs : List ℕ). length bs) is, length-drop read piece, small, within) in
+pub shows_rest : (role : Role) (limits : Limits) (scan : Scan) (parts : StreamParts) (first : FirstBytes) (context : EntryContext) (old new : Outgoing) (came chunk left : List ℕ) (read : ℕ) (shown : List Shown) → AddsTo parts.rest first left → left ≡ drop read chunk
+    → (refusal_in scan ≡ None → read ≡ length chunk) → read ≤ length chunk → length came + length chunk < 2 ^ 64 → ShowsMore role limits scan parts context old new (came ++ take read chunk) shown
+    → ShowsMore role limits scan (with_first parts first) context old new (came ++ chunk) shown
+shows_rest role limits scan parts first context old new came chunk left read shown adds is all within small s =
+    let size : length (came ++ take read chunk) ≡ length came + length (take read chunk) = length-append came (take read chunk) in
+    let whole : (came ++ take read chunk) ++ left ≡ came ++ chunk = append_assoc came (take read chunk) left ∙ ap (λ (bs : List ℕ). came ++ (take read chunk ++ bs)) is ∙ ap (λ (bs : List ℕ). came ++ bs) (take-append-drop read chunk) in
+    let none : refusal_in scan ≡ None → left ≡ [] = λ unrefused. let equal = all unrefused in is ∙ drop_all read chunk (omega (arith, equal)) in
+    let few : length (came ++ take read chunk) + length left < 2 ^ 64 = omega (arith, size, length-take-le read chunk within, ap (λ (bs : List ℕ). length bs) is, length-drop read chunk, small, within) in
     record {
       extra = s.extra;
       has = subst (λ (bs : List ℕ). HasShown context.style.detail role limits scan (with_first parts first) bs (shown ++ s.extra)) whole
-          (all_longer context.style.detail role limits scan parts first (came ++ take read piece) left (shown ++ s.extra) adds few none s.has);
+          (all_longer context.style.detail role limits scan parts first (came ++ take read chunk) left (shown ++ s.extra) adds few none s.has);
       printed = s.printed;
     }
 

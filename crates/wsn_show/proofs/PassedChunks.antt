@@ -1,4 +1,4 @@
--- A piece of a text and the lines that it ends.
+-- A chunk of a text and the lines that it ends.
 use Rattle.std.proofs.Common.{◌≡◌, ℕ, ◌+◌, ◌-◌, ◌<◌, true, false, List, [], ◌∷◌, ◌++◌, length, take, drop, flat_map, inl, inr, refl, sym, ap, ◌∙◌, subst, append_assoc, append-nil, length-append, length-drop, arith}
 use Rattle.std.proofs.KnownBytes.{Appends-trans}
 use Rattle.std.proofs.lemmas.List.{take-append-drop}
@@ -19,13 +19,13 @@ use Rattle.wsn_capture.specs.declared.capture_stop.CaptureStop.TheVariants as ca
 use Rattle.wsn_capture.specs.LineFaults.{AreAcceptedLines}
 use Rattle.wsn_capture.specs.LineSplitters.{HasPassedOn, IsStopAt, IsStopWithin}
 use Rattle.wsn_capture.proofs.SplitLines.{split_line, line_join, stop_line, stop_at_most, no_long}
-use Rattle.wsn_capture.proofs.PiecePrefixes.{goes_on, stop_in_rest, last_of}
+use Rattle.wsn_capture.proofs.ChunkPrefixes.{goes_on, stop_in_rest, last_of}
 use Rattle.wsn_show.specs.declared.capture_view.CaptureView.{CaptureView}
 use Rattle.wsn_show.specs.declared.showing.ShowStop.{ShowStop}
 use Rattle.wsn_show.specs.declared.showing.ShowStop.TheVariants as stop
 use Rattle.wsn_show.specs.CaptureViews.{ShowsLine}
 use Rattle.wsn_show.specs.Showing.{IsTextOfLines, BeginWithLines, IsPrintedAtLeast, IsTextOf}
-use Rattle.wsn_capture.specs.SplitLines.{GoesOn, EndsLine}
+use Rattle.wsn_capture.specs.SplitLines.{ContinuesLine, EndsLine}
 use Rattle.wsn_show.specs.PassedLines.{HasPrinted, StopsAtLine, StopsWithin}
 
 -- ---- lists
@@ -65,10 +65,10 @@ module _ (limits : Limits) (style : Style) (first : Outgoing) (view : CaptureVie
   text_so_far = record { entries = has.entries; taken = has.has_shown.accepted.taken; shown = has.shown; are = has.are; is = refl }
 
   -- the line goes on
-  pub printed_on : (after piece : List ℕ) (k : ℕ) → GoesOn begun after piece k → HasPrinted limits style first view after now (came ++ take k piece)
-  printed_on after piece k goes = record {
+  pub printed_on : (after chunk : List ℕ) (k : ℕ) → ContinuesLine begun after chunk k → HasPrinted limits style first view after now (came ++ take k chunk)
+  printed_on after chunk k goes = record {
     lines = has.lines;
-    passed = goes_on limits has.lines begun came has.passed after piece k goes;
+    passed = goes_on limits has.lines begun came has.passed after chunk k goes;
     entries = has.entries;
     has_shown = has.has_shown;
     shown = has.shown;
@@ -135,8 +135,8 @@ failed_part before after text failed (inr partly) = partly
 module _ (limits : Limits) (style : Style) (first : Outgoing) (view : CaptureView) (begun : List ℕ) (now : Outgoing) (came : List ℕ)
     (has : HasPrinted limits style first view begun now came) (new : CaptureView) (line bytes : List ℕ) (after : Outgoing) (is : line ≡ begun ++ bytes)
     (in_line : IsLine bytes) where
-  begins : (piece : List ℕ) → BeginWithLines (came ++ piece) has.lines
-  begins piece = inl (begun ++ piece, has.passed.each, ap (λ (bs : List ℕ). bs ++ piece) has.passed.whole ∙ append_assoc (ended has.lines) begun piece)
+  begins : (chunk : List ℕ) → BeginWithLines (came ++ chunk) has.lines
+  begins chunk = inl (begun ++ chunk, has.passed.each, ap (λ (bs : List ℕ). bs ++ chunk) has.passed.whole ∙ append_assoc (ended has.lines) begun chunk)
 
   begins_with : (ahead : List ℕ) → BeginWithLines (came ++ (bytes ++ 10 ∷ ahead)) (has.lines ++ line ∷ [])
   begins_with ahead =
@@ -149,13 +149,13 @@ module _ (limits : Limits) (style : Style) (first : Outgoing) (view : CaptureVie
             ∙ sym (append_assoc (ended lines) (line ++ 10 ∷ []) ahead) ∙ ap (λ (bs : List ℕ). bs ++ ahead) (sym (ended-push lines line)),
       )
 
-  before_line : (piece : List ℕ) (number : ℕ) → number ≡ length has.lines + 1 → after ≡ now
-      → (lines : List (List ℕ)) × (text : List ℕ) × BeginWithLines (came ++ piece) lines × (number ≡ length lines + 1)
+  before_line : (chunk : List ℕ) (number : ℕ) → number ≡ length has.lines + 1 → after ≡ now
+      → (lines : List (List ℕ)) × (text : List ℕ) × BeginWithLines (came ++ chunk) lines × (number ≡ length lines + 1)
       × IsTextOfLines limits style lines text × IsWritten first after text
-  before_line piece number at same = (
+  before_line chunk number at same = (
     has.lines,
     flat_map (styled_line style) has.shown,
-    begins piece,
+    begins chunk,
     at,
     text_so_far limits style first view begun now came has,
     subst (λ (o : Outgoing). IsWritten first o (flat_map (styled_line style) has.shown)) (sym same) has.printed,
@@ -198,31 +198,31 @@ module _ (limits : Limits) (style : Style) (first : Outgoing) (view : CaptureVie
   stops_long ahead (stop.Capture capture.Read) size stops = absurd stops
   stops_long ahead stop.Write size stops = absurd (not_long size stops.0)
 
--- ---- a prefix of a piece
+-- ---- a prefix of a chunk
 
 pub whole_part : (before after : Outgoing) (text : List ℕ) → after.failed ≡ false → IsWrittenUpToFailure before after text → IsWritten before after text
 whole_part before after text works (inl written) = written
 whole_part before after text works (inr partly) = let both : true ≡ false = sym partly.0 ∙ works in cc
 
 module _ (limits : Limits) (style : Style) (first : Outgoing) (view : CaptureView) (begun : List ℕ) (now : Outgoing) (came : List ℕ)
-    (has : HasPrinted limits style first view begun now came) (new : CaptureView) (line : List ℕ) (after : Outgoing) (piece : List ℕ) (k : ℕ)
-    (ends : EndsLine begun line piece k) where
-  pub stops_in : (s : ShowStop) → StopsAtLine limits style new has.lines has.entries line now after s → StopsWithin limits style first after came piece s
+    (has : HasPrinted limits style first view begun now came) (new : CaptureView) (line : List ℕ) (after : Outgoing) (chunk : List ℕ) (k : ℕ)
+    (ends : EndsLine begun line chunk k) where
+  pub stops_in : (s : ShowStop) → StopsAtLine limits style new has.lines has.entries line now after s → StopsWithin limits style first after came chunk s
   stops_in s stops =
-      let ahead = drop k piece in
+      let ahead = drop k chunk in
       elim ends.ends [
         | inl lf ↦
             subst (λ (bs : List ℕ). StopsWithin limits style first after came bs s)
-            (sym (append_assoc ends.bytes (10 ∷ []) ahead) ∙ ap (λ (bs : List ℕ). bs ++ ahead) (sym lf.0) ∙ take-append-drop k piece)
+            (sym (append_assoc ends.bytes (10 ∷ []) ahead) ∙ ap (λ (bs : List ℕ). bs ++ ahead) (sym lf.0) ∙ take-append-drop k chunk)
             (stops_lf limits style first view begun now came has new line ends.bytes after ends.is ends.in_line ahead s lf.1 stops)
         | inr long ↦
             subst (λ (bs : List ℕ). StopsWithin limits style first after came bs s)
-            (ap (λ (bs : List ℕ). bs ++ ahead) (sym long.0) ∙ take-append-drop k piece)
+            (ap (λ (bs : List ℕ). bs ++ ahead) (sym long.0) ∙ take-append-drop k chunk)
             (stops_long limits style first view begun now came has new line ends.bytes after ends.is ends.in_line ahead s long.1 stops)
       ]
 
   pub printed_in : ShowsLine limits style new has.lines has.entries line now after → after.failed ≡ false
-      → HasPrinted limits style first new [] after (came ++ take k piece)
+      → HasPrinted limits style first new [] after (came ++ take k chunk)
   printed_in shows works =
       elim ends.ends [
         | inl lf ↦
@@ -232,27 +232,27 @@ module _ (limits : Limits) (style : Style) (first : Outgoing) (view : CaptureVie
         | inr long ↦ absurd (not_long limits style first view begun now came has new line ends.bytes after ends.is ends.in_line long.1 shows)
       ]
 
--- ---- the rest of a piece
+-- ---- the rest of a chunk
 
-rest_whole : (came piece : List ℕ) (at : ℕ) → (came ++ take at piece) ++ take (length piece - at) (drop at piece) ≡ came ++ piece
-rest_whole came piece at =
-    append_assoc came (take at piece) (take (length piece - at) (drop at piece))
-    ∙ ap (λ (bs : List ℕ). came ++ (take at piece ++ bs)) (rest_is at piece) ∙ ap (λ (bs : List ℕ). came ++ bs) (take-append-drop at piece)
+rest_whole : (came chunk : List ℕ) (at : ℕ) → (came ++ take at chunk) ++ take (length chunk - at) (drop at chunk) ≡ came ++ chunk
+rest_whole came chunk at =
+    append_assoc came (take at chunk) (take (length chunk - at) (drop at chunk))
+    ∙ ap (λ (bs : List ℕ). came ++ (take at chunk ++ bs)) (rest_is at chunk) ∙ ap (λ (bs : List ℕ). came ++ bs) (take-append-drop at chunk)
 
-pub stops_in_rest : (limits : Limits) (style : Style) (first now : Outgoing) (came piece : List ℕ) (at : ℕ) (s : ShowStop)
-    → StopsWithin limits style first now (came ++ take at piece) (take (length piece - at) (drop at piece)) s → StopsWithin limits style first now came piece s
-stops_in_rest limits style first now came piece at (stop.Capture (capture.Line number fault)) (within, (lines, text, begins, at_line, is, written)) = (
-  stop_in_rest limits came piece at (capture.Line number fault) within,
-  (lines, text, subst (λ (bs : List ℕ). BeginWithLines bs lines) (rest_whole came piece at) begins, at_line, is, written),
+pub stops_in_rest : (limits : Limits) (style : Style) (first now : Outgoing) (came chunk : List ℕ) (at : ℕ) (s : ShowStop)
+    → StopsWithin limits style first now (came ++ take at chunk) (take (length chunk - at) (drop at chunk)) s → StopsWithin limits style first now came chunk s
+stops_in_rest limits style first now came chunk at (stop.Capture (capture.Line number fault)) (within, (lines, text, begins, at_line, is, written)) = (
+  stop_in_rest limits came chunk at (capture.Line number fault) within,
+  (lines, text, subst (λ (bs : List ℕ). BeginWithLines bs lines) (rest_whole came chunk at) begins, at_line, is, written),
 )
-stops_in_rest limits style first now came piece at (stop.Capture capture.Read) stops = absurd stops
-stops_in_rest limits style first now came piece at stop.Write ((text, is, partly), but) = (
-  (text, subst (λ (bs : List ℕ). IsTextOf limits style bs text) (rest_whole came piece at) is, partly),
+stops_in_rest limits style first now came chunk at (stop.Capture capture.Read) stops = absurd stops
+stops_in_rest limits style first now came chunk at stop.Write ((text, is, partly), but) = (
+  (text, subst (λ (bs : List ℕ). IsTextOf limits style bs text) (rest_whole came chunk at) is, partly),
   record {
     done = but.done;
     last = but.last;
-    whole = sym (rest_whole came piece at) ∙ but.whole;
-    short = let size = ap (λ (bs : List ℕ). length bs) (rest_is at piece) ∙ length-drop at piece in let most = but.short in omega (arith, size, most);
+    whole = sym (rest_whole came chunk at) ∙ but.whole;
+    short = let size = ap (λ (bs : List ℕ). length bs) (rest_is at chunk) ∙ length-drop at chunk in let most = but.short in omega (arith, size, most);
     printed = but.printed;
   },
 )

@@ -1,4 +1,4 @@
--- What is kept between the parts of frames, and what a part becomes.
+-- What a part of a frame becomes, and what is kept between the parts.
 use Rattle.std.specs.Prelude.{◌≡◌, ◌≢◌, ℕ, ◌+◌, ◌-◌, ◌≤◌, ◌⊎◌, ◌↔◌, Bool, true, false, not, Option, Some, List, [], ◌∷◌, ◌++◌, length, take, drop, if◌then◌else◌}
 use Rattle.wsn_wire.specs.declared.endpoint.Role.{Role}
 use Rattle.wsn_wire.specs.declared.opcode.Op.{Op}
@@ -211,8 +211,8 @@ pub record IsRunningFor (n : ℕ) (scan : Scan) (kept : Redactor) : Type 0 where
   pub has_redacted : HasRedacted role limits scan kept came written
   pub within : length came + n ≤ limits.input
 
--- Whatever came before, this is written for the first n bytes of the piece.
+-- Whatever came before, this is written for the first n bytes of the chunk.
 abbrev pub RedactsOn : Scan → Redactor → Scan → Redactor → List ℕ → List ℕ → ℕ → Type 0
-RedactsOn scan kept next next_kept piece after n =
+RedactsOn scan kept next next_kept chunk after n =
     (role : Role) (limits : Limits) (came written : List ℕ) → HasRedacted role limits scan kept came written →
-    HasRedacted role limits next next_kept (came ++ take n piece) (written ++ take n after)
+    HasRedacted role limits next next_kept (came ++ take n chunk) (written ++ take n after)
