@@ -1,10 +1,9 @@
 //! Hints on captures in which a Close accuses the other endpoint.
 
-use std::process::Abort;
-use wsn_capture::{CaptureReport, RefusedLines, Tails};
+use crate::hints::{answer_with, greatest, style};
+use wsn_capture::Tails;
 use wsn_cli::{Answer, Charge, Format, Hint, Job, accusing_hint_of, hint_on_run};
-use wsn_print::{Style, ViewLimit};
-use wsn_rules::{Detail, INPUT_MAX, Limits, MESSAGE_MAX, Outcome, Refusal, Report, Side};
+use wsn_rules::{Outcome, Refusal, Report, Side};
 use wsn_wire::{Reason, Role};
 
 /// What became of the client's and of the server's stream, whose Close was first, and the hint. Both Closes have the same
@@ -99,23 +98,12 @@ fn a_close_accuses_an_endpoint_that_is_not_refused(rt: HostRuntime) {
     }
 }
 
-fn limits(rt: &impl Abort) -> Limits {
-    Limits::new(MESSAGE_MAX, INPUT_MAX).expect(rt, "limits in range")
-}
-
 /// `show` and `closing` have the hint, after those on a handshake and on bytes after a Close, which are reasons.
 #[test]
 fn a_report_has_a_hint_on_an_accusation(rt: HostRuntime) {
-    let closing: Job = Job::Closing(limits(&rt), Format::Text);
-    let json: Job = Job::Closing(limits(&rt), Format::Json);
-    let show: Job = Job::Show(
-        limits(&rt),
-        Style {
-            view: ViewLimit::new(48).expect(&rt, "a view in range"),
-            detail: Detail::Events,
-            format: Format::Text,
-        },
-    );
+    let closing: Job = Job::Closing(greatest(&rt), Format::Text);
+    let json: Job = Job::Closing(greatest(&rt), Format::Json);
+    let show: Job = Job::Show(greatest(&rt), style(&rt, Format::Text));
     let accuses = ROWS[0].3;
     for (text, server, shown, closed) in [
         ("S 8900\nC 88820000000003ea\n", 0, accuses, accuses),
@@ -132,14 +120,7 @@ fn a_report_has_a_hint_on_an_accusation(rt: HostRuntime) {
             Some(Hint::AfterClose(Role::Server)),
         ),
     ] {
-        let answer = Answer::Report(CaptureReport {
-            report: report(&ROWS[0]),
-            tails: Tails { client: 0, server },
-            refused: RefusedLines {
-                client: None,
-                server: None,
-            },
-        });
+        let answer = answer_with(report(&ROWS[0]), Tails { client: 0, server });
         let first = text.as_bytes();
         assert_eq!(rt; hint_on_run(&show, None, first, answer), shown, "{text}");
         assert_eq!(rt;
@@ -148,15 +129,7 @@ fn a_report_has_a_hint_on_an_accusation(rt: HostRuntime) {
             "{text}"
         );
         assert_eq!(rt; hint_on_run(&json, None, first, answer), None);
-        assert_eq!(rt;
-            hint_on_run(&closing, None, first, Answer::Other),
-            {
-                if shown == Some(Hint::WrongHandshake) {
-                    shown
-                } else {
-                    None
-                }
-            }
-        );
+        let other = shown.filter(|hint| *hint == Hint::WrongHandshake);
+        assert_eq!(rt; hint_on_run(&closing, None, first, Answer::Other), other);
     }
 }
