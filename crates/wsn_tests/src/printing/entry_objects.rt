@@ -4,12 +4,11 @@ use crate::printing::reading::{expect_none, expect_object};
 use std::alloc::Global;
 use std::process::Abort;
 use wsn_io::Output;
-use wsn_print::{EntryFront, HeldBytes, Origin, Remainder, ShownCharacter, ShownEvent, ViewLimit};
-use wsn_rules::{HeadInfo, Refusal};
-use wsn_shown_text::{
-    put_comment_object, put_end_object, put_event_object, put_refused_object, put_remainder_object,
-    put_shown_frame_object, put_unfinished_head_object, put_unfinished_object,
+use wsn_print::{
+    EntryFront, Format, HeldBytes, Origin, Remainder, ShownCharacter, ShownEvent, ViewLimit,
 };
+use wsn_rules::{HeadInfo, Refusal};
+use wsn_shown_text::{ShownItem, put_comment_as, put_end_as, put_entry};
 use wsn_wire::{Form, Op, Reason, Role};
 
 /// In line 1 of a capture, with a time.
@@ -60,7 +59,14 @@ fn a_text(rt: HostRuntime) {
     let view = ViewLimit::new(48).expect(&rt, "a view");
     let mut line = Vec::new(rt.alloc());
     let event = event_of(Op::Text, b"a\"\\\n\xe2\x82\xac");
-    let put = put_event_object(&mut Output::new(&mut line), view, &IN_LINE, &event);
+    let item = ShownItem::Event(event);
+    let put = put_entry(
+        &mut Output::new(&mut line),
+        Format::Json,
+        view,
+        &IN_LINE,
+        &item,
+    );
     assert_eq!(rt; put, Ok(()));
     let members = [
         ("/type", "\"event\""),
@@ -81,7 +87,14 @@ fn a_text_that_is_cut_off(rt: HostRuntime) {
     let view = ViewLimit::new(2).expect(&rt, "a view");
     let mut line = Vec::new(rt.alloc());
     let event = event_of(Op::Text, b"Hello");
-    let put = put_event_object(&mut Output::new(&mut line), view, &IN_STREAM, &event);
+    let item = ShownItem::Event(event);
+    let put = put_entry(
+        &mut Output::new(&mut line),
+        Format::Json,
+        view,
+        &IN_STREAM,
+        &item,
+    );
     assert_eq!(rt; put, Ok(()));
     let members = [("/text", "\"He\""), ("/truncated", "true")];
     expect_object(&rt, rt.alloc(), line.as_slice(), 8, &members);
@@ -94,7 +107,14 @@ fn a_close(rt: HostRuntime) {
     let view = ViewLimit::new(48).expect(&rt, "a view");
     let mut line = Vec::new(rt.alloc());
     let event = event_of(Op::Close, b"\x03\xe8bye");
-    let put = put_event_object(&mut Output::new(&mut line), view, &IN_LINE, &event);
+    let item = ShownItem::Event(event);
+    let put = put_entry(
+        &mut Output::new(&mut line),
+        Format::Json,
+        view,
+        &IN_LINE,
+        &item,
+    );
     assert_eq!(rt; put, Ok(()));
     let members = [
         ("/event", "\"close\""),
@@ -109,12 +129,13 @@ fn an_unfinished_message(rt: HostRuntime) {
     let view = ViewLimit::new(4).expect(&rt, "a view");
     let mut line = Vec::new(rt.alloc());
     let event = event_of(Op::Binary, b"\x00\xff\x00");
-    let put = put_unfinished_object(
+    let item = ShownItem::Unfinished(event, Some(144));
+    let put = put_entry(
         &mut Output::new(&mut line),
+        Format::Json,
         view,
         &AT_END,
-        &event,
-        Some(144),
+        &item,
     );
     assert_eq!(rt; put, Ok(()));
     let members = [
@@ -131,8 +152,16 @@ fn an_unfinished_message(rt: HostRuntime) {
 
 #[test]
 fn an_unfinished_head(rt: HostRuntime) {
+    let view = ViewLimit::new(48).expect(&rt, "a view");
     let mut line = Vec::new(rt.alloc());
-    let put = put_unfinished_head_object(&mut Output::new(&mut line), &AT_END);
+    let item = ShownItem::UnfinishedHead;
+    let put = put_entry(
+        &mut Output::new(&mut line),
+        Format::Json,
+        view,
+        &AT_END,
+        &item,
+    );
     assert_eq!(rt; put, Ok(()));
     let members = [
         ("/type", "\"unfinished\""),
@@ -153,14 +182,13 @@ fn a_refusal(rt: HostRuntime) {
         place: 4,
         reason: Reason::MaskPresent,
     };
-    let evidence = whole(b"\x81\x80\xff");
-    let put = put_refused_object(
+    let item = ShownItem::Refused(refusal, whole(b"\x81\x80\xff"), None);
+    let put = put_entry(
         &mut Output::new(&mut line),
+        Format::Json,
         view,
         &IN_LINE,
-        &refusal,
-        &evidence,
-        &None,
+        &item,
     );
     assert_eq!(rt; put, Ok(()));
     let members = [
@@ -197,13 +225,14 @@ fn expect_bad_character(
         bytes: b"\xe9 ",
         earlier: b"",
     };
-    let put = put_refused_object(
+    let evidence = whole(b"{\"name\":\"Ren\xe9 ");
+    let item = ShownItem::Refused(refusal, evidence, Some(character));
+    let put = put_entry(
         &mut Output::new(&mut line),
+        Format::Json,
         view,
         &IN_STREAM,
-        &refusal,
-        &whole(b"{\"name\":\"Ren\xe9 "),
-        &Some(character),
+        &item,
     );
     assert_eq!(rt; put, Ok(()));
     expect_object(rt, alloc, line.as_slice(), count, members);
@@ -252,8 +281,14 @@ fn bytes_in_no_frame(rt: HostRuntime) {
         (Remainder::Tail, "\"tail\""),
     ] {
         let mut line = Vec::new(rt.alloc());
-        let bytes = whole(b"\xdf\x65");
-        let put = put_remainder_object(&mut Output::new(&mut line), view, &AT_END, which, &bytes);
+        let item = ShownItem::Remainder(which, whole(b"\xdf\x65"));
+        let put = put_entry(
+            &mut Output::new(&mut line),
+            Format::Json,
+            view,
+            &AT_END,
+            &item,
+        );
         assert_eq!(rt; put, Ok(()));
         let members = [("/type", kind), ("/bytes", "2"), ("/hex", "\"df65\"")];
         expect_object(&rt, rt.alloc(), line.as_slice(), 6, &members);
@@ -263,7 +298,7 @@ fn bytes_in_no_frame(rt: HostRuntime) {
 #[test]
 fn an_end_mark_and_a_comment(rt: HostRuntime) {
     let mut line = Vec::new(rt.alloc());
-    let put = put_end_object(&mut Output::new(&mut line), &IN_LINE);
+    let put = put_end_as(&mut Output::new(&mut line), Format::Json, &IN_LINE);
     assert_eq!(rt; put, Ok(()));
     let members = [("/type", "\"end\""), ("/offset", "3")];
     expect_object(&rt, rt.alloc(), line.as_slice(), 5, &members);
@@ -274,7 +309,7 @@ fn an_end_mark_and_a_comment(rt: HostRuntime) {
         (b"# \xfe".as_slice(), "/hex", "\"20fe\""),
     ] {
         let mut line = Vec::new(rt.alloc());
-        let put = put_comment_object(&mut Output::new(&mut line), 2, text);
+        let put = put_comment_as(&mut Output::new(&mut line), Format::Json, 2, text);
         assert_eq!(rt; put, Ok(()));
         let members = [("/type", "\"comment\""), ("/line", "2"), (key, shown)];
         expect_object(&rt, rt.alloc(), line.as_slice(), 3, &members);
@@ -291,9 +326,16 @@ fn a_frame(rt: HostRuntime) {
         form: Form::Shortest,
         len: 0,
     };
+    let view = ViewLimit::new(48).expect(&rt, "a view");
     let mut line = Vec::new(rt.alloc());
-    let mut output = Output::new(&mut line);
-    let put = put_shown_frame_object(&mut output, Role::Client, &IN_LINE.origin, &head);
+    let item = ShownItem::Frame(head);
+    let put = put_entry(
+        &mut Output::new(&mut line),
+        Format::Json,
+        view,
+        &IN_LINE,
+        &item,
+    );
     assert_eq!(rt; put, Ok(()));
     let members = [
         ("/type", "\"frame\""),

@@ -5,10 +5,8 @@ use std::alloc::{AllocError, Global};
 use std::process::Abort;
 use std::str;
 use wsn_io::Output;
-use wsn_print::{EntryFront, Front, Origin, ShownEvent, ViewLimit, put_comment};
-use wsn_shown_text::{
-    put_comment_object, put_event, put_event_object, put_unfinished, put_unfinished_object,
-};
+use wsn_print::{EntryFront, Format, Origin, ShownEvent, ViewLimit, put_comment};
+use wsn_shown_text::{ShownItem, put_comment_as, put_entry};
 use wsn_wire::{Op, Role};
 
 /// Characters that are escaped, and others whose bytes are like theirs.
@@ -203,7 +201,12 @@ fn expect_comment(rt: &impl Abort, alloc: Global, text: &str) {
         .extend_from_slice(text.as_bytes())
         .expect(rt, "memory");
     assert_eq!(rt;
-        put_comment_object(&mut Output::new(&mut object), 7, comment.as_slice()),
+        put_comment_as(
+            &mut Output::new(&mut object),
+            Format::Json,
+            7,
+            comment.as_slice()
+        ),
         Ok(())
     );
     let front = b"{\"type\":\"comment\",\"line\":7,\"text\":\"";
@@ -224,14 +227,21 @@ fn expect_view(rt: &impl Abort, alloc: Global, text: &str, most: u16) {
         held: bytes,
     };
     let is_cut = shown.len() < bytes.len();
-    let front = Front {
+    let front = EntryFront {
         role: Role::Server,
-        time: None,
+        origin: Origin::Stream,
         offset: 0,
     };
+    let item = ShownItem::Event(event);
     let mut line = Vec::new(alloc);
     assert_eq!(rt;
-        put_event(&mut Output::new(&mut line), view, &front, &event),
+        put_entry(
+            &mut Output::new(&mut line),
+            Format::Text,
+            view,
+            &front,
+            &item
+        ),
         Ok(())
     );
     let end: &[u8] = if is_cut { b"\" ..\n" } else { b"\"\n" };
@@ -241,14 +251,15 @@ fn expect_view(rt: &impl Abort, alloc: Global, text: &str, most: u16) {
         is_dash || line.as_slice().ends_with(expected.as_slice()),
         "{text} {most}"
     );
-    let front = EntryFront {
-        role: Role::Server,
-        origin: Origin::Stream,
-        offset: 0,
-    };
     let mut object = Vec::new(alloc);
     assert_eq!(rt;
-        put_event_object(&mut Output::new(&mut object), view, &front, &event),
+        put_entry(
+            &mut Output::new(&mut object),
+            Format::Json,
+            view,
+            &front,
+            &item
+        ),
         Ok(())
     );
     let end: &[u8] = if is_cut {
@@ -281,14 +292,15 @@ fn expect_unfinished(rt: &impl Abort, alloc: Global, text: &str, count: usize) {
         origin: Origin::Stream,
         offset: 0,
     };
+    let item = ShownItem::Unfinished(event, Some(7));
     let mut line = Vec::new(alloc);
     assert_eq!(rt;
-        put_unfinished(
+        put_entry(
             &mut Output::new(&mut line),
+            Format::Text,
             view,
-            &front.of_line(),
-            &event,
-            Some(7)
+            &front,
+            &item
         ),
         Ok(())
     );
@@ -300,7 +312,13 @@ fn expect_unfinished(rt: &impl Abort, alloc: Global, text: &str, count: usize) {
     );
     let mut object = Vec::new(alloc);
     assert_eq!(rt;
-        put_unfinished_object(&mut Output::new(&mut object), view, &front, &event, Some(7)),
+        put_entry(
+            &mut Output::new(&mut object),
+            Format::Json,
+            view,
+            &front,
+            &item
+        ),
         Ok(())
     );
     let end: &[u8] = if is_cut {

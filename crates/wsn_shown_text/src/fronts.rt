@@ -1,0 +1,144 @@
+//! What is in front of an entry's offset: the endpoint and the time, and in an object the type and the line.
+ghost use Rattle.std.specs.Prelude.{◌≡◌, ◌+◌, ◌≤◌, ◌++◌, false, codes, length};
+ghost use Rattle.wsn_io.specs.Stops.{IsWrittenOrStops};
+ghost use Rattle.wsn_print.specs.Json.{string_field};
+ghost use Rattle.wsn_print.specs.ShownParts.{time_of, time_at, position_of};
+ghost use Rattle.wsn_shown_text.specs.ShownText.{role_letter, time_text};
+ghost use Rattle.wsn_shown_text.specs.ShownObjects.{object_front, line_field, side_word, time_key, time_value};
+ghost use Rattle.wsn_shown_text.specs.EntryFormats.{front_in};
+
+use std::io::Write;
+use wsn_io::{Output, Stop, put_line};
+use wsn_print::{EntryFront, Format, Front, Line, Origin, push_number_field, push_string_field};
+use wsn_wire::Role;
+
+/// The space for what is in front of a time in bytes, with a number of twenty digits.
+const FRONT_MAX: usize = 100;
+
+/// Writes what is in front of an entry's offset.
+#[inline(always)]
+pub(crate) fn put_front<W: Write>(
+    to: &mut Output<W>,
+    format: Format,
+    kind: &str,
+    front: &EntryFront<'_>,
+) -> Result<(), Stop>
+    requires writable { to.old.failed ≡ false }
+    requires short { length kind.now ≤ 10 }
+    ensures { IsWrittenOrStops to.old to.new
+        (front_in format kind.now front.now.role (position_of front.now.origin)) result }
+{
+    match format {
+        Format::Text => put_side(to, front),
+        Format::Json => put_object_front(to, kind, front),
+    }
+}
+
+/// Writes which endpoint an entry is about, and when.
+pub(crate) fn put_side<W: Write>(to: &mut Output<W>, front: &EntryFront<'_>) -> Result<(), Stop>
+    requires { to.old.failed ≡ false }
+    ensures { IsWrittenOrStops to.old to.new
+        (role_letter front.now.role ++ codes " " ++ time_text (time_at (position_of front.now.origin))) result }
+{
+    put_endpoint(to, &front.of_line())
+}
+
+fn put_endpoint<W: Write>(to: &mut Output<W>, front: &Front<'_>) -> Result<(), Stop>
+    requires { to.old.failed ≡ false }
+    ensures { IsWrittenOrStops to.old to.new
+        (role_letter front.now.role ++ codes " " ++ time_text (time_of front.now)) result }
+{
+    let Some(seconds) = front.time else {
+        return put_line(to, untimed(front.role));
+    };
+    put_line(to, letter_of(front.role))?;
+    put_line(to, seconds)
+}
+
+fn letter_of(role: Role) -> &'static [u8]
+    ensures { result.now ≡ role_letter role ++ codes " " }
+{
+    match role {
+        Role::Client => b"C ",
+        Role::Server => b"S ",
+    }
+}
+
+fn untimed(role: Role) -> &'static [u8]
+    ensures { result.now ≡ role_letter role ++ codes " -" }
+{
+    match role {
+        Role::Client => b"C -",
+        Role::Server => b"S -",
+    }
+}
+
+fn put_object_front<W: Write>(
+    to: &mut Output<W>,
+    kind: &str,
+    front: &EntryFront<'_>,
+) -> Result<(), Stop>
+    requires writable { to.old.failed ≡ false }
+    requires short { length kind.now ≤ 10 }
+    ensures { IsWrittenOrStops to.old to.new
+        (object_front kind.now front.now.role (position_of front.now.origin)) result }
+{
+    put_line(to, line_of_front(kind, front.role, &front.origin).bytes())?;
+    put_line(to, seconds_of(&front.origin))
+}
+
+/// What is in front of an entry's time.
+fn line_of_front(kind: &str, role: Role, origin: &Origin<'_>) -> Line<FRONT_MAX>
+    requires { length kind.now ≤ 10 }
+    ensures { result ≡ codes "{\"type\":\"" ++ kind.now ++ codes "\"" ++ line_field (position_of origin.now)
+        ++ string_field (codes "side") (side_word role) ++ time_key (position_of origin.now) }
+{
+    let mut line = Line::new();
+    line.push("{\"type\":\"");
+    line.push(kind);
+    line.push("\"");
+    push_line_number(&mut line, origin);
+    push_string_field(&mut line, "side", side_word(role));
+    line.push(time_key(origin));
+    line
+}
+
+fn push_line_number(line: &mut Line<FRONT_MAX>, origin: &Origin<'_>)
+    requires { length line.old + 28 ≤ FRONT_MAX }
+    ensures text { line.new ≡ line.old ++ line_field (position_of origin.now) }
+    ensures len { length line.new ≤ length line.old + 28 }
+{
+    match origin {
+        Origin::Line { number, .. } => push_number_field(line, "line", u64::from(*number)),
+        Origin::End { .. } | Origin::Stream => {}
+    }
+}
+
+fn side_word(role: Role) -> &'static str
+    ensures word { result.now ≡ side_word role }
+    ensures short { length result.now ≤ 6 }
+{
+    match role {
+        Role::Client => "client",
+        Role::Server => "server",
+    }
+}
+
+fn time_key(origin: &Origin<'_>) -> &'static str
+    ensures word { result.now ≡ time_key (position_of origin.now) }
+    ensures short { length result.now ≤ 8 }
+{
+    match origin {
+        Origin::Line { .. } | Origin::End { .. } => ",\"time\":",
+        Origin::Stream => "",
+    }
+}
+
+fn seconds_of<'a>(origin: &Origin<'a>) -> &'a [u8]
+    ensures { result.now ≡ time_value (position_of origin.now) }
+{
+    match origin {
+        Origin::Line { time, .. } | Origin::End { time } => time.unwrap_or(b"null"),
+        Origin::Stream => b"",
+    }
+}
