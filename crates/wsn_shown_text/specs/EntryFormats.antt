@@ -1,5 +1,5 @@
 -- What is printed in each format of streams and captures, with its LF.
-use Rattle.std.specs.Prelude.{ℕ, List, [], ◌++◌, flat_map, codes, decimal}
+use Rattle.std.specs.Prelude.{ℕ, Option, None, Some, List, [], ◌++◌, flat_map, codes, decimal}
 use Rattle.wsn_wire.specs.declared.endpoint.Role.{Role}
 use Rattle.wsn_rules.specs.ShownStream.{Item}
 use Rattle.wsn_rules.specs.ShownCapture.{LineItem, ShownLine}
@@ -47,6 +47,16 @@ line_entries format n shown = flat_map (line_item_entry format n (InLine shown.n
 abbrev pub front_in : Format → List ℕ → Role → Position → List ℕ
 front_in Text kind role position = role_letter role ++ codes " " ++ time_text (time_at position)
 front_in Json kind role position = object_front kind role position
+
+-- What is in front of an entry that has a time, which is written by itself.
+abbrev pub if_timed : Option (List ℕ) → List ℕ → List ℕ
+if_timed (Some seconds) front = front
+if_timed None front = []
+
+-- What is in front of any other, which is in one line with its fields.
+abbrev pub if_untimed : Option (List ℕ) → List ℕ → List ℕ
+if_untimed (Some seconds) front = []
+if_untimed None front = front
 
 -- The offset.
 abbrev pub offset_in : Format → ℕ → List ℕ

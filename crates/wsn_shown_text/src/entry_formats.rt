@@ -5,7 +5,7 @@ ghost use Rattle.wsn_print.specs.ShownParts.{position_of};
 ghost use Rattle.wsn_shown_text.specs.EntryFormats.{end_entry, comment_entry};
 ghost use Rattle.wsn_shown_text.specs.ShownObjects.{comment_field, comment_object};
 
-use crate::fields::{FIELDS_MAX, push_end_mark};
+use crate::fields::{ENTRY_MAX, push_end_mark};
 use crate::fronts::put_front;
 use crate::object_views::{put_hex_field, put_text_field};
 use std::io::Write;
@@ -27,7 +27,7 @@ pub fn put_end_as<W: Write>(
     ensures { IsWrittenOrStops to.old to.new
         (end_entry format front.now.role (position_of front.now.origin) front.now.offset) result }
 {
-    let mut line = Line::<FIELDS_MAX>::new();
+    let mut line = Line::<ENTRY_MAX>::new();
     push_end_mark(&mut line, format, front.offset);
     put_front(to, format, "end", front)?;
     put_line(to, line.bytes())

@@ -12,18 +12,18 @@ use wsn_print::{
 };
 use wsn_rules::{HeadInfo, Refusal};
 
-/// The space for the fields of an entry in bytes, with four numbers of twenty digits.
-pub(crate) const FIELDS_MAX: usize = 160;
+/// The space for an entry's front without a time and for its fields in bytes, with five numbers of twenty digits.
+pub(crate) const ENTRY_MAX: usize = 240;
 
 /// Appends the offset and the fields of a complete event.
 #[inline(always)]
 pub(crate) fn push_event(
-    line: &mut Line<FIELDS_MAX>,
+    line: &mut Line<ENTRY_MAX>,
     format: Format,
     offset: u64,
     event: &ShownEvent<'_>,
 )
-    requires { length line.old + 120 ≤ FIELDS_MAX }
+    requires { length line.old + 120 ≤ ENTRY_MAX }
     ensures { line.new ≡ line.old ++ offset_in format offset
         ++ members_in format (event_members (op_word event.now.op) event.now.bytes event.now.frames) ++ space_in format }
 {
@@ -34,13 +34,13 @@ pub(crate) fn push_event(
 
 /// Appends the offset and the fields of an event that isn't complete.
 pub(crate) fn push_unfinished(
-    line: &mut Line<FIELDS_MAX>,
+    line: &mut Line<ENTRY_MAX>,
     format: Format,
     offset: u64,
     event: &ShownEvent<'_>,
     lacks: Option<u64>,
 )
-    requires { length line.old + 160 ≤ FIELDS_MAX }
+    requires { length line.old + 160 ≤ ENTRY_MAX }
     ensures { line.new ≡ line.old ++ offset_in format offset
         ++ members_in format (unfinished_members (op_word event.now.op) event.now.bytes event.now.frames lacks)
         ++ space_in format }
@@ -54,8 +54,8 @@ pub(crate) fn push_unfinished(
 
 /// Appends the word, the payload bytes and the frames of an event.
 #[inline(always)]
-fn push_counts(line: &mut Line<FIELDS_MAX>, format: Format, word: &str, bytes: u64, frames: u64)
-    requires room { length line.old + 80 ≤ FIELDS_MAX }
+fn push_counts(line: &mut Line<ENTRY_MAX>, format: Format, word: &str, bytes: u64, frames: u64)
+    requires room { length line.old + 80 ≤ ENTRY_MAX }
     requires short { length word.now ≤ 6 }
     ensures text { line.new ≡ line.old ++ members_in format (event_members word.now bytes frames) }
     ensures len { length line.new ≤ length line.old + 80 }
@@ -66,8 +66,8 @@ fn push_counts(line: &mut Line<FIELDS_MAX>, format: Format, word: &str, bytes: u
 }
 
 /// Appends the offset and the fields of a part of a head.
-pub(crate) fn push_unfinished_head(line: &mut Line<FIELDS_MAX>, format: Format, offset: u64)
-    requires { length line.old + 160 ≤ FIELDS_MAX }
+pub(crate) fn push_unfinished_head(line: &mut Line<ENTRY_MAX>, format: Format, offset: u64)
+    requires { length line.old + 160 ≤ ENTRY_MAX }
     ensures { line.new ≡ line.old ++ offset_in format offset
         ++ members_in format (unfinished_members (codes "head") 0 0 None) ++ space_in format }
 {
@@ -80,13 +80,13 @@ pub(crate) fn push_unfinished_head(line: &mut Line<FIELDS_MAX>, format: Format, 
 
 /// Appends the offset and the fields of bytes that belong to no frame.
 pub(crate) fn push_remainder(
-    line: &mut Line<FIELDS_MAX>,
+    line: &mut Line<ENTRY_MAX>,
     format: Format,
     offset: u64,
     which: Remainder,
     count: u64,
 )
-    requires { length line.old + 80 ≤ FIELDS_MAX }
+    requires { length line.old + 80 ≤ ENTRY_MAX }
     ensures { line.new ≡ line.old ++ offset_in format offset
         ++ members_in format (Mark (remainder_word which) ∷ Number (codes "bytes") count ∷ []) ++ space_in format }
 {
@@ -97,8 +97,8 @@ pub(crate) fn push_remainder(
 }
 
 /// Appends the offset of an end mark, its word and its end.
-pub(crate) fn push_end_mark(line: &mut Line<FIELDS_MAX>, format: Format, offset: u64)
-    requires { length line.old + 50 ≤ FIELDS_MAX }
+pub(crate) fn push_end_mark(line: &mut Line<ENTRY_MAX>, format: Format, offset: u64)
+    requires { length line.old + 50 ≤ ENTRY_MAX }
     ensures { line.new ≡ line.old ++ offset_in format offset ++ member_in format (Mark (codes "end")) ++ end_in format }
 {
     push_offset(line, format, offset);
@@ -108,8 +108,8 @@ pub(crate) fn push_end_mark(line: &mut Line<FIELDS_MAX>, format: Format, offset:
 
 /// Appends the offset and the fields of a frame, and its end.
 #[inline(always)]
-pub(crate) fn push_frame(line: &mut Line<FIELDS_MAX>, format: Format, offset: u64, head: &HeadInfo)
-    requires { length line.old + 130 ≤ FIELDS_MAX }
+pub(crate) fn push_frame(line: &mut Line<ENTRY_MAX>, format: Format, offset: u64, head: &HeadInfo)
+    requires { length line.old + 130 ≤ ENTRY_MAX }
     ensures { line.new ≡ line.old ++ offset_in format offset ++ member_in format (Frame head.now) ++ end_in format }
 {
     push_offset(line, format, offset);
@@ -121,12 +121,12 @@ pub(crate) fn push_frame(line: &mut Line<FIELDS_MAX>, format: Format, offset: u6
 
 /// Appends the offset of a refused frame, and the refusal.
 pub(crate) fn push_refused(
-    line: &mut Line<FIELDS_MAX>,
+    line: &mut Line<ENTRY_MAX>,
     format: Format,
     offset: u64,
     refusal: &Refusal,
 )
-    requires { length line.old + 130 ≤ FIELDS_MAX }
+    requires { length line.old + 130 ≤ ENTRY_MAX }
     ensures { line.new ≡ line.old ++ offset_in format offset ++ member_in format (Refused refusal.now) ++ space_in format }
 {
     push_offset(line, format, offset);
@@ -137,8 +137,8 @@ pub(crate) fn push_refused(
     push_space(line, format);
 }
 
-fn push_refusal_text(line: &mut Line<FIELDS_MAX>, refusal: &Refusal)
-    requires { length line.old + 70 ≤ FIELDS_MAX }
+fn push_refusal_text(line: &mut Line<ENTRY_MAX>, refusal: &Refusal)
+    requires { length line.old + 70 ≤ ENTRY_MAX }
     ensures text { line.new ≡ line.old ++ member_in Format.Text (Refused refusal.now) }
     ensures len { length line.new ≤ length line.old + 70 }
 {
@@ -148,8 +148,8 @@ fn push_refusal_text(line: &mut Line<FIELDS_MAX>, refusal: &Refusal)
 
 /// Appends an entry's offset.
 #[inline(always)]
-pub(crate) fn push_offset(line: &mut Line<FIELDS_MAX>, format: Format, offset: u64)
-    requires { length line.old + 30 ≤ FIELDS_MAX }
+pub(crate) fn push_offset(line: &mut Line<ENTRY_MAX>, format: Format, offset: u64)
+    requires { length line.old + 30 ≤ ENTRY_MAX }
     ensures text { line.new ≡ line.old ++ offset_in format offset }
     ensures len { length line.new ≤ length line.old + 30 }
 {
@@ -164,8 +164,8 @@ pub(crate) fn push_offset(line: &mut Line<FIELDS_MAX>, format: Format, offset: u
 
 /// Appends the word for an entry's type.
 #[inline(always)]
-fn push_mark(line: &mut Line<FIELDS_MAX>, format: Format, word: &str)
-    requires { length line.old + length word.now + 1 ≤ FIELDS_MAX }
+fn push_mark(line: &mut Line<ENTRY_MAX>, format: Format, word: &str)
+    requires { length line.old + length word.now + 1 ≤ ENTRY_MAX }
     ensures text { line.new ≡ line.old ++ member_in format (Mark word.now) }
     ensures len { length line.new ≤ length line.old + length word.now + 1 }
 {
@@ -179,8 +179,8 @@ fn push_mark(line: &mut Line<FIELDS_MAX>, format: Format, word: &str)
 }
 
 #[inline(always)]
-fn push_word(line: &mut Line<FIELDS_MAX>, format: Format, name: &str, word: &str)
-    requires { length line.old + length name.now + length word.now + 6 ≤ FIELDS_MAX }
+fn push_word(line: &mut Line<ENTRY_MAX>, format: Format, name: &str, word: &str)
+    requires { length line.old + length name.now + length word.now + 6 ≤ ENTRY_MAX }
     ensures text { line.new ≡ line.old ++ member_in format (Word name.now word.now) }
     ensures len { length line.new ≤ length line.old + length name.now + length word.now + 6 }
 {
@@ -194,8 +194,8 @@ fn push_word(line: &mut Line<FIELDS_MAX>, format: Format, name: &str, word: &str
 }
 
 #[inline(always)]
-fn push_number(line: &mut Line<FIELDS_MAX>, format: Format, name: &str, number: u64)
-    requires { length line.old + length name.now + 24 ≤ FIELDS_MAX }
+fn push_number(line: &mut Line<ENTRY_MAX>, format: Format, name: &str, number: u64)
+    requires { length line.old + length name.now + 24 ≤ ENTRY_MAX }
     ensures text { line.new ≡ line.old ++ member_in format (Number name.now number) }
     ensures len { length line.new ≤ length line.old + length name.now + 24 }
 {
@@ -209,8 +209,8 @@ fn push_number(line: &mut Line<FIELDS_MAX>, format: Format, name: &str, number: 
 }
 
 #[inline(always)]
-fn push_lacks(line: &mut Line<FIELDS_MAX>, format: Format, lacks: Option<u64>)
-    requires { length line.old + 29 ≤ FIELDS_MAX }
+fn push_lacks(line: &mut Line<ENTRY_MAX>, format: Format, lacks: Option<u64>)
+    requires { length line.old + 29 ≤ ENTRY_MAX }
     ensures text { line.new ≡ line.old ++ member_in format (Lacks lacks) }
     ensures len { length line.new ≤ length line.old + 29 }
 {
@@ -225,8 +225,8 @@ fn push_lacks(line: &mut Line<FIELDS_MAX>, format: Format, lacks: Option<u64>)
 
 /// Appends what is in front of a view.
 #[inline(always)]
-fn push_space(line: &mut Line<FIELDS_MAX>, format: Format)
-    requires { length line.old + 1 ≤ FIELDS_MAX }
+fn push_space(line: &mut Line<ENTRY_MAX>, format: Format)
+    requires { length line.old + 1 ≤ ENTRY_MAX }
     ensures text { line.new ≡ line.old ++ space_in format }
     ensures len { length line.new ≤ length line.old + 1 }
 {

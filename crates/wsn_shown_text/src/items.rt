@@ -1,4 +1,4 @@
-ghost use Rattle.std.specs.Prelude.{◌≡◌, ℕ, ◌/◌, ◌≤◌, ◌++◌, [], false, IfOk, List, length};
+ghost use Rattle.std.specs.Prelude.{◌≡◌, ℕ, ◌+◌, ◌/◌, ◌≤◌, ◌++◌, [], false, IfOk, List, length};
 ghost use Rattle.wsn_io.specs.Stops.{IsWrittenOrStops};
 ghost use Rattle.wsn_rules.specs.Meaning.{MeantEvent};
 ghost use Rattle.wsn_rules.specs.ShownStream.{Item};
@@ -14,10 +14,10 @@ ghost use Rattle.wsn_shown_text.specs.ShownItems.{IsItem, IsRest, evidence_in};
 
 use crate::characters::{put_character_fields, put_character_line};
 use crate::fields::{
-    FIELDS_MAX, end_of, push_event, push_frame, push_refused, push_remainder, push_unfinished,
+    ENTRY_MAX, end_of, push_event, push_frame, push_refused, push_remainder, push_unfinished,
     push_unfinished_head, remainder_word,
 };
-use crate::fronts::put_front;
+use crate::fronts::{push_front, put_front, put_timed_front};
 use crate::line_views::{put_end_text, put_view};
 use crate::object_views::{put_end_fields, put_view_fields};
 use crate::views::{Shown, View, view_of_bytes, view_of_end, view_of_event, view_of_unfinished};
@@ -75,9 +75,11 @@ pub fn put_entry<W: Write>(
     ensures { (shown : Item) → IsItem view front.now.offset item.now shown → IsWrittenOrStops to.old to.new
         (item_entry format view front.now.role (position_of front.now.origin) shown) result }
 {
+    let kind = kind_of(item);
     let mut line = Line::new();
+    push_front(&mut line, format, kind, front);
     let rest = push_item(&mut line, format, view, front.offset, item);
-    put_front(to, format, kind_of(item), front)?;
+    put_timed_front(to, format, kind, front)?;
     put_line(to, line.bytes())?;
     put_rest(to, format, view, front, &rest)
 }
@@ -97,19 +99,20 @@ fn kind_of(item: &ShownItem<'_>) -> &'static str
     }
 }
 
-/// Appends the offset and the fields of an item to an empty line, and returns what is to be written then.
+/// Appends the offset and the fields of an item, and returns what is to be written then.
 #[inline(always)]
 fn push_item<'a>(
-    line: &mut Line<FIELDS_MAX>,
+    line: &mut Line<ENTRY_MAX>,
     format: Format,
     view: ViewLimit,
     offset: u64,
     item: &ShownItem<'a>,
 ) -> Rest<'a>
-    requires { line.old ≡ [] }
+    requires { length line.old + 160 ≤ ENTRY_MAX }
     ensures { (shown : Item) → IsItem view offset item.now shown → (role : Role) → (position : Position) →
-        (rest : List ℕ) × IsRest format view role position result rest
-        × (front_in format (item_type shown) role position ++ (line.new ++ rest) ≡ item_entry format view role position shown) }
+        (fields : List ℕ) × (rest : List ℕ) × (line.new ≡ line.old ++ fields)
+        × IsRest format view role position result rest
+        × (front_in format (item_type shown) role position ++ (fields ++ rest) ≡ item_entry format view role position shown) }
 {
     match item {
         ShownItem::Event(event) => {

@@ -12,10 +12,10 @@ pub returns-in_err-put_line : goal.returns-in_err-put_line
 returns-in_err-put_line g c =
     let at = position_of c.args.front.now.origin in
     let front = codes "{\"type\":\"" ++ c.args.kind.now ++ codes "\"" ++ line_field at ++ string_field (codes "side") (side_word c.args.front.now.role) ++ time_key at in
-    first_stops c.args.to.now c.put_line.new.to (front) (time_value (position_of c.args.front.now.origin)) (object_front c.args.kind.now c.args.front.now.role (position_of c.args.front.now.origin)) c.in_err-put_line.field-0.0 c.from_residual.result (refl) (subst (λ (t : List ℕ). (c.in_err-put_line.field-0.0 ≡ stop.Write) × IsPartlyWritten c.args.to.now c.put_line.new.to t) (c.bytes.ensures ∙ c.line_of_front.ensures) c.in_err-put_line.ensures) c.from_residual.ensures.1
+    first_stops c.args.to.now c.put_line.new.to (front) (time_value (position_of c.args.front.now.origin)) (object_front c.args.kind.now c.args.front.now.role (position_of c.args.front.now.origin)) c.in_err-put_line.field-0.0 c.from_residual.result (refl) (subst (λ (t : List ℕ). (c.in_err-put_line.field-0.0 ≡ stop.Write) × IsPartlyWritten c.args.to.now c.put_line.new.to t) (c.bytes.ensures ∙ c.push_object_front.ensures.text) c.in_err-put_line.ensures) c.from_residual.ensures.1
 
 pub returns : goal.returns
 returns g c =
     let at = position_of c.args.front.now.origin in
     let front = codes "{\"type\":\"" ++ c.args.kind.now ++ codes "\"" ++ line_field at ++ string_field (codes "side") (side_word c.args.front.now.role) ++ time_key at in
-    two_pieces c.args.to.now c.put_line.new.to c.put_line-2.new.to (front) (time_value (position_of c.args.front.now.origin)) (object_front c.args.kind.now c.args.front.now.role (position_of c.args.front.now.origin)) c.put_line-2.result (refl) (subst (IsWritten c.args.to.now c.put_line.new.to) (c.bytes.ensures ∙ c.line_of_front.ensures) c.in_ok-put_line.ensures) (subst (λ (t : List ℕ). IsWrittenOrStops c.put_line.new.to c.put_line-2.new.to t c.put_line-2.result) (c.seconds_of.ensures) c.put_line-2.ensures)
+    two_pieces c.args.to.now c.put_line.new.to c.put_line-2.new.to (front) (time_value (position_of c.args.front.now.origin)) (object_front c.args.kind.now c.args.front.now.role (position_of c.args.front.now.origin)) c.put_line-2.result (refl) (subst (IsWritten c.args.to.now c.put_line.new.to) (c.bytes.ensures ∙ c.push_object_front.ensures.text) c.in_ok-put_line.ensures) (subst (λ (t : List ℕ). IsWrittenOrStops c.put_line.new.to c.put_line-2.new.to t c.put_line-2.result) (c.seconds_of.ensures) c.put_line-2.ensures)
