@@ -71,12 +71,14 @@ module _ (limits : Limits) (old mid new : Incoming) (first : Outgoing) (redactor
       failed,
       unfaulted limits read.has_written.lines begun read.came read.has_written.passed,
       (
-        read.has_written.lines,
-        begun,
         ended read.has_written.redacted,
-        (read.has_written.passed.each, read.has_written.passed.whole),
-        read.has_written.passed.in_line,
-        text_so_far limits first redactor begun now read.came read.has_written,
+        (
+          read.has_written.lines,
+          begun,
+          (read.has_written.passed.each, read.has_written.passed.whole),
+          read.has_written.passed.in_line,
+          text_so_far limits first redactor begun now read.came read.has_written,
+        ),
         read.has_written.written,
       ),
     );

@@ -1,10 +1,11 @@
 -- Lines of captures that differ at most in what was said.
-use Rattle.std.specs.Prelude.{◌≡◌, ℕ, ◌↔◌, List, [], ◌∷◌, length}
+use Rattle.std.specs.Prelude.{◌≡◌, ℕ, ◌↔◌, List, length}
 use Rattle.wsn_wire.specs.declared.endpoint.Role.{Role}
 use Rattle.wsn_rules.specs.Entries.{Entry, without_cr, IsEntry}
 use Rattle.wsn_rules.specs.Entries.Entry.{Nothing, Bytes, Mark}
 use Rattle.wsn_rules.specs.ShownCapture.{IsTime}
 use Rattle.wsn_show.specs.EndedBy.{reset_comment}
+use Rattle.std.specs.List.{AllZip}
 
 -- Both entries give nothing; or as many bytes of the same endpoint; or the end mark of the same endpoint.
 abbrev pub IsAlike : Entry → Entry → Type 0
@@ -15,9 +16,7 @@ IsAlike entry other = ⊥
 
 -- As many entries, each like its counterpart.
 abbrev pub AreAlike : List Entry → List Entry → Type 0
-AreAlike [] [] = Unit {0}
-AreAlike (entry ∷ entries) (other ∷ others) = IsAlike entry other × AreAlike entries others
-AreAlike entries others = ⊥
+AreAlike = AllZip IsAlike
 
 -- The lines give alike entries and the same time, or none; and both say that an endpoint reset the connection, or neither.
 pub record IsAlikeLine (line other : List ℕ) : Type 0 where
@@ -31,6 +30,4 @@ pub record IsAlikeLine (line other : List ℕ) : Type 0 where
 
 -- As many lines, each like its counterpart.
 abbrev pub AreAlikeLines : List (List ℕ) → List (List ℕ) → Type 0
-AreAlikeLines [] [] = Unit {0}
-AreAlikeLines (line ∷ lines) (other ∷ others) = IsAlikeLine line other × AreAlikeLines lines others
-AreAlikeLines lines others = ⊥
+AreAlikeLines = AllZip IsAlikeLine
