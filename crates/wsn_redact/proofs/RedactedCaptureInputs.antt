@@ -17,9 +17,8 @@ use Rattle.wsn_capture.proofs.SplitLines.{unfaulted}
 use Rattle.wsn_redact.specs.declared.capture_redactor.CaptureRedactor.{CaptureRedactor}
 use Rattle.wsn_redact.specs.declared.capture_redacting.RedactStop.{RedactStop}
 use Rattle.wsn_redact.specs.declared.capture_redacting.RedactStop.TheVariants as stop
-use Rattle.wsn_redact.specs.CaptureRedactors.{HasRedactedLines}
+use Rattle.wsn_redact.specs.PassedRedactions.{HasRedactedLines, HasWritten, StopsWithin, EndsRedacting}
 use Rattle.wsn_redact.specs.RedactingCaptures.{IsCaptureRedactAnswer, IsRedactedCaptureInput, IsTextOfWhole}
-use Rattle.wsn_redact.specs.PassedRedactions.{HasWritten, StopsWithin, EndsRedacting}
 use Rattle.wsn_show.proofs.PassedChunks.{whole_part}
 use Rattle.wsn_redact.proofs.PassedRedactions.{text_so_far}
 

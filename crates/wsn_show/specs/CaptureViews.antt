@@ -13,15 +13,14 @@ use Rattle.wsn_rules.specs.ShownCapture.{LineItem, ShownLine, GivesTime, GivesNo
 use Rattle.wsn_print.specs.declared.style.Style.{Style}
 use Rattle.wsn_show.specs.declared.ended_by.EndedBy.{EndedBy}
 use Rattle.wsn_show.specs.EndedBy.{IsEndedBy}
-use Rattle.wsn_show.specs.EndNotes.{HasNotedEnd}
-use Rattle.wsn_show.specs.LastTimes.{HasNotedTimes}
+use Rattle.wsn_show.specs.EndNotes.{HasNotedEnd, HasNotedTimes}
 use Rattle.wsn_show.specs.Styles.{styled_line_item, styled_line, styled_left, styled_ended_by}
 use Rattle.wsn_capture.specs.declared.line_fault.LineFault.{LineFault}
 use Rattle.wsn_capture.specs.LineFaults.{HasFault}
 use Rattle.wsn_capture.specs.CaptureLines.{HasAccepted, HasNotedCloses, count_of}
 use Rattle.wsn_print.specs.ShownParts.{EntryPosition}
 use Rattle.wsn_print.specs.ShownParts.EntryPosition.{InLine}
-use Rattle.wsn_show.specs.StreamViews.{HasViewed}
+use Rattle.wsn_show.specs.ShownSoFar.{HasViewed}
 use Rattle.wsn_show.specs.declared.capture_view.CaptureView.{CaptureView}
 use Rattle.wsn_list.specs.Listing.{PrintsMore}
 
