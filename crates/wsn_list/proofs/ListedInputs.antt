@@ -124,10 +124,12 @@ module _ (format : Format) (role : Role) (limits : Limits) where
           last = [];
           whole = sym (append-nil came);
           short = omega arith;
-          heads = heads;
-          are_heads = (verdict, reported);
-          more = take is_end.1.1.0 (verdict_text format verdict);
-          written = Appends-trans before.written mid.written after.written (heads_text format heads) (take is_end.1.1.0 (verdict_text format verdict)) lines is_end.1.1.1;
+          written = (
+            heads_text format heads,
+            take is_end.1.1.0 (verdict_text format verdict),
+            (heads, (verdict, reported), refl),
+            Appends-trans before.written mid.written after.written (heads_text format heads) (take is_end.1.1.0 (verdict_text format verdict)) lines is_end.1.1.1,
+          );
         };
       })
 

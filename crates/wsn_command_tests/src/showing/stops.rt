@@ -33,16 +33,7 @@ fn a_line_that_is_not_accepted_ends_what_is_shown(rt: HostRuntime) {
         last: "",
         line: "line 2: bad-form",
     };
-    for at_most in READS {
-        expect_job(
-            &rt,
-            alloc,
-            &job,
-            b"S 810148\nX\nS 810149\n",
-            at_most,
-            expected,
-        );
-    }
+    expect_job(&rt, alloc, &job, b"S 810148\nX\nS 810149\n", expected);
 }
 
 /// The lines that are whole when a read fails are shown.
