@@ -3,7 +3,6 @@ pub mod LineFaults
 pub mod Tails
 pub mod RefusedLines
 pub mod CaptureAnswers
-pub mod SplitLines
 pub mod SideTexts
 -- how the state of the code is related to these
 pub mod LineEntries

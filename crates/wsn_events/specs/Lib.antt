@@ -3,7 +3,6 @@ pub mod EventsMeant
 pub mod Reassembly
 pub mod Sources
 pub mod EventReaders
-pub mod TakenEvents
 pub mod LentMessages
 pub mod Turns
 pub mod LeavingOut

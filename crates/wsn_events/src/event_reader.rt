@@ -24,8 +24,7 @@ impl<A: Allocator + Copy> EventReader<A> {
     ghost use Rattle.wsn_rules.specs.Meaning.{MeantEvent};
     ghost use Rattle.wsn_events.specs.EventReaders.{HasGiven, IsAsBefore, IsAtWork, ReadsNextEvent, IsNextEvent, IsEvent, answered, held_of, offset_of, frames_of, events_ahead};
     ghost use Rattle.wsn_events.specs.Turns.{TakesTurn, GivesEvent};
-    ghost use Rattle.wsn_events.specs.TakenEvents.{TakesEventsAfter, held_bytes};
-    ghost use Rattle.wsn_events.specs.LentMessages.{LendsMessage};
+    ghost use Rattle.wsn_events.specs.LentMessages.{TakesEventsAfter, held_bytes, LendsMessage};
 
     /// A source that has read nothing.
     #[tactic(none)]

@@ -32,7 +32,7 @@ use Rattle.wsn_job.specs.declared.done.Done.TheVariants as done
 use Rattle.wsn_job.specs.Channels.{Channels, channels}
 use Rattle.wsn_print.specs.Statuses.{verdict_status}
 use Rattle.wsn_job.specs.Answers.{ran_with, verdict_answer, plan_answer, recut_answer, payload_answer}
-use Rattle.wsn_job.specs.Diagnostics.{IsDiagnosed, IsStopDiagnosed}
+use Rattle.wsn_job.specs.Diagnostics.{IsDiagnosed, IsStopDiagnosed, IsVerdictDiagnosed}
 use Rattle.wsn_job.specs.Redactions.{redact_status}
 use Rattle.wsn_job.specs.Plans.{IsPlanPrinted, IsPlanDiagnosed, plan_status}
 use Rattle.wsn_payload.specs.declared.answer.Payload.TheVariants.{Unfinished, Inside, Head, Nothing}
@@ -42,7 +42,6 @@ use Rattle.wsn_job.specs.Payloads.{IsPayloadDiagnosed, payload_status}
 use Rattle.wsn_job.specs.Recuts.{IsRecutDiagnosed, planned_by, recut_status}
 use Rattle.wsn_job.specs.Sides.{MayRunOnSide, IsFaultySide, IsRunOnSide}
 use Rattle.wsn_job.specs.Verdicts.{IsVerdictPrinted}
-use Rattle.wsn_job.specs.NormalForms.{IsVerdictDiagnosed}
 use Rattle.wsn_job.specs.Work.{IsDone, IsDoneDiagnosed, IsRun, done_ran, done_status}
 use Rattle.wsn_job.proofs.Runs.{run_of_done}
 

@@ -14,9 +14,8 @@ use Rattle.wsn_job.specs.declared.done.Done.{Done}
 use Rattle.wsn_job.specs.declared.done.Done.TheVariants as done
 use Rattle.wsn_job.specs.Channels.{Channels}
 use Rattle.wsn_job.specs.Answers.{ran_with, verdict_answer, plan_answer, recut_answer, payload_answer, report_answer, redacted_answer}
-use Rattle.wsn_job.specs.Diagnostics.{IsStopDiagnosed}
+use Rattle.wsn_job.specs.Diagnostics.{IsStopDiagnosed, IsVerdictDiagnosed}
 use Rattle.wsn_job.specs.Verdicts.{IsVerdictPrinted}
-use Rattle.wsn_job.specs.NormalForms.{IsVerdictDiagnosed}
 use Rattle.wsn_job.specs.Redactions.{redact_status, IsRedactDiagnosed}
 use Rattle.wsn_job.specs.Plans.{IsPlanPrinted, IsPlanDiagnosed, plan_status}
 use Rattle.wsn_plan.specs.Recutting.{IsRecut}

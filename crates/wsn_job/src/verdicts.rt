@@ -1,6 +1,6 @@
 ghost use Rattle.std.specs.Prelude.{◌≡◌, false};
 ghost use Rattle.wsn_job.specs.Verdicts.{IsVerdictPrinted};
-ghost use Rattle.wsn_job.specs.NormalForms.{IsVerdictDiagnosed};
+ghost use Rattle.wsn_job.specs.Diagnostics.{IsVerdictDiagnosed};
 
 use crate::diagnostics::{diagnose_stop, diagnose_verdict};
 use std::io::{Read, Write};

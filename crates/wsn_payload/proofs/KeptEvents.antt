@@ -19,8 +19,8 @@ use Rattle.wsn_rules.proofs.OpenOffsets.{offset_of_none, offset_after_control, o
 use Rattle.wsn_scan.specs.Positions.{BetweenFrames, InFrame}
 use Rattle.wsn_payload.specs.declared.answer.EventStart.{EventStart}
 use Rattle.wsn_payload.specs.declared.event_at.EventAt.{EventAt}
-use Rattle.wsn_payload.specs.EventsAt.{IsOpenAt, IsBegunAt, end_of, EndBefore}
-use Rattle.wsn_payload.specs.Following.{KeepsOpen, KeepsFrame, HasBegunAt, KeepsEventAt, MayBegin, IsElsewhere, EndsEvent, own_part}
+use Rattle.wsn_payload.specs.EventsAt.{IsOpenAt, IsBegunAt, end_of, EndBefore, IsElsewhere, EndsEvent}
+use Rattle.wsn_payload.specs.Following.{KeepsOpen, KeepsFrame, HasBegunAt, KeepsEventAt, MayBegin, own_part}
 use Rattle.wsn_scan.proofs.FrameEnds.{first_alike}
 use Rattle.wsn_payload.proofs.OpenMessages.{open_or_not, open_before, offset_of_control, offset_of_data, offset_within, content_of_control, content_of_data, apart_from_control, first_of_more, control_is_final, frame_end}
 

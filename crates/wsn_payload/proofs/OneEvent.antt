@@ -134,15 +134,13 @@ module _ (role : Role) (limits : Limits) (bytes : List ℕ) (fs before later : L
     whole = first_whole rest whole;
     within = within;
     lawful = first_lawful;
-    final = final;
-    begins = refl;
-    payload_is = refl;
+    ends = record { final = final; begins = refl; payload_is = refl };
   }
 
   -- these lawful frames are the first of all
   pub one_whole : (payload : List ℕ) (w : IsWholeAt role limits bytes at payload) (extra : List Frame) → fs ≡ (w.before ++ w.last ∷ []) ++ extra → payload ≡ payload_in (event_at before f)
   one_whole payload w extra goes =
-      w.payload_is ∙ ap payload_in (sym (one_event before w.before later extra f w.last at (sym parts ∙ goes ∙ push-append w.before w.last extra) final w.final refl w.begins))
+      w.ends.payload_is ∙ ap payload_in (sym (one_event before w.before later extra f w.last at (sym parts ∙ goes ∙ push-append w.before w.last extra) final w.ends.final refl w.ends.begins))
 
   pub never_unfinished : (other : Verdict) (payload : List ℕ) → IsUnfinishedAt role limits bytes other at payload → ⊥
   never_unfinished other payload u =

@@ -47,9 +47,7 @@ whole_longer role limits bytes more at payload w = record {
   whole = ap (λ (bs : List ℕ). bs ++ more) w.whole ∙ append_assoc (stream (w.before ++ w.last ∷ [])) w.later more;
   within = w.within;
   lawful = w.lawful;
-  final = w.final;
-  begins = w.begins;
-  payload_is = w.payload_is;
+  ends = w.ends;
 }
 
 pub inside_longer : (role : Role) (limits : Limits) (bytes more : List ℕ) (at : ℕ) (start : EventStart) → IsInsideAt role limits bytes at start → IsInsideAt role limits (bytes ++ more) at start
@@ -62,9 +60,6 @@ inside_longer role limits bytes more at start w = record {
   last = w.last;
   info = w.info;
   are_heads = w.are_heads;
-  from = w.from;
-  to = w.to;
-  is_start = w.is_start;
   elsewhere = w.elsewhere;
 }
 

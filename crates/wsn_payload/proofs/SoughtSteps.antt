@@ -36,9 +36,9 @@ use Rattle.wsn_scan.proofs.HeadsSoFar.{heads_reported}
 use Rattle.wsn_payload.specs.declared.answer.Payload.{Payload}
 use Rattle.wsn_payload.specs.declared.answer.Payload.TheVariants.{Whole, Unfinished, Inside, Head, Nothing}
 use Rattle.wsn_payload.specs.declared.event_at.EventAt.{EventAt}
-use Rattle.wsn_payload.specs.EventsAt.{IsWholeAt, IsRestAt, IsBegunAt, AreApart, IsInsideAt}
+use Rattle.wsn_payload.specs.EventsAt.{IsWholeAt, IsRestAt, IsBegunAt, AreApart, IsInsideAt, EndsEvent}
 use Rattle.wsn_scan.specs.FollowedScans.{HasFollowed, IsCall}
-use Rattle.wsn_payload.specs.Following.{HasBegunAt, KeepsEventAt, MayBegin, EndsEvent, TakesPart, own_part, is_judged, answer_without_event, ended_answer, HasSought, IsRefusedHere, IsStepOf, SeeksOn}
+use Rattle.wsn_payload.specs.Following.{HasBegunAt, KeepsEventAt, MayBegin, TakesPart, own_part, is_judged, answer_without_event, ended_answer, HasSought, IsRefusedHere, IsStepOf, SeeksOn}
 use Rattle.wsn_payload.specs.Payloads.{IsPartAt, IsPayloadInFront, IsPartOf}
 use Rattle.wsn_scan.proofs.FollowedScans.{wire_payload_is, few, lawful_done, whole_is, rest_few, room_within, unrefused_so_far, judged_so_far, in_frame, between, reached, same_follows, reach, part_follows, refused_there, refused_begun}
 use Rattle.wsn_scan.proofs.FoundHeads.{heads_after}
@@ -227,9 +227,7 @@ module _ (role : Role) (limits : Limits) (at : ℕ) (old new : Scan) (chunk afte
           whole = bytes ∙ ap (λ (fs : List Frame). stream fs ++ r.since) are;
           within = subst (λ (fs : List Frame). length (stream fs) ≤ limits.input) are short;
           lawful = subst (IsLawful role limits) are (lawful_done role limits new (came ++ share) r.frames r.position r.since follows_part);
-          final = e.final;
-          begins = e.begins;
-          payload_is = e.payload_is;
+          ends = e;
         }
 
     in_front : (payload : List ℕ) → IsBegunAt r.frames r.position at payload ⊎ ((f : Frame) × (r.frames ≡ done ++ f ∷ []) × EndsEvent done f at payload) → IsPayloadInFront role limits (came ++ chunk) at payload
@@ -268,10 +266,7 @@ module _ (role : Role) (limits : Limits) (at : ℕ) (old new : Scan) (chunk afte
           last = last_frame.0;
           info = part.head;
           are_heads = heads;
-          from = t.0.from;
-          to = t.0.to;
-          is_start = t.0.is_start;
-          elsewhere = t.0.other;
+          elsewhere = t.0;
         } in
         subst (SeeksOn role limits at new kept_after came chunk first out) (sym is) (most, (there, nothing))
     part_step kept_after out (Ok (Some (Unfinished v))) t given is = absurd t

@@ -18,6 +18,12 @@ use Rattle.wsn_payload.specs.declared.answer.EventStart.{EventStart}
 
 -- ---- complete
 
+-- The frame ends the event that begins at the offset, which has this payload.
+pub record EndsEvent (fs : List Frame) (f : Frame) (at : ℕ) (payload : List ℕ) : Type 0 where
+  pub final : f.fin ≡ true
+  pub begins : event_offset fs f ≡ at
+  pub payload_is : payload ≡ payload_in (event_at fs f)
+
 -- The bytes begin with lawful frames, within the input limit. The last of them ends the event that begins at this
 -- offset, and this is its payload.
 pub record IsWholeAt (role : Role) (limits : Limits) (bytes : List ℕ) (at : ℕ) (payload : List ℕ) : Type 0 where
@@ -27,9 +33,7 @@ pub record IsWholeAt (role : Role) (limits : Limits) (bytes : List ℕ) (at : �
   pub whole : bytes ≡ stream (before ++ last ∷ []) ++ later
   pub within : length (stream (before ++ last ∷ [])) ≤ limits.input
   pub lawful : IsLawful role limits (before ++ last ∷ [])
-  pub final : last.fin ≡ true
-  pub begins : event_offset before last ≡ at
-  pub payload_is : payload ≡ payload_in (event_at before last)
+  pub ends : EndsEvent before last at payload
 
 -- ---- not complete
 
@@ -112,6 +116,13 @@ pub record IsStartOf (before : List Frame) (info : HeadInfo) (start : EventStart
   pub op : start.op ≡ (if is_control info.op then info.op else first_op (unfinished before ++ frame_so_far info [] ∷ []))
   pub offset : start.offset ≡ event_offset before (frame_so_far info [])
 
+-- The offset is in the frame with this head, after the frames fs, and its event begins elsewhere.
+pub record IsElsewhere (fs : List Frame) (info : HeadInfo) (at : ℕ) (start : EventStart) : Type 0 where
+  pub from : info.place ≤ at
+  pub to : at < end_of info
+  pub is_start : IsStartOf fs info start
+  pub other : start.offset ≢ at
+
 -- The offset is in a frame of this event, which begins elsewhere: the bytes begin with frames, within the input limit,
 -- and the head of the last of them, which is complete and valid so far, says so. The frame may be whole.
 pub record IsInsideAt (role : Role) (limits : Limits) (bytes : List ℕ) (at : ℕ) (start : EventStart) : Type 0 where
@@ -123,7 +134,4 @@ pub record IsInsideAt (role : Role) (limits : Limits) (bytes : List ℕ) (at : �
   pub last : List Frame
   pub info : HeadInfo
   pub are_heads : AreHeads role limits front (before ++ last) (heads_of before ++ info ∷ [])
-  pub from : info.place ≤ at
-  pub to : at < end_of info
-  pub is_start : IsStartOf before info start
-  pub elsewhere : start.offset ≢ at
+  pub elsewhere : IsElsewhere before info at start

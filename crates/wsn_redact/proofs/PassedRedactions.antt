@@ -10,8 +10,7 @@ use Rattle.wsn_rules.specs.TextLines.{IsLine, ended, AreLines}
 use Rattle.wsn_rules.proofs.TextLines.{ended-push, each_join, lines_at_end}
 use Rattle.wsn_capture.specs.declared.capture_stop.CaptureStop.TheVariants as capture
 use Rattle.wsn_capture.specs.LineFaults.{AreAcceptedLines}
-use Rattle.wsn_capture.specs.LineSplitters.{HasPassedOn, IsStopAt, IsStopWithin}
-use Rattle.wsn_capture.specs.SplitLines.{ContinuesLine, EndsLine}
+use Rattle.wsn_capture.specs.LineSplitters.{HasPassedOn, IsStopAt, IsStopWithin, ContinuesLine, EndsLine}
 use Rattle.wsn_capture.proofs.SplitLines.{split_line, line_join, stop_line, stop_at_most, no_long, unfaulted, faulty_last}
 use Rattle.wsn_capture.proofs.ChunkPrefixes.{goes_on, stop_in_rest, last_of}
 use Rattle.wsn_show.proofs.PassedChunks.{more_after, failed_part, whole_part}
@@ -20,8 +19,7 @@ use Rattle.wsn_redact.specs.declared.capture_redacting.RedactStop.{RedactStop}
 use Rattle.wsn_redact.specs.declared.capture_redacting.RedactStop.TheVariants as stop
 use Rattle.wsn_redact.specs.RedactedCaptures.{IsRedactedCapture}
 use Rattle.wsn_redact.specs.RedactingCaptures.{IsTextOfLines, BeginWithLines, IsTextOf, IsWholeText, IsWrittenBefore, IsTextOfWhole}
-use Rattle.wsn_redact.specs.CaptureRedactors.{HasRedactedLines}
-use Rattle.wsn_redact.specs.PassedRedactions.{HasWritten, PutsLine, StopsAtLine, StopsWithin, EndsRedacting}
+use Rattle.wsn_redact.specs.PassedRedactions.{HasRedactedLines, HasWritten, PutsLine, StopsAtLine, StopsWithin, EndsRedacting}
 use Rattle.wsn_redact.proofs.RedactedLines.{redacted_so_far}
 
 pub rest_is : (n : ℕ) (bs : List ℕ) → take (length bs - n) (drop n bs) ≡ drop n bs

@@ -17,9 +17,8 @@ use Rattle.wsn_capture.proofs.SplitLines.{unfaulted}
 use Rattle.wsn_redact.specs.declared.capture_redactor.CaptureRedactor.{CaptureRedactor}
 use Rattle.wsn_redact.specs.declared.capture_redacting.RedactStop.{RedactStop}
 use Rattle.wsn_redact.specs.declared.capture_redacting.RedactStop.TheVariants as stop
-use Rattle.wsn_redact.specs.CaptureRedactors.{HasRedactedLines}
+use Rattle.wsn_redact.specs.PassedRedactions.{HasRedactedLines, HasWritten, StopsWithin, EndsRedacting}
 use Rattle.wsn_redact.specs.RedactingCaptures.{IsCaptureRedactAnswer, IsRedactedCaptureInput, IsTextOfWhole}
-use Rattle.wsn_redact.specs.PassedRedactions.{HasWritten, StopsWithin, EndsRedacting}
 use Rattle.wsn_show.proofs.PassedChunks.{whole_part}
 use Rattle.wsn_redact.proofs.PassedRedactions.{text_so_far}
 
@@ -71,12 +70,14 @@ module _ (limits : Limits) (old mid new : Incoming) (first : Outgoing) (redactor
       failed,
       unfaulted limits read.has_written.lines begun read.came read.has_written.passed,
       (
-        read.has_written.lines,
-        begun,
         ended read.has_written.redacted,
-        (read.has_written.passed.each, read.has_written.passed.whole),
-        read.has_written.passed.in_line,
-        text_so_far limits first redactor begun now read.came read.has_written,
+        (
+          read.has_written.lines,
+          begun,
+          (read.has_written.passed.each, read.has_written.passed.whole),
+          read.has_written.passed.in_line,
+          text_so_far limits first redactor begun now read.came read.has_written,
+        ),
         read.has_written.written,
       ),
     );

@@ -38,13 +38,8 @@ single_kinds = ((0x61 – 0x7A) ∷ []) ∷ ((0x41 – 0x5A) ∷ []) ∷ ((0x30 
 -- with E1 and with EE are one kind: they differ in nothing else. Each row that isn't here has only one first byte.
 abbrev pub first_kinds : List (List Range)
 first_kinds =
-    ((0x61 – 0x7A) ∷ [])
-    ∷ ((0x41 – 0x5A) ∷ [])
-    ∷ ((0x30 – 0x39) ∷ [])
-    ∷ ((0xC2 – 0xDF) ∷ [])
-    ∷ ((0xE1 – 0xEC) ∷ (0xEE – 0xEF) ∷ [])
-    ∷ ((0xF1 – 0xF3) ∷ [])
-    ∷ []
+    single_kinds
+    ++ ((0xC2 – 0xDF) ∷ []) ∷ ((0xE1 – 0xEC) ∷ (0xEE – 0xEF) ∷ []) ∷ ((0xF1 – 0xF3) ∷ []) ∷ []
 
 -- Two characters, or the first bytes of two: as many bytes, and first bytes of one kind.
 abbrev pub AreAlikeCharacters : List ℕ → List ℕ → Type 0

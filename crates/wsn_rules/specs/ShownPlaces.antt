@@ -1,7 +1,7 @@
 -- Where the items that are shown of a stream are in it: every byte of the stream, with its offset, is in exactly one
 -- item, each item has the bytes that it says, the first of them is at its offset, and it is shown with the last of them.
 use Rattle.std.specs.Prelude.{◌≡◌, ◌≢◌, ℕ, ◌+◌, ◌<◌, ◌≤◌, ◌^◌, ◌⊎◌, ⊤, Bool, true, false, IfSome, Option, None, Some, List, [], ◌∷◌, ◌++◌, length, map}
-use Rattle.std.specs.List.{AllByRecursion, flat_map}
+use Rattle.std.specs.List.{AllByRecursion, flat_map, AllZip}
 use Rattle.wsn_wire.specs.declared.opcode.Kind.{Kind}
 use Rattle.wsn_wire.specs.declared.opcode.Op.TheVariants.{Continue, Close}
 use Rattle.wsn_wire.specs.Frame.{Frame, IsKey, FormFits, IsEncodable, is_control, head_bytes, frame_bytes, wire_payload}
@@ -186,9 +186,7 @@ pub record IsPlaced (s : Shown) (pile : List PlacedByte) : Type 0 where
 
 -- Each pile is placed as its item says.
 abbrev pub ArePlaced : List Shown → List (List PlacedByte) → Type 0
-ArePlaced [] [] = ⊤
-ArePlaced (s ∷ shown) (pile ∷ piles) = IsPlaced s pile × ArePlaced shown piles
-ArePlaced shown piles = ⊥
+ArePlaced = AllZip IsPlaced
 
 -- The item is a message that isn't complete.
 abbrev pub is_open_message : Item → Bool

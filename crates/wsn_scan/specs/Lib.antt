@@ -11,6 +11,5 @@ pub mod ReadParts
 pub mod FollowedScans
 -- for private functions
 pub mod Scans
-pub mod ReaderSteps
 pub mod EventFrames
 -- for the clauses in src/

@@ -31,8 +31,7 @@ use Rattle.wsn_scan.proofs.JudgedInputs.{stopped_unrefused}
 use Rattle.wsn_scan.proofs.Unrefused.{place_after}
 use Rattle.wsn_print.specs.declared.style.Style.{Style}
 use Rattle.wsn_show.specs.Styles.{styled_item, styled_items, styled_verdict}
-use Rattle.wsn_show.specs.ShownSoFar.{items_in}
-use Rattle.wsn_show.specs.StreamViews.{Viewed, HasViewed}
+use Rattle.wsn_show.specs.ShownSoFar.{items_in, Viewed, HasViewed}
 use Rattle.wsn_show.specs.StreamShows.{IsItemText, IsLeftWith, IsStreamText, IsPrintedText, EndsStream, IsStreamShown}
 
 module _ (role : Role) (limits : Limits) (style : Style) where

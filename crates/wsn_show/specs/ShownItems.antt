@@ -1,6 +1,6 @@
 -- What it means that items were printed.
-use Rattle.std.specs.Prelude.{◌≡◌, ℕ, List, [], ◌∷◌, ◌++◌, if◌then◌else◌}
-use Rattle.wsn_io.specs.Transfer.{Outgoing, IsWrittenUpToFailure}
+use Rattle.std.specs.Prelude.{◌≡◌, ℕ, List, [], ◌∷◌, if◌then◌else◌}
+use Rattle.wsn_io.specs.Transfer.{Outgoing}
 use Rattle.wsn_wire.specs.Frame.{Frame}
 use Rattle.wsn_rules.specs.declared.detail.Detail.{Detail}
 use Rattle.wsn_rules.specs.declared.detail.Detail.TheVariants.{Events, Frames}
@@ -13,6 +13,7 @@ use Rattle.wsn_print.specs.declared.shown.ShownEvent.{ShownEvent}
 use Rattle.wsn_print.specs.ShownParts.{EntryPosition, position_of, Represents, HasText}
 use Rattle.wsn_show.specs.Styles.{styled_items}
 use Rattle.wsn_show.specs.declared.entry_context.EntryContext.{EntryContext}
+use Rattle.wsn_list.specs.Listing.{PrintsMore}
 
 -- Where each entry is.
 abbrev pub position_in : EntryContext → EntryPosition
@@ -21,8 +22,7 @@ position_in context = position_of context.origin
 -- These items were printed after what was printed before, up to a failed write.
 abbrev pub Prints : EntryContext → Outgoing → Outgoing → List Item → Type 0
 Prints context old new items =
-    (before : Outgoing) (text : List ℕ) → IsWrittenUpToFailure before old text →
-    IsWrittenUpToFailure before new (text ++ styled_items context.style context.role (position_in context) items)
+    PrintsMore old new (styled_items context.style context.role (position_in context) items)
 
 -- What is printed where the head of a frame is complete.
 abbrev pub items_of_begun : Detail → HeadInfo → List Item

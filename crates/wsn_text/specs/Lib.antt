@@ -2,5 +2,4 @@
 pub mod Utf8
 pub mod CloseBody
 pub mod Validated
-pub mod Chunk
 pub mod Expected
