@@ -169,7 +169,7 @@ fn expect_stopped_by_a_read(
         } else {
             (whole, failing)
         };
-        let done = run_same_on(alloc, alloc, limits, first, second, Narrow::wide(alloc));
+        let done = run_same_on(alloc, alloc, limits, (first, second), Narrow::wide(alloc));
         expect_run(rt, &done, 2, &[], "read failed");
     }
 }
@@ -200,7 +200,7 @@ fn expect_stopped_by_a_write(
     let first = Chopped::new(stream.bytes.as_slice(), usize::MAX);
     let second = Chopped::new(stream.normal.as_slice(), usize::MAX);
     let writer = Narrow::new(alloc, 1, room, full);
-    let done = run_same_on(alloc, alloc, limits, first, second, writer);
+    let done = run_same_on(alloc, alloc, limits, (first, second), writer);
     if room < line.len() {
         expect_run(rt, &done, 2, &line[..room], "write failed");
     } else {

@@ -49,45 +49,35 @@ fn expect_on_side(rt: &impl Abort, alloc: Global, job: &Job, text: &[u8], expect
 {
     for at_most in READS {
         let text = Chopped::new(text, at_most);
-        let done = run_on_side_on(alloc, alloc, job, Role::Server, text, Narrow::wide(alloc));
+        let done = run_on_side_on(alloc, alloc, job, text, Narrow::wide(alloc));
         expect_run(rt, &done, expected.status, expected.out, expected.line);
     }
 }
 
 /// Fails unless a command answers on a side of `BOTH` as it does on the side's bytes.
-fn expect_as_on_bytes(rt: &impl Abort, alloc: Global, job: &Job, role: Role, bytes: &[u8])
+fn expect_as_on_bytes(rt: &impl Abort, alloc: Global, job: &Job, bytes: &[u8])
     requires { MayRunOnSide job.now }
 {
     let text = Chopped::new(BOTH, 7);
-    let side = run_on_side_on(alloc, alloc, job, role, text, Narrow::wide(alloc));
+    let side = run_on_side_on(alloc, alloc, job, text, Narrow::wide(alloc));
     let stream = Chopped::new(bytes, 5);
     let done = run_on(alloc, alloc, job, stream, Narrow::wide(alloc));
-    expect_bytes_of(rt, side.out.as_slice(), done.out.as_slice(), &role);
-    expect_bytes_of(rt, side.err.as_slice(), done.err.as_slice(), &role);
-    expect_equal_of(rt, &side.status, &done.status, &role);
+    expect_bytes_of(rt, side.out.as_slice(), done.out.as_slice(), &bytes);
+    expect_bytes_of(rt, side.err.as_slice(), done.err.as_slice(), &bytes);
+    expect_equal_of(rt, &side.status, &done.status, &bytes);
 }
 
 #[test]
 fn each_command_answers_as_on_the_sides_bytes(rt: HostRuntime) {
     let alloc = rt.alloc();
     for (role, bytes) in [(Role::Client, BOTH_CLIENT), (Role::Server, BOTH_SERVER)] {
-        expect_as_on_bytes(
-            &rt,
-            alloc,
-            &Job::Judge(role, greatest(), Format::Text),
-            role,
-            bytes,
-        );
-        expect_as_on_bytes(
-            &rt,
-            alloc,
-            &Job::Frames(role, greatest(), Format::Text),
-            role,
-            bytes,
-        );
-        expect_as_on_bytes(&rt, alloc, &Job::Normal(role, greatest()), role, bytes);
-        expect_as_on_bytes(&rt, alloc, &Job::Redact(role, greatest()), role, bytes);
-        expect_as_on_bytes(&rt, alloc, &Job::Plan(role, greatest()), role, bytes);
+        let judge = Job::Judge(role, greatest(), Format::Text);
+        expect_as_on_bytes(&rt, alloc, &judge, bytes);
+        let frames = Job::Frames(role, greatest(), Format::Text);
+        expect_as_on_bytes(&rt, alloc, &frames, bytes);
+        expect_as_on_bytes(&rt, alloc, &Job::Normal(role, greatest()), bytes);
+        expect_as_on_bytes(&rt, alloc, &Job::Redact(role, greatest()), bytes);
+        expect_as_on_bytes(&rt, alloc, &Job::Plan(role, greatest()), bytes);
     }
 }
 
@@ -149,14 +139,7 @@ fn too_long_and_too_many_lines_are_reported(rt: HostRuntime) {
     expect_on_side(&rt, alloc, &judge, long.as_slice(), expected);
     let many = filled(alloc, b"", b'\n', 1_000_001).expect(&rt, "memory");
     let text = Chopped::new(many.as_slice(), usize::MAX);
-    let done = run_on_side_on(
-        alloc,
-        alloc,
-        &judge,
-        Role::Server,
-        text,
-        Narrow::wide(alloc),
-    );
+    let done = run_on_side_on(alloc, alloc, &judge, text, Narrow::wide(alloc));
     expect_run(&rt, &done, 2, b"", "line 1000001: too-many-lines");
 }
 
@@ -186,14 +169,7 @@ fn a_failed_read_of_the_text_is_reported_as_such(rt: HostRuntime) {
     let frames = Job::Frames(Role::Server, greatest(), Format::Text);
     for left in [FAULTY.len(), 10, 9, 8] {
         let text = Chopped::stumbling(FAULTY, 4, left, ErrorKind::Interrupted);
-        let done = run_on_side_on(
-            alloc,
-            alloc,
-            &frames,
-            Role::Server,
-            text,
-            Narrow::wide(alloc),
-        );
+        let done = run_on_side_on(alloc, alloc, &frames, text, Narrow::wide(alloc));
         expect_equal_of(&rt, &done.status, &2, &left);
         expect_bytes_of(&rt, done.err.as_slice(), b"read failed\n", &left);
     }
@@ -206,7 +182,7 @@ fn a_failed_write_before_a_faulty_line_is_reported(rt: HostRuntime) {
     for full in FULL {
         let text = Chopped::new(FAULTY, 3);
         let writer = Narrow::new(alloc, 1, 4, full);
-        let done = run_on_side_on(alloc, alloc, &frames, Role::Server, text, writer);
+        let done = run_on_side_on(alloc, alloc, &frames, text, writer);
         expect_run(&rt, &done, 2, b"0 fi", "write failed");
     }
 }
@@ -232,13 +208,11 @@ static PAIRS: [(&str, &str, u8, &str, &str); 7] = [
 fn sides_of_captures_are_compared(rt: HostRuntime) {
     let alloc = rt.alloc();
     for (first, second, status, out, line) in PAIRS.iter() {
-        let done = run_same_on_sides_on(
-            alloc,
-            greatest(),
+        let texts = (
             Chopped::new(first.as_bytes(), 3),
             Chopped::new(second.as_bytes(), 4),
-            Narrow::wide(alloc),
         );
+        let done = run_same_on_sides_on(alloc, greatest(), texts, Narrow::wide(alloc));
         expect_run(&rt, &done, *status, out.as_bytes(), line);
     }
 }
@@ -257,7 +231,7 @@ fn a_failed_read_of_either_text_is_reported_as_such(rt: HostRuntime) {
         ),
     ] {
         let writer = Narrow::wide(alloc);
-        let done = run_same_on_sides_on(alloc, greatest(), first, second, writer);
+        let done = run_same_on_sides_on(alloc, greatest(), (first, second), writer);
         expect_run(&rt, &done, 2, b"", "read failed");
     }
 }

@@ -82,16 +82,16 @@ pub fn compared<A: Allocator + Copy>(
 
 /// A stream that comes from the endpoint of this role, under these limits.
 #[derive(Drop)]
-pub struct Incoming<'a> {
+pub struct SentStream<'a> {
     pub role: Role,
     pub limits: Limits,
     pub reader: Chopped<'a>,
 }
 
-impl<'a> Incoming<'a> {
+impl<'a> SentStream<'a> {
     /// A stream of a vector's endpoint, under the vector's limits.
     pub fn of(stream: &Stream, reader: Chopped<'a>) -> Self {
-        Incoming {
+        SentStream {
             role: stream.role,
             limits: stream.limits,
             reader,
@@ -102,7 +102,7 @@ impl<'a> Incoming<'a> {
 /// The answer of `plan_of`, which allocates from this heap.
 pub fn planned<A: Allocator + Copy>(
     heap: A,
-    mut stream: Incoming,
+    mut stream: SentStream,
 ) -> Result<PlanAnswer<A>, Stop> {
     let mut input = Input::new(&mut stream.reader);
     plan_of(heap, &mut input, stream.role, stream.limits)
@@ -111,7 +111,7 @@ pub fn planned<A: Allocator + Copy>(
 /// The answer of a recut by this plan, which writes to this writer and allocates from this heap.
 pub fn recut_by<A: Allocator + Copy, W: Write>(
     heap: A,
-    mut stream: Incoming,
+    mut stream: SentStream,
     plan: &Plan<A>,
     writer: &mut W,
 ) -> Result<RecutAnswer, Stop> {
@@ -148,7 +148,7 @@ pub struct Sizes {
 /// The answer of a recut in frames of one size, which writes to this writer and allocates from this heap.
 pub fn recut_uniformly<A: Allocator + Copy, W: Write>(
     heap: A,
-    mut stream: Incoming,
+    mut stream: SentStream,
     sizes: Sizes,
     writer: &mut W,
 ) -> Result<RecutAnswer, Stop> {

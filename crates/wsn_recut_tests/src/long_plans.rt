@@ -4,7 +4,7 @@
 use crate::expecting::{expect_answer, expect_count, expect_of, plan_read, plan_written};
 use std::alloc::Global;
 use std::process::Abort;
-use wsn_doubles::engines::{Incoming, Sizes, planned, recut_by, recut_uniformly};
+use wsn_doubles::engines::{SentStream, Sizes, planned, recut_by, recut_uniformly};
 use wsn_doubles::readers::Chopped;
 use wsn_doubles::vectors::{filled, greatest};
 use wsn_plan::{Plan, PlanAnswer, RecutAnswer};
@@ -27,8 +27,8 @@ fn repeated(rt: &impl Abort, alloc: Global, parts: Parts, count: usize) -> Vec<u
 }
 
 /// A server's stream of these bytes.
-fn of_server(bytes: &[u8]) -> Incoming<'_> {
-    Incoming {
+fn of_server(bytes: &[u8]) -> SentStream<'_> {
+    SentStream {
         role: Role::Server,
         limits: greatest(),
         reader: Chopped::new(bytes, usize::MAX),

@@ -6,7 +6,7 @@ use std::alloc::{Allocator, Global};
 use std::fmt::Debug;
 use std::process::Abort;
 use wsn_doubles::answer_lines::planned_line;
-use wsn_doubles::engines::{Incoming, planned, recut_by};
+use wsn_doubles::engines::{SentStream, planned, recut_by};
 use wsn_doubles::heaps::heap_of;
 use wsn_doubles::readers::{Chopped, READS};
 use wsn_doubles::vectors::{
@@ -107,8 +107,8 @@ pub static PLANNED: [Planned; 13] = [
 ];
 
 /// The stream of a row, in reads of at most `at_most` bytes.
-fn incoming(rt: &impl Abort, row: &Planned, at_most: usize) -> Incoming<'static> {
-    Incoming {
+fn stream_of(rt: &impl Abort, row: &Planned, at_most: usize) -> SentStream<'static> {
+    SentStream {
         role: row.role,
         limits: limits_from(&row.settings).expect(rt, "limits in range"),
         reader: Chopped::new(row.bytes, at_most),
@@ -120,7 +120,7 @@ fn streams_are_planned(rt: HostRuntime) {
     let alloc = rt.alloc();
     for row in PLANNED.iter() {
         for at_most in READS {
-            let answer = planned(alloc, incoming(&rt, row, at_most));
+            let answer = planned(alloc, stream_of(&rt, row, at_most));
             let of = (row, at_most);
             expect_text(&rt, alloc, &answer, row.text, &of);
             expect_reported(&rt, alloc, &answer, row.line, &of);
@@ -165,7 +165,7 @@ fn used(rt: &impl Abort, stream: &Stream) -> usize {
 fn expect_restored(rt: &impl Abort, alloc: Global, stream: &Stream, plan: &Plan) {
     let prefix = stream.bytes.get(..used(rt, stream)).expect(rt, "frames");
     let mut out = Vec::new(alloc);
-    let normal = Incoming::of(stream, Chopped::new(stream.normal.as_slice(), 4_095));
+    let normal = SentStream::of(stream, Chopped::new(stream.normal.as_slice(), 4_095));
     let answer = recut_by(alloc, normal, plan, &mut out);
     let found = (&answer, out.as_slice());
     expect_recut(rt, alloc, found, ("done", prefix), &stream.name);
@@ -183,7 +183,7 @@ fn a_stream_is_restored_from_its_plan_and_its_normal_form(rt: HostRuntime) {
 /// Fails unless a stream is restored by its plan, or is unfinished and has none.
 fn expect_restored_or_unfinished(rt: &impl Abort, alloc: Global, stream: &Stream) {
     let reader = Chopped::new(stream.bytes.as_slice(), 4_095);
-    let answer = planned(alloc, Incoming::of(stream, reader));
+    let answer = planned(alloc, SentStream::of(stream, reader));
     if let Ok(PlanAnswer::Plan(plan)) = &answer {
         expect_restored(rt, alloc, stream, plan);
     } else {
@@ -206,7 +206,7 @@ fn a_failed_read_is_reported_unless_the_answer_is_decided(rt: HostRuntime) {
 fn expect_unplanned(rt: &impl Abort, alloc: Global, stream: &Stream, prefix: &[u8]) {
     for at_most in [1, 4_096] {
         let reader = Chopped::breaking(prefix, at_most);
-        let answer = planned(alloc, Incoming::of(stream, reader));
+        let answer = planned(alloc, SentStream::of(stream, reader));
         let of = (stream.name, prefix.len(), at_most);
         expect_reported(rt, alloc, &answer, line_after(stream, prefix), &of);
     }
@@ -232,7 +232,7 @@ fn planning_answers_out_of_memory(rt: HostRuntime) {
 /// the row's line, and otherwise `out of memory`.
 fn is_served(rt: &impl Abort, alloc: Global, row: &Planned, blocks: usize) -> bool {
     let heap = heap_of(alloc, blocks).expect(rt, "memory");
-    let answer = planned(&heap, incoming(rt, row, 1));
+    let answer = planned(&heap, stream_of(rt, row, 1));
     let is_served = answer.is_ok();
     let expected = if is_served { row.line } else { "out of memory" };
     expect_reported(rt, alloc, &answer, expected, &(row, blocks));
@@ -248,7 +248,7 @@ fn fragments_of_65_535_bytes_and_of_one_are_planned(rt: HostRuntime) {
     );
     for at_most in READS {
         let reader = Chopped::new(stream.bytes.as_slice(), at_most);
-        let answer = planned(alloc, Incoming::of(&stream, reader));
+        let answer = planned(alloc, SentStream::of(&stream, reader));
         expect_text(&rt, alloc, &answer, "piece 65535 -\nlast -\n", &at_most);
     }
 }

@@ -5,7 +5,7 @@ use crate::recuts::{By, FITS, RecutRow, recut_of};
 use crate::sized_recuts::SIZED_RECUTS;
 use std::alloc::Global;
 use std::process::Abort;
-use wsn_doubles::engines::{Incoming, Sizes, recut_uniformly};
+use wsn_doubles::engines::{SentStream, Sizes, recut_uniformly};
 use wsn_doubles::readers::Chopped;
 use wsn_doubles::vectors::{Stream, line_after, streams};
 use wsn_doubles::writers::{FULL, Full, Narrow};
@@ -24,7 +24,7 @@ fn expect_unwritten(
         weave: false,
     };
     let mut out = Vec::new(alloc);
-    let broken = Incoming::of(stream, Chopped::breaking(prefix, at_most));
+    let broken = SentStream::of(stream, Chopped::breaking(prefix, at_most));
     let answer = recut_uniformly(alloc, broken, sizes, &mut out);
     let expected = (line_after(stream, prefix), b"".as_slice());
     let of = (stream.name, prefix.len(), at_most);

@@ -4,7 +4,7 @@ use crate::expecting::{expect_answer, expect_of, expect_recut, plan_read};
 use std::alloc::{Allocator, Global};
 use std::io::Write;
 use std::process::Abort;
-use wsn_doubles::engines::{Incoming, Sizes, recut_by, recut_uniformly};
+use wsn_doubles::engines::{SentStream, Sizes, recut_by, recut_uniformly};
 use wsn_doubles::readers::{Chopped, READS};
 use wsn_doubles::vectors::{
     ANY_LENGTHS, GREATEST, Settings, filled, limits_from, stream_named,
@@ -164,7 +164,7 @@ pub fn recut_of<A: Allocator + Copy, W: Write>(
     reader: Chopped,
     writer: &mut W,
 ) -> Result<RecutAnswer, Stop> {
-    let stream = Incoming {
+    let stream = SentStream {
         role: row.role,
         limits: limits_from(&row.settings).expect(rt, "limits in range"),
         reader,
@@ -181,7 +181,7 @@ pub fn recut_of<A: Allocator + Copy, W: Write>(
 fn recut_by_text<A: Allocator + Copy, W: Write>(
     rt: &impl Abort,
     heap: A,
-    stream: Incoming,
+    stream: SentStream,
     text: &str,
     writer: &mut W,
 ) -> Result<RecutAnswer, Stop> {
@@ -223,7 +223,7 @@ fn wrong_form_of_a_length_of_two_bytes(rt: HostRuntime) {
         ("last - eight", "done", eight.as_slice()),
         ("last -", "done", bytes.as_slice()),
     ] {
-        let stream = Incoming {
+        let stream = SentStream {
             role: Role::Server,
             limits: limits_from(&ANY_LENGTHS).expect(&rt, "limits in range"),
             reader: Chopped::new(bytes.as_slice(), usize::MAX),
@@ -245,7 +245,7 @@ fn fragments_of_65_535_bytes_and_of_one_are_restored(rt: HostRuntime) {
     let plan = plan_read(&rt, alloc, b"piece 65535 -\nlast -\n");
     for at_most in READS {
         let mut out = Vec::new(alloc);
-        let normal = Incoming::of(&stream, Chopped::new(stream.normal.as_slice(), at_most));
+        let normal = SentStream::of(&stream, Chopped::new(stream.normal.as_slice(), at_most));
         let answer = recut_by(alloc, normal, &plan, &mut out);
         expect_of(&rt, out.as_slice() == stream.bytes.as_slice(), &at_most);
         expect_answer(&rt, alloc, &answer, "done", &at_most);

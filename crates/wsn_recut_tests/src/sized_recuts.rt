@@ -6,7 +6,7 @@ use crate::recuts::{By, NINE_MESSAGES, PING_HELLO, RecutRow, expect_recut_row};
 use std::alloc::Global;
 use std::process::Abort;
 use wsn_canon::Event;
-use wsn_doubles::engines::{Incoming, Sizes, compared, recut_uniformly};
+use wsn_doubles::engines::{SentStream, Sizes, compared, recut_uniformly};
 use wsn_doubles::readers::Chopped;
 use wsn_doubles::vectors::stream_limits::TWO_FRAMES;
 use wsn_doubles::vectors::{Stream, streams};
@@ -111,7 +111,7 @@ fn expect_same(rt: &impl Abort, alloc: Global, stream: &Stream, sizes: Sizes) {
     let of = (stream.name, sizes);
     let mut out = Vec::new(alloc);
     let whole = Chopped::new(stream.bytes.as_slice(), usize::MAX);
-    let answer = recut_uniformly(alloc, Incoming::of(stream, whole), sizes, &mut out);
+    let answer = recut_uniformly(alloc, SentStream::of(stream, whole), sizes, &mut out);
     expect_answer(rt, alloc, &answer, "done", &of);
     let answer = compared(
         alloc,

@@ -7,7 +7,7 @@ use std::io::ErrorKind;
 use std::process::Abort;
 use wsn_doubles::answer_lines::{answer_line, compared_line, planned_line, recut_line};
 use wsn_doubles::engines::{
-    ENGINES, Incoming, Sizes, compared, planned, recut_by, recut_uniformly,
+    ENGINES, SentStream, Sizes, compared, planned, recut_by, recut_uniformly,
 };
 use wsn_doubles::readers::Chopped;
 use wsn_doubles::vectors::{Stream, line_after, stream_named, streams};
@@ -38,8 +38,8 @@ impl<'a> Stumble<'a> {
         )
     }
 
-    fn incoming(&self, at_most: usize) -> Incoming<'a> {
-        Incoming::of(self.stream, self.reader(at_most))
+    fn sent_stream(&self, at_most: usize) -> SentStream<'a> {
+        SentStream::of(self.stream, self.reader(at_most))
     }
 
     fn expect(&self, rt: &impl Abort, line: &str) {
@@ -66,7 +66,7 @@ fn expect_reported(rt: &impl Abort, alloc: Global, stumble: &Stumble, at_most: u
 
 /// Checks the answer of planning, with reads of at most `at_most` bytes.
 fn expect_planned(rt: &impl Abort, alloc: Global, stumble: &Stumble, at_most: usize) {
-    let answer = planned(alloc, stumble.incoming(at_most));
+    let answer = planned(alloc, stumble.sent_stream(at_most));
     let line = planned_line(alloc, &answer).expect(rt, "memory");
     stumble.expect(rt, line.as_str());
 }
@@ -79,8 +79,8 @@ fn expect_recut(rt: &impl Abort, alloc: Global, stumble: &Stumble, at_most: usiz
     };
     let plan = Plan::new(alloc);
     let mut out = Vec::new(alloc);
-    let by_plan = recut_by(alloc, stumble.incoming(at_most), &plan, &mut out);
-    let by_size = recut_uniformly(alloc, stumble.incoming(at_most), sizes, &mut out);
+    let by_plan = recut_by(alloc, stumble.sent_stream(at_most), &plan, &mut out);
+    let by_size = recut_uniformly(alloc, stumble.sent_stream(at_most), sizes, &mut out);
     expect(rt, out.is_empty());
     for answer in [by_plan, by_size] {
         let line = recut_line(alloc, &answer).expect(rt, "memory");
