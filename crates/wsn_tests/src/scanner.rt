@@ -73,22 +73,6 @@ impl ScanReport {
         }
         false
     }
-
-    /// Passes a stream to the scanner, in chunks of `size` bytes, until it is refused.
-    fn feed_chunks(
-        &mut self,
-        rt: &impl Abort,
-        alloc: Global,
-        scan: &mut Scan,
-        bytes: &[u8],
-        size: usize,
-    ) {
-        for chunk in bytes.chunks(size.max(1)) {
-            if self.feed(rt, alloc, scan, chunk) {
-                break;
-            }
-        }
-    }
 }
 
 /// The payload of a part that the scanner took of these bytes.
@@ -109,7 +93,11 @@ pub fn scanned(rt: &impl Abort, alloc: Global, stream: &Stream, size: usize) -> 
     };
     let mut scan = Scan::new(stream.role, stream.limits);
     let within = scan.room().min(stream.bytes.len() as u64) as usize;
-    scanned.feed_chunks(rt, alloc, &mut scan, &stream.bytes[..within], size);
+    for chunk in stream.bytes[..within].chunks(size.max(1)) {
+        if scanned.feed(rt, alloc, &mut scan, chunk) {
+            break;
+        }
+    }
     scanned.verdict = verdict_line(alloc, &scan.finish()).expect(rt, "memory");
     scanned
 }
