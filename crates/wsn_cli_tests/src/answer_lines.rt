@@ -59,19 +59,8 @@ fn request_line(alloc: Global, request: &Request) -> Result<String, AllocError> 
             second,
             side,
         } => {
-            let Comparison {
-                role,
-                limits,
-                without,
-                format,
-                view,
-            } = comparison;
-            let stream = stream_line(alloc, "same", *role, limits)?;
             let (first, second) = (name_of(first), name_of(second));
-            let suffix = suffix_of(*format);
-            let without = left_out(without);
-            let view = shown_events(alloc, *view)?;
-            let line = format!(in alloc; "{stream}, {first} and {second}{without}{view}{suffix}")?;
+            let line = comparison_line(alloc, comparison, first, second)?;
             with_side(alloc, &line, *side)
         }
         Request::Closings {
@@ -89,6 +78,19 @@ fn request_line(alloc: Global, request: &Request) -> Result<String, AllocError> 
         }
         Request::Help(_) => String::from_str(alloc, "help"),
     }
+}
+
+fn comparison_line(
+    alloc: Global,
+    comparison: &Comparison,
+    first: &str,
+    second: &str,
+) -> Result<String, AllocError> {
+    let stream = stream_line(alloc, "same", comparison.role, &comparison.limits)?;
+    let suffix = suffix_of(comparison.format);
+    let without = left_out(&comparison.without);
+    let view = shown_events(alloc, comparison.view)?;
+    format!(in alloc; "{stream}, {first} and {second}{without}{view}{suffix}")
 }
 
 /// How much of a payload is shown of the events that differ; nothing if they aren't shown.

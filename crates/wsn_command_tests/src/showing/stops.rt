@@ -7,7 +7,7 @@ use std::alloc::Global;
 use std::io::ErrorKind;
 use std::process::Abort;
 use wsn_command_runs::run_on;
-use wsn_doubles::readers::{Chopped, READS};
+use wsn_doubles::readers::Chopped;
 use wsn_doubles::vectors::greatest;
 use wsn_doubles::writers::{FULL, Narrow};
 use wsn_job::Job;
