@@ -1,3 +1,4 @@
+pub mod DoneWork
 pub mod Runs
 pub mod SideRuns
 pub mod AnswerTexts
