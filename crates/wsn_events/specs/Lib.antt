@@ -10,4 +10,3 @@ pub mod Comparing
 pub mod PayloadExcerpts
 pub mod Excerpts
 pub mod Normalised
--- for the clauses in src/

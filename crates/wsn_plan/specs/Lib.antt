@@ -5,4 +5,3 @@ pub mod Uniform
 pub mod Framing
 pub mod Recutting
 pub mod Planning
--- for the clauses in src/

@@ -3,4 +3,3 @@ pub mod PlanText
 pub mod PlanFiles
 pub mod Plans
 pub mod Splits
--- for the clauses in src/

@@ -12,4 +12,3 @@ pub mod FollowedScans
 -- for private functions
 pub mod Scans
 pub mod EventFrames
--- for the clauses in src/
