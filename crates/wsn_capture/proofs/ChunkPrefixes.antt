@@ -9,8 +9,7 @@ use Rattle.wsn_rules.specs.Entries.{Entry}
 use Rattle.wsn_print.proofs.HeldParts.{rest_is}
 use Rattle.wsn_capture.specs.LineFaults.{AreAcceptedLines}
 use Rattle.wsn_capture.specs.CaptureAnswers.{IsUnfaulted}
-use Rattle.wsn_capture.specs.SplitLines.{ContinuesLine, EndsLine}
-use Rattle.wsn_capture.specs.LineSplitters.{HasPassedOn, IsStopAt, IsStopBy, IsStopWithin}
+use Rattle.wsn_capture.specs.LineSplitters.{ContinuesLine, EndsLine, HasPassedOn, IsStopAt, IsStopBy, IsStopWithin}
 use Rattle.wsn_capture.proofs.SplitLines.{split_more, no_long, split_line, stop_line, stop_at_most}
 
 -- ---- lists

@@ -1,5 +1,5 @@
 -- How bytes that came in chunks are related to the lines that were passed to a capture.
-use Rattle.std.specs.Prelude.{◌≡◌, ℕ, suc, ◌+◌, ◌-◌, ◌*◌, ◌<◌, ◌≤◌, ◌⊎◌, List, [], ◌∷◌, ◌++◌, length}
+use Rattle.std.specs.Prelude.{◌≡◌, ℕ, suc, ◌+◌, ◌-◌, ◌*◌, ◌<◌, ◌≤◌, ◌⊎◌, List, [], ◌∷◌, ◌++◌, length, take}
 use Rattle.std.specs.List.{AllByRecursion}
 use Rattle.wsn_rules.specs.Limits.{Limits}
 use Rattle.wsn_capture.specs.declared.capture_stop.CaptureStop.{CaptureStop}
@@ -12,6 +12,21 @@ use Rattle.wsn_capture.specs.LineFaults.{AreAcceptedLines, IsFaultAfter}
 use Rattle.wsn_capture.specs.CaptureLines.{count_of}
 use Rattle.wsn_capture.specs.Captures.{HasAcceptedLines}
 use Rattle.wsn_capture.specs.CaptureAnswers.{IsFaulty, IsUnfaulted, begun_most}
+
+-- The line goes on with the first n bytes of the chunk, and isn't yet too long whatever follows.
+pub record ContinuesLine (begun after chunk : List ℕ) (n : ℕ) : Type 0 where
+  pub is : after ≡ begun ++ take n chunk
+  pub in_line : IsLine (take n chunk)
+  pub short : length after < begun_most
+
+-- The first n bytes of the chunk end the line with LF, or make it too long whatever follows.
+pub record EndsLine (begun after chunk : List ℕ) (n : ℕ) : Type 0 where
+  pub bytes : List ℕ
+  pub is : after ≡ begun ++ bytes
+  pub in_line : IsLine bytes
+  pub ends :
+      ((take n chunk ≡ bytes ++ 10 ∷ []) × (length after < begun_most))
+      ⊎ ((take n chunk ≡ bytes) × (length after ≡ begun_most))
 
 -- These bytes came: these whole lines, all of which are accepted, and an unfinished line that isn't yet too long.
 pub record HasPassedOn (limits : Limits) (lines : List (List ℕ)) (begun came : List ℕ) : Type 0 where

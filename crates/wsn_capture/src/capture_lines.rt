@@ -1,6 +1,9 @@
 ghost use Rattle.std.specs.Prelude.{◌≡◌, ℕ, List};
 ghost use Rattle.wsn_capture.specs.Closes.{IsClosedBy, earlier_of};
-ghost use Rattle.wsn_capture.specs.Words.{Role, Limits, Frame, IsVerdict};
+ghost use Rattle.wsn_wire.specs.declared.endpoint.Role.{Role};
+ghost use Rattle.wsn_rules.specs.Limits.{Limits};
+ghost use Rattle.wsn_wire.specs.Frame.{Frame};
+ghost use Rattle.wsn_rules.specs.Verdict.{IsVerdict};
 ghost use Rattle.wsn_rules.specs.Sides.{side_of, ended_as};
 
 use crate::line_fault::LineFault;

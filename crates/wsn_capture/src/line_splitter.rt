@@ -13,7 +13,15 @@ pub struct LineSplitter {
 
 impl LineSplitter {
     ghost use Rattle.std.specs.Prelude.{◌≡◌, ◌+◌, ◌<◌, ◌≤◌, ◌≢◌, ℕ, List, [], ◌∷◌, ◌++◌, length, take, OnOk, IfOk, IfErr};
-    ghost use Rattle.wsn_capture.specs.Words.{Limits, IsLine, HasAcceptedLines, count_of, IsCaptureAnswerOf, IsReport, AreTails, AreRefusedLines, HasSplit, IsStopAt, IsStopBy, IsStopWithin, bytes_ahead};
+    ghost use Rattle.wsn_rules.specs.Limits.{Limits};
+    ghost use Rattle.wsn_rules.specs.TextLines.{IsLine};
+    ghost use Rattle.wsn_capture.specs.Captures.{HasAcceptedLines};
+    ghost use Rattle.wsn_capture.specs.CaptureLines.{count_of};
+    ghost use Rattle.wsn_capture.specs.CaptureAnswers.{IsCaptureAnswerOf};
+    ghost use Rattle.wsn_rules.specs.Reports.{IsReport};
+    ghost use Rattle.wsn_capture.specs.Tails.{AreTails};
+    ghost use Rattle.wsn_capture.specs.RefusedLines.{AreRefusedLines};
+    ghost use Rattle.wsn_capture.specs.LineSplitters.{HasSplit, IsStopAt, IsStopBy, IsStopWithin, bytes_ahead};
 
     /// A splitter of a text of no bytes.
     pub fn new(limits: Limits) -> LineSplitter

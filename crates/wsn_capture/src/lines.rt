@@ -21,7 +21,7 @@ impl Model for Lines {
 
 impl Lines {
     ghost use Rattle.std.specs.Prelude.{◌≡◌, ◌+◌, ◌<◌, ◌≤◌, [], length, false, true};
-    ghost use Rattle.wsn_capture.specs.SplitLines.{ContinuesLine, EndsLine};
+    ghost use Rattle.wsn_capture.specs.LineSplitters.{ContinuesLine, EndsLine};
 
     /// No line has begun.
     pub fn new() -> Lines

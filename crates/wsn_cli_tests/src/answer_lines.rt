@@ -1,5 +1,5 @@
-//! What `asked` answers, as a line: a command's name, the role, the limits (on messages, inputs and frames, and the
-//! accepted lengths), its own options, and its inputs.
+//! What `asked` answers, as a line: a command's name, the role, the limits unless they are the greatest, its own options,
+//! and its inputs.
 
 use std::alloc::{AllocError, Global};
 use std::process::Abort;
@@ -8,7 +8,15 @@ use wsn_print::{Style, ViewLimit};
 use wsn_rules::{Detail, Limits};
 use wsn_wire::{Lengths, Role};
 
-/// Fails unless this is the answer to the words of a line, which single spaces separate.
+/// Fails unless each line of a table has words and, after `=>`, the answer to them.
+pub fn expect_answers(rt: &impl Abort, alloc: Global, table: &str) {
+    for line in table.lines() {
+        let (words, expected) = line.split_once(" => ").expect(rt, "words and an answer");
+        expect_answer(rt, alloc, words, expected);
+    }
+}
+
+/// Fails unless this is the answer to words, which single spaces separate.
 pub fn expect_answer(rt: &impl Abort, alloc: Global, words: &str, expected: &str) {
     let answer = answer_to(alloc, words).expect(rt, "memory");
     assert_eq!(rt; answer.as_str(), expected, "{words}");
@@ -51,19 +59,8 @@ fn request_line(alloc: Global, request: &Request) -> Result<String, AllocError> 
             second,
             side,
         } => {
-            let Comparison {
-                role,
-                limits,
-                without,
-                format,
-                view,
-            } = comparison;
-            let stream = stream_line(alloc, "same", *role, limits)?;
             let (first, second) = (name_of(first), name_of(second));
-            let suffix = suffix_of(*format);
-            let without = left_out(without);
-            let view = shown_events(alloc, *view)?;
-            let line = format!(in alloc; "{stream}, {first} and {second}{without}{view}{suffix}")?;
+            let line = comparison_line(alloc, comparison, first, second)?;
             with_side(alloc, &line, *side)
         }
         Request::Closings {
@@ -72,7 +69,7 @@ fn request_line(alloc: Global, request: &Request) -> Result<String, AllocError> 
             files,
         } => {
             let limits = limits_line(alloc, limits)?;
-            let mut line = format!(in alloc; "closing {limits}, of each")?;
+            let mut line = format!(in alloc; "closing{limits}, of each")?;
             for file in files.as_slice() {
                 line.push_str(" ")?;
                 line.push_str(file.as_str())?;
@@ -81,6 +78,19 @@ fn request_line(alloc: Global, request: &Request) -> Result<String, AllocError> 
         }
         Request::Help(_) => String::from_str(alloc, "help"),
     }
+}
+
+fn comparison_line(
+    alloc: Global,
+    comparison: &Comparison,
+    first: &str,
+    second: &str,
+) -> Result<String, AllocError> {
+    let stream = stream_line(alloc, "same", comparison.role, &comparison.limits)?;
+    let suffix = suffix_of(comparison.format);
+    let without = left_out(&comparison.without);
+    let view = shown_events(alloc, comparison.view)?;
+    format!(in alloc; "{stream}, {first} and {second}{without}{view}{suffix}")
 }
 
 /// How much of a payload is shown of the events that differ; nothing if they aren't shown.
@@ -155,7 +165,7 @@ fn job_line(alloc: Global, job: &Job) -> Result<String, AllocError> {
         Job::Closing(limits, format) => {
             let limits = limits_line(alloc, limits)?;
             let suffix = suffix_of(*format);
-            format!(in alloc; "closing {limits}{suffix}")
+            format!(in alloc; "closing{limits}{suffix}")
         }
         Job::ShowStream(role, limits, style) => {
             let stream = stream_line(alloc, "show", *role, limits)?;
@@ -165,11 +175,11 @@ fn job_line(alloc: Global, job: &Job) -> Result<String, AllocError> {
         Job::Show(limits, style) => {
             let limits = limits_line(alloc, limits)?;
             let style = style_line(alloc, style)?;
-            format!(in alloc; "show {limits}, {style}")
+            format!(in alloc; "show{limits}, {style}")
         }
         Job::RedactCapture(limits) => {
             let limits = limits_line(alloc, limits)?;
-            format!(in alloc; "redact {limits}")
+            format!(in alloc; "redact{limits}")
         }
     }
 }
@@ -228,17 +238,23 @@ fn stream_line(
 ) -> Result<String, AllocError> {
     let role = role_name(role);
     let limits = limits_line(alloc, limits)?;
-    format!(in alloc; "{command} {role} {limits}")
+    format!(in alloc; "{command} {role}{limits}")
 }
 
+/// What follows a command for its limits: on messages, inputs and frames, and the accepted lengths. Nothing for the
+/// greatest, with the shortest lengths.
 fn limits_line(alloc: Global, limits: &Limits) -> Result<String, AllocError> {
     let (message, input) = (limits.message(), limits.input());
     let lengths = match limits.lengths() {
         Lengths::Shortest => "shortest",
         Lengths::Any => "any",
     };
-    match limits.frames() {
-        Some(frames) => format!(in alloc; "{message} {input} {frames} {lengths}"),
-        None => format!(in alloc; "{message} {input} - {lengths}"),
+    let line = match limits.frames() {
+        Some(frames) => format!(in alloc; " within {message} {input} {frames} {lengths}")?,
+        None => format!(in alloc; " within {message} {input} - {lengths}")?,
+    };
+    if line.as_str() == " within 16777216 1099511627776 - shortest" {
+        return String::from_str(alloc, "");
     }
+    Ok(line)
 }

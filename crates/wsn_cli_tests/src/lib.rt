@@ -1,10 +1,8 @@
 //! Tests of `asked`: what the words of a command line ask for, in `requests`, and which are refused, in `refusals`.
-//! `answer_lines` puts an answer into a line. Beside them are tests of hints, in `hints`, `side_hints` and `accusations`, and of what is
-//! said of a file that can't be read, in `unread_files`.
+//! `answer_lines` puts an answer into a line. Beside them are tests of hints, in `hints`, and of what is said of a file
+//! that can't be read, in `unread_files`.
 #![tactic(auto)]
 
-#[cfg(test)]
-mod accusations;
 #[cfg(test)]
 mod answer_lines;
 #[cfg(test)]
@@ -13,7 +11,5 @@ mod hints;
 mod refusals;
 #[cfg(test)]
 mod requests;
-#[cfg(test)]
-mod side_hints;
 #[cfg(test)]
 mod unread_files;

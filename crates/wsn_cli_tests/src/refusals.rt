@@ -1,6 +1,6 @@
 //! Words that ask for nothing: which rules are clap's, and which are the program's own.
 
-use crate::answer_lines::expect_answer;
+use crate::answer_lines::{expect_answer, expect_answers};
 
 /// A missing or unknown word, and a role or number out of its range.
 static WRONG: [&str; 46] = [
@@ -59,57 +59,43 @@ fn clap_refuses_wrong_words(rt: HostRuntime) {
     }
 }
 
-/// Options of `recut` that don't go together, a key that isn't eight digits, a number that isn't digits alone, two inputs that are both
-/// standard input, and a capture that is read as it is: with each the mistake.
-static REFUSED: [(&str, &str); 31] = [
-    ("wsn recut --role server", "NoPlanOrSize"),
-    ("wsn recut --role server --plan p --size 2", "PlanAndSize"),
-    (
-        "wsn recut --role server --plan p --weave",
-        "SizeOptionWithPlan",
-    ),
-    (
-        "wsn recut --role client --plan p --key 00000000",
-        "SizeOptionWithPlan",
-    ),
-    (
-        "wsn recut --role server --size 3 --key 00000000",
-        "KeyOfServer",
-    ),
-    ("wsn recut --role server --weave", "NoPlanOrSize"),
-    ("wsn recut --role client --key 00000000", "NoPlanOrSize"),
-    ("wsn recut --role client --size 2 --key 0102030", "BadKey"),
-    ("wsn recut --role client --size 2 --key 010203040", "BadKey"),
-    ("wsn recut --role client --size 2 --key 0102030g", "BadKey"),
-    ("wsn recut --role client --size 2 --key -", "BadKey"),
-    ("wsn recut --role client --size 2 --key ", "BadKey"),
-    ("wsn judge --role server --limit +5", "NoNumber"),
-    ("wsn closing --limit=-0", "NoNumber"),
-    ("wsn payload --role server --at +5", "NoNumber"),
-    ("wsn payload --role server --at -5", "NoNumber"),
-    ("wsn payload --role server --at end", "NoNumber"),
-    (
-        "wsn payload --role server --at 18446744073709551616",
-        "OffsetTooLarge",
-    ),
-    ("wsn show --view +5", "NoNumber"),
-    ("wsn same --role client a b --view +5", "NoNumber"),
-    ("wsn same --role client --frames +1 a b", "NoNumber"),
-    ("wsn recut --role server --size +3", "NoNumber"),
-    ("wsn recut --role server --plan p --limit +5", "NoNumber"),
-    ("wsn same --role server - -", "TwoStandardInputs"),
-    ("wsn same --role server --capture - -", "TwoStandardInputs"),
-    ("wsn recut --role server --plan -", "TwoStandardInputs"),
-    ("wsn recut --role server --plan - -", "TwoStandardInputs"),
-    ("wsn show --capture", "CaptureAsItIs"),
-    ("wsn closing --capture capture", "CaptureAsItIs"),
-    ("wsn redact --capture capture", "CaptureAsItIs"),
-    ("wsn closing - file -", "TwoStandardInputs"),
-];
+/// Options of `recut` that don't go together, a key that isn't eight digits, a number that isn't digits alone, two inputs
+/// that are both standard input, and a capture that is read as it is: with each, after `=>`, the mistake.
+const REFUSED: &str = "\
+wsn recut --role server => NoPlanOrSize
+wsn recut --role server --plan p --size 2 => PlanAndSize
+wsn recut --role server --plan p --weave => SizeOptionWithPlan
+wsn recut --role client --plan p --key 00000000 => SizeOptionWithPlan
+wsn recut --role server --size 3 --key 00000000 => KeyOfServer
+wsn recut --role server --weave => NoPlanOrSize
+wsn recut --role client --key 00000000 => NoPlanOrSize
+wsn recut --role client --size 2 --key 0102030 => BadKey
+wsn recut --role client --size 2 --key 010203040 => BadKey
+wsn recut --role client --size 2 --key 0102030g => BadKey
+wsn recut --role client --size 2 --key - => BadKey
+wsn recut --role client --size 2 --key  => BadKey
+wsn judge --role server --limit +5 => NoNumber
+wsn closing --limit=-0 => NoNumber
+wsn payload --role server --at +5 => NoNumber
+wsn payload --role server --at -5 => NoNumber
+wsn payload --role server --at end => NoNumber
+wsn payload --role server --at 18446744073709551616 => OffsetTooLarge
+wsn show --view +5 => NoNumber
+wsn same --role client a b --view +5 => NoNumber
+wsn same --role client --frames +1 a b => NoNumber
+wsn recut --role server --size +3 => NoNumber
+wsn recut --role server --plan p --limit +5 => NoNumber
+wsn same --role server - - => TwoStandardInputs
+wsn same --role server --capture - - => TwoStandardInputs
+wsn recut --role server --plan - => TwoStandardInputs
+wsn recut --role server --plan - - => TwoStandardInputs
+wsn show --capture => CaptureAsItIs
+wsn closing --capture capture => CaptureAsItIs
+wsn redact --capture capture => CaptureAsItIs
+wsn closing - file - => TwoStandardInputs
+";
 
 #[test]
 fn the_program_refuses_what_clap_accepts(rt: HostRuntime) {
-    for row in REFUSED.iter() {
-        expect_answer(&rt, rt.alloc(), row.0, row.1);
-    }
+    expect_answers(&rt, rt.alloc(), REFUSED);
 }

@@ -45,17 +45,17 @@ pub fn run_on<A: Allocator + Copy>(
     }
 }
 
-/// Runs a command on the side of a capture that this endpoint sent. It allocates from this heap.
+/// Runs a command on the side of a capture whose stream it reads. It allocates from this heap.
 pub fn run_on_side_on<A: Allocator + Copy>(
     heap: A,
     alloc: Global,
     job: &Job<A>,
-    role: Role,
     text: Chopped,
     mut writer: Narrow,
 ) -> CommandRun
     requires { MayRunOnSide job.now }
 {
+    let role = job.role().unwrap_or(Role::Server);
     let mut err = Vec::new(alloc);
     let ran = run_on_side(
         heap,
@@ -75,15 +75,14 @@ pub fn run_on_side_on<A: Allocator + Copy>(
 pub fn run_same_on_sides_on(
     alloc: Global,
     limits: Limits,
-    first: Chopped,
-    second: Chopped,
+    texts: (Chopped, Chopped),
     mut writer: Narrow,
 ) -> CommandRun {
     let mut err = Vec::new(alloc);
     let ran = run_same_on_sides(
         alloc,
-        &mut Input::new(SideReader::new(first, Role::Server)),
-        &mut Input::new(SideReader::new(second, Role::Server)),
+        &mut Input::new(SideReader::new(texts.0, Role::Server)),
+        &mut Input::new(SideReader::new(texts.1, Role::Server)),
         text_of(limits),
         &mut Output::new(&mut writer),
         &mut Output::new(&mut err),
@@ -100,15 +99,14 @@ pub fn run_same_on<A: Allocator + Copy>(
     heap: A,
     alloc: Global,
     limits: Limits,
-    mut first: Chopped,
-    mut second: Chopped,
+    mut readers: (Chopped, Chopped),
     mut writer: Narrow,
 ) -> CommandRun {
     let mut err = Vec::new(alloc);
     let ran = run_same(
         heap,
-        &mut Input::new(&mut first),
-        &mut Input::new(&mut second),
+        &mut Input::new(&mut readers.0),
+        &mut Input::new(&mut readers.1),
         text_of(limits),
         &mut Output::new(&mut writer),
         &mut Output::new(&mut err),

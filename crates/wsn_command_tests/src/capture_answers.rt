@@ -8,8 +8,8 @@ use std::process::Abort;
 use wsn_capture::{Capture, LineFault, Report, judge_capture, put_report};
 use wsn_doubles::readers::Chopped;
 use wsn_doubles::vectors::{GREATEST, Settings, greatest, limits_from};
-use wsn_scan::Limits;
-use wsn_wire::{Input, Output};
+use wsn_io::{Input, Output};
+use wsn_rules::Limits;
 
 /// The greatest limits, but for this input limit on each side.
 pub fn limits_of(rt: &impl Abort, input: u64) -> Limits {
@@ -36,31 +36,36 @@ pub fn judged_text<R: Read + Drop>(
     }
 }
 
-/// Fails unless this is the answer of `judge_capture`.
+/// Fails unless this is the answer of `judge_capture` under the greatest limits.
 pub fn expect_judged<R: Read + Drop>(
     rt: &impl Abort,
     alloc: Global,
     reader: R,
-    limits: Limits,
     expected: &str,
     of: &impl Debug,
 ) {
-    let reported = judged_text(rt, alloc, reader, limits);
+    let reported = judged_text(rt, alloc, reader, greatest());
     expect_line_of(rt, reported.as_str(), expected, of);
 }
 
-/// Fails unless this is the answer of `judge_capture`, with reads of each of these sizes.
+/// A capture's text, and the maximum sizes of the reads that are tried.
+#[derive(Clone, Copy)]
+pub struct SizedReads<'a> {
+    pub text: &'a [u8],
+    pub sizes: &'a [usize],
+}
+
+/// Fails unless this is the answer of `judge_capture` under the greatest limits, with reads of each size.
 pub fn expect_judged_by(
     rt: &impl Abort,
     alloc: Global,
-    sizes: &[usize],
-    text: &[u8],
+    reads: SizedReads,
     expected: &str,
     of: &impl Debug,
 ) {
-    for at_most in sizes.iter() {
-        let reader = Chopped::new(text, *at_most);
-        expect_judged(rt, alloc, reader, greatest(), expected, &(of, *at_most));
+    for at_most in reads.sizes.iter() {
+        let reader = Chopped::new(reads.text, *at_most);
+        expect_judged(rt, alloc, reader, expected, &(of, *at_most));
     }
 }
 

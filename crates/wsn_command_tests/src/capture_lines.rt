@@ -1,7 +1,7 @@
 //! The lines of a capture: malformed ones, which of their faults is reported, and the longest that are allowed.
 
 use crate::capture_answers::{
-    expect_judged, expect_judged_by, fed_line_by_line, judged_text, limits_of, put,
+    SizedReads, expect_judged, expect_judged_by, fed_line_by_line, judged_text, limits_of, put,
 };
 use crate::expecting::{
     expect, expect_equal_of, expect_line_answer, expect_line_of, expect_of, expect_shown,
@@ -50,8 +50,11 @@ pub fn faulty() -> &'static [(&'static str, &'static str, LineFault)] {
 fn bad_hex_bad_form_and_after_end_with_reads_of_every_size(rt: HostRuntime) {
     let alloc = rt.alloc();
     for (text, words, fault) in faulty() {
-        let bytes = text.as_bytes();
-        expect_judged_by(&rt, alloc, READS.as_slice(), bytes, words, text);
+        let reads = SizedReads {
+            text: text.as_bytes(),
+            sizes: &READS,
+        };
+        expect_judged_by(&rt, alloc, reads, words, text);
         expect_fault(&rt, text, *fault);
     }
 }
@@ -72,7 +75,8 @@ fn input_limit_unless_after_end(rt: HostRuntime) {
         ("S.\nS 8100", "line 2: after-end"),
     ] {
         let reader = Chopped::new(text.as_bytes(), usize::MAX);
-        expect_judged(&rt, alloc, reader, limits_of(&rt, 1), words, &text);
+        let reported = judged_text(&rt, alloc, reader, limits_of(&rt, 1));
+        expect_line_of(&rt, reported.as_str(), words, &text);
     }
 }
 
@@ -111,9 +115,11 @@ const OPEN: &str = "client running\nserver running\nfirst -\necho -\n\
 const REFUSED: &str = "client running\nserver refused 0 nothing-to-continue 1002\nfirst -\necho -\n\
     client-sees 1006\nserver-sees -\noutcome failed\n";
 
-/// A line's first bytes, a byte that follows them and how many times, and the text of the answer, whatever the line's
-/// end.
-static LONGEST: [(&str, u8, usize, &str); 5] = [
+/// A line's first bytes, a byte that follows them and how many times, and the text of the answer.
+type Long = (&'static str, u8, usize, &'static str);
+
+/// Lines whose end changes nothing.
+static LONGEST: [Long; 5] = [
     ("#", b'#', 8_193, OPEN),
     ("S ", b'0', 8_192, REFUSED),
     ("#", b'#', 8_194, "line 1: too-long"),
@@ -122,47 +128,35 @@ static LONGEST: [(&str, u8, usize, &str); 5] = [
 ];
 
 /// The same, with a line end of each row's own.
-static ENDED: [(&str, u8, usize, &str, &str); 4] = [
-    ("#", b'#', 8_193, "line 1: too-long", "\r\r\n"),
-    ("#\n#", b'#', 8_194, "line 2: too-long", "\n"),
-    ("", b'x', 8_195, "line 1: too-long", "\n"),
-    ("", b'x', 8_194, "line 1: bad-form", "\n"),
+static ENDED: [(Long, &str); 4] = [
+    (("#", b'#', 8_193, "line 1: too-long"), "\r\r\n"),
+    (("#\n#", b'#', 8_194, "line 2: too-long"), "\n"),
+    (("", b'x', 8_195, "line 1: too-long"), "\n"),
+    (("", b'x', 8_194, "line 1: bad-form"), "\n"),
 ];
 
 /// The maximum sizes of reads for long lines.
 const LONG_READS: [usize; 5] = [1, 4_095, 4_096, 8_195, usize::MAX];
 
-/// Fails unless this is the answer, with reads of each size, for a text of these first bytes, the repeated byte and
-/// the line end.
-fn expect_long(
-    rt: &impl Abort,
-    alloc: Global,
-    first: &str,
-    byte: u8,
-    count: usize,
-    end: &str,
-    expected: &str,
-) {
+/// Fails unless a long line with this end has its answer, with reads of each size.
+fn expect_long(rt: &impl Abort, alloc: Global, line: &Long, end: &str) {
+    let (first, byte, count, expected) = *line;
     let mut text = filled(alloc, first.as_bytes(), byte, count).expect(rt, "memory");
     put(rt, &mut text, end.as_bytes());
-    let of = (first, count, end);
-    expect_judged_by(
-        rt,
-        alloc,
-        LONG_READS.as_slice(),
-        text.as_slice(),
-        expected,
-        &of,
-    );
+    let reads = SizedReads {
+        text: text.as_slice(),
+        sizes: &LONG_READS,
+    };
+    expect_judged_by(rt, alloc, reads, expected, &(first, count, end));
 }
 
 /// A comment, and digits, of the greatest length and of one byte more.
 #[test]
 fn too_long_past_8_194_bytes(rt: HostRuntime) {
     let alloc = rt.alloc();
-    for (first, byte, count, expected) in LONGEST.iter() {
+    for line in LONGEST.iter() {
         for end in ["", "\n", "\r", "\r\n"] {
-            expect_long(&rt, alloc, first, *byte, *count, end, expected);
+            expect_long(&rt, alloc, line, end);
         }
     }
 }
@@ -170,9 +164,8 @@ fn too_long_past_8_194_bytes(rt: HostRuntime) {
 /// A CR inside a line counts, and each line counts by itself. `too-long` takes precedence over `bad-form`.
 #[test]
 fn too_long_with_other_line_ends(rt: HostRuntime) {
-    let alloc = rt.alloc();
-    for (first, byte, count, expected, end) in ENDED.iter() {
-        expect_long(&rt, alloc, first, *byte, *count, end, expected);
+    for (line, end) in ENDED.iter() {
+        expect_long(&rt, rt.alloc(), line, end);
     }
 }
 
@@ -188,7 +181,7 @@ fn too_many_lines_past_a_million(rt: HostRuntime) {
     ] {
         put(&rt, &mut text, more.as_bytes());
         let reader = Chopped::new(text.as_slice(), at_most);
-        expect_judged(&rt, alloc, reader, greatest(), expected, &more);
+        expect_judged(&rt, alloc, reader, expected, &more);
     }
 }
 

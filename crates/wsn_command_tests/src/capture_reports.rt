@@ -1,7 +1,8 @@
 //! Reports of captures: both sides, and how the connection closed, in the lines that are printed.
 
 use crate::capture_answers::{
-    expect_judged, expect_judged_by, fed_line_by_line, limits_of, one_byte_lines, report_text,
+    SizedReads, expect_judged, expect_judged_by, fed_line_by_line, limits_of, one_byte_lines,
+    report_text,
 };
 use crate::expecting::{expect_equal_of, expect_line_answer, expect_line_of, expect_of};
 use std::alloc::Global;
@@ -9,7 +10,7 @@ use std::process::Abort;
 use wsn_capture::{Capture, LineFault, Outcome, Report, Side};
 use wsn_doubles::readers::{Chopped, READS};
 use wsn_doubles::vectors::greatest;
-use wsn_scan::INPUT_MAX;
+use wsn_rules::INPUT_MAX;
 use wsn_wire::Role;
 
 /// A capture and the lines of its report. The name begins with the outcome.
@@ -167,8 +168,11 @@ pub fn report_rows() -> &'static [ReportRow] {
 fn outcomes_with_reads_of_every_size(rt: HostRuntime) {
     let alloc = rt.alloc();
     for row in report_rows() {
-        let text = row.text.as_bytes();
-        expect_judged_by(&rt, alloc, READS.as_slice(), text, row.report, &row.name);
+        let reads = SizedReads {
+            text: row.text.as_bytes(),
+            sizes: &READS,
+        };
+        expect_judged_by(&rt, alloc, reads, row.report, &row.name);
     }
 }
 
@@ -193,7 +197,7 @@ fn outcomes_of_a_line_for_each_byte(rt: HostRuntime) {
     for row in report_rows() {
         let small = one_byte_lines(&rt, alloc, row.text);
         let reader = Chopped::new(small.as_slice(), usize::MAX);
-        expect_judged(&rt, alloc, reader, greatest(), row.report, &row.name);
+        expect_judged(&rt, alloc, reader, row.report, &row.name);
     }
 }
 

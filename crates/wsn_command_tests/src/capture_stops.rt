@@ -10,8 +10,7 @@ use wsn_capture::{CaptureStop, LineFault, Report, judge_capture, put_report};
 use wsn_doubles::readers::{Chopped, READS};
 use wsn_doubles::vectors::{filled, greatest};
 use wsn_doubles::writers::{FULL, Full, Narrow};
-use wsn_scan::Stop;
-use wsn_wire::{Input, Output};
+use wsn_io::{Input, Output, Stop};
 
 const CLEAN: &[u8] = b"C 88820000000003e8\nS 880203e8\nS.\nC.\n";
 
@@ -130,5 +129,5 @@ fn a_report_is_written_whole(rt: HostRuntime) {
     let written = put_report(&mut Output::new(&mut slow), &report);
     expect(&rt, written == Ok(()));
     expect_bytes(&rt, slow.taken.as_slice(), whole.as_bytes());
-    expect_judged(&rt, alloc, CLEAN, greatest(), whole.as_str(), &CLEAN);
+    expect_judged(&rt, alloc, CLEAN, whole.as_str(), &CLEAN);
 }

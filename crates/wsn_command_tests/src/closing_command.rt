@@ -4,7 +4,7 @@
 use crate::capture_answers::limits_of;
 use crate::capture_lines::faulty;
 use crate::capture_reports::report_rows;
-use crate::expecting::{expect_bytes_of, expect_failed_writes, expect_of, expect_run};
+use crate::expecting::{FailedWrite, expect_bytes_of, expect_failed_writes, expect_of, expect_run};
 use std::alloc::{Allocator, Global};
 use std::io::ErrorKind;
 use std::process::Abort;
@@ -13,9 +13,9 @@ use wsn_doubles::heaps::heap_of;
 use wsn_doubles::readers::{Chopped, READS};
 use wsn_doubles::vectors::{filled, greatest};
 use wsn_doubles::writers::{FULL, Full, Narrow};
+use wsn_io::{Input, Output};
 use wsn_job::{Format, Job, run};
-use wsn_scan::Limits;
-use wsn_wire::{Input, Output};
+use wsn_rules::Limits;
 
 /// The kinds of failed reads. After each, the next call would succeed, and no read is retried.
 const KINDS: [ErrorKind; 3] = [
@@ -32,17 +32,20 @@ struct Expected<'a> {
     err: &'a str,
 }
 
-/// A capture's text and the maximum size of its reads. A read may fail after the given number of bytes.
+/// The limits, a capture's text and the maximum size of its reads. A read may fail after the given number of bytes.
 #[derive(Clone, Copy)]
 struct Given<'a> {
+    limits: Limits,
     text: &'a [u8],
     at_most: usize,
     fails: Option<(usize, ErrorKind)>,
 }
 
 impl<'a> Given<'a> {
+    /// No read fails, and the limits are the greatest.
     fn whole(text: &'a [u8], at_most: usize) -> Self {
         Given {
+            limits: greatest(),
             text,
             at_most,
             fails: None,
@@ -61,16 +64,10 @@ impl<'a> Given<'a> {
 }
 
 /// Fails unless this is the result of the command, both with no memory and with memory.
-fn expect_closing(
-    rt: &impl Abort,
-    alloc: Global,
-    limits: Limits,
-    given: Given,
-    expected: Expected,
-) {
+fn expect_closing(rt: &impl Abort, alloc: Global, given: Given, expected: Expected) {
     let heap = heap_of(alloc, 0).expect(rt, "memory");
-    expect_closing_on(rt, &heap, alloc, limits, given, expected);
-    expect_closing_on(rt, alloc, alloc, limits, given, expected);
+    expect_closing_on(rt, &heap, alloc, given, expected);
+    expect_closing_on(rt, alloc, alloc, given, expected);
 }
 
 /// Fails unless this is the result of the command, with memory from this heap.
@@ -78,11 +75,10 @@ fn expect_closing_on<A: Allocator + Copy>(
     rt: &impl Abort,
     heap: A,
     alloc: Global,
-    limits: Limits,
     given: Given,
     expected: Expected,
 ) {
-    let job = Job::Closing(limits, Format::Text);
+    let job = Job::Closing(given.limits, Format::Text);
     let done = run_on(heap, alloc, &job, given.reader(), Narrow::wide(alloc));
     expect_run(
         rt,
@@ -94,13 +90,13 @@ fn expect_closing_on<A: Allocator + Copy>(
 }
 
 /// Fails unless the command writes only this line, on standard error.
-fn expect_stop(rt: &impl Abort, alloc: Global, limits: Limits, given: Given, words: &str) {
+fn expect_stop(rt: &impl Abort, alloc: Global, given: Given, words: &str) {
     let expected = Expected {
         status: 2,
         out: "",
         err: words,
     };
-    expect_closing(rt, alloc, limits, given, expected);
+    expect_closing(rt, alloc, given, expected);
 }
 
 #[test]
@@ -114,7 +110,7 @@ fn outcomes_are_printed(rt: HostRuntime) {
         };
         for at_most in READS {
             let given = Given::whole(row.text.as_bytes(), at_most);
-            expect_closing(&rt, alloc, greatest(), given, expected);
+            expect_closing(&rt, alloc, given, expected);
         }
     }
 }
@@ -125,16 +121,18 @@ fn bad_hex_bad_form_and_after_end_are_reported(rt: HostRuntime) {
     for (text, words, _fault) in faulty() {
         for at_most in READS {
             let given = Given::whole(text.as_bytes(), at_most);
-            expect_stop(&rt, alloc, greatest(), given, words);
+            expect_stop(&rt, alloc, given, words);
         }
     }
 }
 
 #[test]
 fn input_limit_is_reported(rt: HostRuntime) {
-    let given = Given::whole(b"C 81\nS 81\nS 00\n", 4_096);
-    let limits = limits_of(&rt, 1);
-    expect_stop(&rt, rt.alloc(), limits, given, "line 3: input-limit");
+    let given = Given {
+        limits: limits_of(&rt, 1),
+        ..Given::whole(b"C 81\nS 81\nS 00\n", 4_096)
+    };
+    expect_stop(&rt, rt.alloc(), given, "line 3: input-limit");
 }
 
 #[test]
@@ -142,7 +140,7 @@ fn too_long_is_reported(rt: HostRuntime) {
     let alloc = rt.alloc();
     let long = filled(alloc, b"#\n#", b'#', 8_194).expect(&rt, "memory");
     let given = Given::whole(long.as_slice(), 4_096);
-    expect_stop(&rt, alloc, greatest(), given, "line 2: too-long");
+    expect_stop(&rt, alloc, given, "line 2: too-long");
 }
 
 #[test]
@@ -150,13 +148,7 @@ fn too_many_lines_is_reported(rt: HostRuntime) {
     let alloc = rt.alloc();
     let many = filled(alloc, b"", b'\n', 1_000_001).expect(&rt, "memory");
     let given = Given::whole(many.as_slice(), usize::MAX);
-    expect_stop(
-        &rt,
-        alloc,
-        greatest(),
-        given,
-        "line 1000001: too-many-lines",
-    );
+    expect_stop(&rt, alloc, given, "line 1000001: too-many-lines");
 }
 
 #[test]
@@ -212,11 +204,10 @@ fn a_line_fault_is_reported_before_a_failed_read(rt: HostRuntime) {
 fn expect_reported_after(rt: &impl Abort, alloc: Global, text: &str, count: usize, words: &str) {
     for kind in KINDS {
         let given = Given {
-            text: text.as_bytes(),
-            at_most: 3,
             fails: Some((count, kind)),
+            ..Given::whole(text.as_bytes(), 3)
         };
-        expect_stop(rt, alloc, greatest(), given, words);
+        expect_stop(rt, alloc, given, words);
     }
 }
 
@@ -225,12 +216,16 @@ fn expect_reported_after(rt: &impl Abort, alloc: Global, text: &str, count: usiz
 fn a_failed_write_is_reported_after_every_byte(rt: HostRuntime) {
     let alloc = rt.alloc();
     let heap = heap_of(alloc, 0).expect(&rt, "memory");
+    let job = Job::Closing(greatest(), Format::Text);
     for row in report_rows() {
         let report = row.report.as_bytes();
         for room in 0..report.len() {
-            let (text, prefix) = (row.text.as_bytes(), &report[..room]);
-            let job = Job::Closing(greatest(), Format::Text);
-            expect_failed_writes(&rt, &heap, alloc, &job, text, usize::MAX, prefix);
+            let write = FailedWrite {
+                bytes: row.text.as_bytes(),
+                at_most: usize::MAX,
+                out: &report[..room],
+            };
+            expect_failed_writes(&rt, &heap, alloc, &job, write);
         }
     }
 }

@@ -6,7 +6,7 @@ use crate::expecting::{expect_count, expect_run, prefix_of};
 use std::alloc::Global;
 use std::process::Abort;
 use wsn_command_runs::{run_on, run_same_on};
-use wsn_doubles::answer_lines::listing;
+use wsn_doubles::engines::Engine;
 use wsn_doubles::readers::{Chopped, READS};
 use wsn_doubles::vectors::{Stream, greatest, stream_named};
 use wsn_doubles::writers::{FULL, Full, Narrow};
@@ -60,20 +60,26 @@ fn expect_failed_reads(rt: &impl Abort, alloc: Global, job: &Job, expected: &Exp
     }
 }
 
-/// Fails unless a command reports that its writer fails after each byte. It accepts `at_most` bytes per call.
+/// A writer: the most bytes that it accepts per call, and what it does when it is full.
+#[derive(Clone, Copy)]
+struct Writer {
+    at_most: usize,
+    full: Full,
+}
+
+/// Fails unless a command reports that its writer fails after each byte.
 fn expect_failed_write(
     rt: &impl Abort,
     alloc: Global,
     job: &Job,
     expected: &Expected,
-    at_most: usize,
-    full: Full,
+    writer: Writer,
 )
     requires { MayRun job.now }
 {
     for room in 0..expected.out.len() {
         let reader = Chopped::new(expected.stream.bytes.as_slice(), 3);
-        let writer = Narrow::new(alloc, at_most, room, full);
+        let writer = Narrow::new(alloc, writer.at_most, room, writer.full);
         let done = run_on(alloc, alloc, job, reader, writer);
         expect_run(rt, &done, 2, &expected.out[..room], "write failed");
     }
@@ -84,7 +90,7 @@ fn expect_failed_writes(rt: &impl Abort, alloc: Global, job: &Job, expected: &Ex
 {
     for full in FULL {
         for at_most in [1, usize::MAX] {
-            expect_failed_write(rt, alloc, job, expected, at_most, full);
+            expect_failed_write(rt, alloc, job, expected, Writer { at_most, full });
         }
     }
 }
@@ -123,10 +129,10 @@ fn judge_is_stopped(rt: HostRuntime) {
 fn frames_is_stopped(rt: HostRuntime) {
     let alloc = rt.alloc();
     let stream = fragments(&rt, alloc);
-    let lines = listing(alloc, &stream).expect(&rt, "memory");
+    let lines = Engine::List.output(alloc, &stream).expect(&rt, "memory");
     let expected = Expected {
         stream: &stream,
-        out: lines.as_bytes(),
+        out: lines.as_slice(),
         due: &LISTED,
     };
     let job = Job::Frames(stream.role, stream.limits, Format::Text);
@@ -163,7 +169,7 @@ fn expect_stopped_by_a_read(
         } else {
             (whole, failing)
         };
-        let done = run_same_on(alloc, alloc, limits, first, second, Narrow::wide(alloc));
+        let done = run_same_on(alloc, alloc, limits, (first, second), Narrow::wide(alloc));
         expect_run(rt, &done, 2, &[], "read failed");
     }
 }
@@ -194,7 +200,7 @@ fn expect_stopped_by_a_write(
     let first = Chopped::new(stream.bytes.as_slice(), usize::MAX);
     let second = Chopped::new(stream.normal.as_slice(), usize::MAX);
     let writer = Narrow::new(alloc, 1, room, full);
-    let done = run_same_on(alloc, alloc, limits, first, second, writer);
+    let done = run_same_on(alloc, alloc, limits, (first, second), writer);
     if room < line.len() {
         expect_run(rt, &done, 2, &line[..room], "write failed");
     } else {

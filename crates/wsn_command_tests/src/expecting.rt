@@ -10,11 +10,10 @@ use wsn_capture::{Capture, LineFault};
 use wsn_command_runs::{CommandRun, run_on};
 use wsn_doubles::answer_lines::{answer_line, line_of, stop_line, verdict_line};
 use wsn_doubles::readers::Chopped;
-use wsn_doubles::vectors::Stream;
 use wsn_doubles::writers::{FULL, Narrow};
+use wsn_io::{Input, Stop};
 use wsn_job::Job;
-use wsn_scan::{Stop, Verdict};
-use wsn_wire::Input;
+use wsn_rules::Verdict;
 
 /// Fails unless this holds.
 pub fn expect(rt: &impl Abort, holds: bool)
@@ -158,54 +157,6 @@ pub fn expect_again<A: Allocator + Copy>(
     expect_at_its_end(rt, alloc, source, line);
 }
 
-/// A way of reading a stream: the stream's name, the engine, the number of bytes, and the maximum size of a read.
-#[derive(Clone, Copy, Debug)]
-pub struct Reading<'a> {
-    pub name: &'a str,
-    pub how: &'static str,
-    pub count: usize,
-    pub at_most: usize,
-}
-
-impl<'a> Reading<'a> {
-    /// Reads all bytes of a stream, at most `at_most` per call.
-    pub fn whole(stream: &'a Stream, how: &'static str, at_most: usize) -> Self {
-        Reading {
-            name: stream.name,
-            how,
-            count: stream.bytes.len(),
-            at_most,
-        }
-    }
-
-    /// Fails unless this is the expected line.
-    pub fn expect_line(&self, rt: &impl Abort, line: &str, expected: &str) {
-        expect_line_of(rt, line, expected, self);
-    }
-
-    /// Fails unless this is the line of the answer.
-    pub fn expect_answer(
-        &self,
-        rt: &impl Abort,
-        alloc: Global,
-        answer: &Result<Verdict, Stop>,
-        expected: &str,
-    ) {
-        let line = answer_line(alloc, answer).expect(rt, "memory");
-        self.expect_line(rt, line.as_str(), expected);
-    }
-
-    /// Fails unless this holds.
-    pub fn expect(&self, rt: &impl Abort, holds: bool, problem: &str) {
-        expect_of(rt, holds, &(self, problem));
-    }
-
-    /// Fails unless these are the expected bytes.
-    pub fn expect_bytes(&self, rt: &impl Abort, bytes: &[u8], expected: &[u8]) {
-        self.expect(rt, bytes == expected, "other bytes than expected");
-    }
-}
-
 /// Fails unless a command reports in one line that its reader failed before the first byte.
 pub fn expect_failed_read<A: Allocator + Copy>(
     rt: &impl Abort,
@@ -220,23 +171,28 @@ pub fn expect_failed_read<A: Allocator + Copy>(
     expect_run(rt, &done, 2, &[], "read failed");
 }
 
-/// Fails unless a command reports in one line that its writer, which accepts at most `at_most` bytes per call, failed
-/// after this output, for each behaviour of a full writer.
+/// What a command reads, the most bytes that its writer accepts per call, and all that the writer accepts.
+#[derive(Clone, Copy)]
+pub struct FailedWrite<'a> {
+    pub bytes: &'a [u8],
+    pub at_most: usize,
+    pub out: &'a [u8],
+}
+
+/// Fails unless a command reports in one line that its writer failed, for each behaviour of a full writer.
 pub fn expect_failed_writes<A: Allocator + Copy>(
     rt: &impl Abort,
     heap: A,
     alloc: Global,
     job: &Job<A>,
-    bytes: &[u8],
-    at_most: usize,
-    out: &[u8],
+    write: FailedWrite,
 )
     requires { MayRun job.now }
 {
     for full in FULL {
-        let reader = Chopped::new(bytes, usize::MAX);
-        let writer = Narrow::new(alloc, at_most, out.len(), full);
+        let reader = Chopped::new(write.bytes, usize::MAX);
+        let writer = Narrow::new(alloc, write.at_most, write.out.len(), full);
         let done = run_on(heap, alloc, job, reader, writer);
-        expect_run(rt, &done, 2, out, "write failed");
+        expect_run(rt, &done, 2, write.out, "write failed");
     }
 }

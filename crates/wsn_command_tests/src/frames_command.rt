@@ -1,16 +1,15 @@
 //! `wsn frames`: the lines of the frames and of the verdict on standard output, and the exit status. It allocates no
 //! memory.
 
-use crate::expecting::{Reading, expect_failed_read, expect_failed_writes, expect_run};
+use crate::expecting::{FailedWrite, expect_failed_read, expect_failed_writes, expect_run};
 use std::alloc::{Allocator, Global};
 use std::process::Abort;
 use wsn_command_runs::run_on;
-use wsn_doubles::answer_lines::listing;
-use wsn_doubles::engines::listed;
+use wsn_doubles::engines::Engine;
 use wsn_doubles::heaps::heap_of;
 use wsn_doubles::readers::Chopped;
 use wsn_doubles::vectors::{Stream, streams};
-use wsn_doubles::writers::{Full, Narrow};
+use wsn_doubles::writers::Narrow;
 use wsn_job::{Format, Job};
 
 /// Fails unless the command prints the lines of a stream, and reports a stream that is too long.
@@ -23,8 +22,8 @@ fn expect_printed<A: Allocator + Copy>(rt: &impl Abort, heap: A, alloc: Global, 
     } else {
         ""
     };
-    let lines = listing(alloc, stream).expect(rt, "memory");
-    expect_run(rt, &done, stream.status(), lines.as_bytes(), err);
+    let lines = Engine::List.output(alloc, stream).expect(rt, "memory");
+    expect_run(rt, &done, stream.status(), lines.as_slice(), err);
 }
 
 #[test]
@@ -51,24 +50,11 @@ fn a_failed_write_is_reported_in_one_line(rt: HostRuntime) {
     let heap = heap_of(alloc, 0).expect(&rt, "memory");
     for stream in streams(alloc).expect(&rt, "every vector").iter() {
         let job = Job::Frames(stream.role, stream.limits, Format::Text);
-        expect_failed_writes(&rt, &heap, alloc, &job, stream.bytes.as_slice(), 1, &[]);
-    }
-}
-
-/// Fails unless the lines are written to a writer that accepts one byte per call.
-fn expect_by_one(rt: &impl Abort, alloc: Global, stream: &Stream) {
-    let mut writer = Narrow::new(alloc, 1, usize::MAX, Full::Fails);
-    let reader = Chopped::new(stream.bytes.as_slice(), usize::MAX);
-    let answer = listed(stream, reader, &mut writer);
-    let reading = Reading::whole(stream, "listed", usize::MAX);
-    let lines = listing(alloc, stream).expect(rt, "memory");
-    reading.expect_bytes(rt, writer.taken.as_slice(), lines.as_bytes());
-    reading.expect_answer(rt, alloc, &answer, stream.verdict);
-}
-
-#[test]
-fn a_writer_may_accept_one_byte_per_call(rt: HostRuntime) {
-    for stream in streams(rt.alloc()).expect(&rt, "every vector").iter() {
-        expect_by_one(&rt, rt.alloc(), stream);
+        let write = FailedWrite {
+            bytes: stream.bytes.as_slice(),
+            at_most: 1,
+            out: &[],
+        };
+        expect_failed_writes(&rt, &heap, alloc, &job, write);
     }
 }

@@ -1,6 +1,6 @@
 //! `wsn judge`: the verdict's line on standard output, and the exit status. It allocates no memory.
 
-use crate::expecting::{expect_failed_read, expect_failed_writes, expect_run};
+use crate::expecting::{FailedWrite, expect_failed_read, expect_failed_writes, expect_run};
 use std::alloc::{Allocator, Global};
 use std::process::Abort;
 use wsn_command_runs::run_on;
@@ -48,8 +48,12 @@ fn expect_failed<A: Allocator + Copy>(rt: &impl Abort, heap: A, alloc: Global, s
     let verdict = stream.verdict.as_bytes();
     if !stream.is_too_long() {
         let job = Job::Judge(stream.role, stream.limits, Format::Text);
-        let prefix = &verdict[..1.min(verdict.len())];
-        expect_failed_writes(rt, heap, alloc, &job, stream.bytes.as_slice(), 1, prefix);
+        let write = FailedWrite {
+            bytes: stream.bytes.as_slice(),
+            at_most: 1,
+            out: &verdict[..1.min(verdict.len())],
+        };
+        expect_failed_writes(rt, heap, alloc, &job, write);
     }
 }
 

@@ -11,9 +11,9 @@ use wsn_doubles::heaps::{BLOCK, heap_of};
 use wsn_doubles::readers::Chopped;
 use wsn_doubles::vectors::{filled, greatest, stream_named};
 use wsn_doubles::writers::Narrow;
+use wsn_io::{Input, Output, Stop};
 use wsn_job::Job;
-use wsn_scan::Stop;
-use wsn_wire::{Input, Output, Role};
+use wsn_wire::Role;
 
 /// A stream with one message, its verdict and its normal form. The message's payload needs memory; `before` is the
 /// normal form of the events that end before it.
@@ -117,15 +117,19 @@ fn a_source_answers_out_of_memory(rt: HostRuntime) {
     }
 }
 
-/// Fails unless `normalise` writes these bytes and answers this line.
+/// Fails unless `normalise` writes the normal form where it has memory, and otherwise answers `out of memory`.
 fn expect_normalised<A: Allocator + Copy>(
     rt: &impl Abort,
     heap: A,
     alloc: Global,
     growing: &Growing,
-    line: &str,
-    written: &[u8],
+    is_served: bool,
 ) {
+    let (line, written) = if is_served {
+        (growing.verdict, growing.normal)
+    } else {
+        ("out of memory", growing.before)
+    };
     let limits = greatest();
     let mut out = Vec::new(alloc);
     let answer = normalise(
@@ -143,11 +147,7 @@ fn expect_normalised<A: Allocator + Copy>(
 fn expect_normal_forms(rt: &impl Abort, alloc: Global, room: usize) {
     let heap = heap_of(alloc, room).expect(rt, "memory");
     for growing in GROWING.iter() {
-        let (line, written) = match room {
-            0 => ("out of memory", growing.before),
-            _ => (growing.verdict, growing.normal),
-        };
-        expect_normalised(rt, &heap, alloc, growing, line, written);
+        expect_normalised(rt, &heap, alloc, growing, room > 0);
     }
 }
 

@@ -5,12 +5,12 @@ use crate::expecting::{expect, expect_again, expect_answer, expect_count, expect
 use std::alloc::{Allocator, Global};
 use std::process::Abort;
 use wsn_canon::{Event, Next, Source};
-use wsn_doubles::engines::normalised;
+use wsn_doubles::engines::Engine;
 use wsn_doubles::heaps::{BLOCK, heap_of};
 use wsn_doubles::readers::Chopped;
 use wsn_doubles::vectors::{Stream, filled, greatest};
-use wsn_scan::Stop;
-use wsn_wire::{Input, Role};
+use wsn_io::{Input, Stop};
+use wsn_wire::Role;
 
 /// Heaps of fewer blocks than this are tried. The last of them has enough memory for every test.
 pub const BLOCKS: usize = 128;
@@ -107,24 +107,6 @@ fn expect_answered<A: Allocator + Copy>(
     expect_again(rt, alloc, source, line);
 }
 
-/// The number of messages with a source's next event, after `messages` of them. `None` at its answer.
-fn event_reported<A: Allocator + Copy>(
-    rt: &impl Abort,
-    alloc: Global,
-    stream: &Stream,
-    source: &mut Source<A>,
-    input: &mut Input<&mut Chopped>,
-    messages: usize,
-) -> Option<usize> {
-    expect(rt, !input.failed());
-    let next = source.next(input);
-    if let Ok(Next::Event(event)) = &next {
-        return Some(message_of(rt, event, messages));
-    }
-    expect_answered(rt, alloc, source, &next, line_with(stream, messages));
-    None
-}
-
 /// The number of messages among a source's events.
 fn messages_reported<A: Allocator + Copy>(
     rt: &impl Abort,
@@ -135,10 +117,13 @@ fn messages_reported<A: Allocator + Copy>(
 ) -> usize {
     let mut messages = 0usize;
     for _ in 0..5 {
-        match event_reported(rt, alloc, stream, source, input, messages) {
-            Some(more) => messages = more,
-            None => return messages,
-        }
+        expect(rt, !input.failed());
+        let next = source.next(input);
+        let Ok(Next::Event(event)) = &next else {
+            expect_answered(rt, alloc, source, &next, line_with(stream, messages));
+            return messages;
+        };
+        messages = message_of(rt, event, messages);
     }
     panic!(rt; "no end")
 }
@@ -209,7 +194,7 @@ fn messages_written(rt: &impl Abort, alloc: Global, stream: &Stream, blocks: usi
     let heap = heap_of(alloc, blocks).expect(rt, "memory");
     let mut out = Vec::new(alloc);
     let reader = Chopped::new(stream.bytes.as_slice(), 7);
-    let answer = normalised(&heap, stream, reader, &mut out);
+    let answer = Engine::Normalise.run(&heap, stream, reader, &mut out);
     expect(rt, stream.normal.starts_with(out.as_slice()));
     let messages = messages_in(rt, stream, out.as_slice());
     expect_answer(rt, alloc, &answer, line_with(stream, messages));

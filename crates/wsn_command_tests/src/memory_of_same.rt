@@ -13,7 +13,7 @@ use wsn_doubles::heaps::heap_of;
 use wsn_doubles::readers::Chopped;
 use wsn_doubles::vectors::greatest;
 use wsn_doubles::writers::Narrow;
-use wsn_scan::Limits;
+use wsn_rules::Limits;
 use wsn_wire::Role;
 
 /// Fails unless this is the line of the comparison of a pair, with memory from this heap.
@@ -55,7 +55,7 @@ fn comparing_answers_out_of_memory(rt: HostRuntime) {
 fn expect_refused<A: Allocator + Copy>(rt: &impl Abort, heap: A, alloc: Global, pair: &Pair) {
     let limits = greatest();
     let (first, second) = (pair.first_reader(), pair.second_reader());
-    let done = run_same_on(heap, alloc, limits, first, second, Narrow::wide(alloc));
+    let done = run_same_on(heap, alloc, limits, (first, second), Narrow::wide(alloc));
     expect_run(rt, &done, 2, &[], "out of memory");
 }
 
@@ -113,7 +113,7 @@ impl Differing {
     /// The result of the command, with memory from this heap.
     fn run_on<A: Allocator + Copy>(&self, heap: A, alloc: Global) -> CommandRun {
         let (first, second) = (self.first_reader(), self.second_reader());
-        run_same_on(heap, alloc, self.limits, first, second, Narrow::wide(alloc))
+        run_same_on(heap, alloc, self.limits, (first, second), Narrow::wide(alloc))
     }
 
     /// Whether a heap of `blocks` blocks has enough memory. Fails unless the answer is then the difference, and

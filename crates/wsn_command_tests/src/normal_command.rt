@@ -1,14 +1,13 @@
 //! `wsn normal`: the normal form on standard output, any verdict but `accepted` on standard error, and the exit
 //! status.
 
-use crate::expecting::{Reading, expect_failed_read, expect_failed_writes, expect_run};
+use crate::expecting::{FailedWrite, expect_failed_read, expect_failed_writes, expect_run};
 use std::alloc::Global;
 use std::process::Abort;
 use wsn_command_runs::run_on;
-use wsn_doubles::engines::normalised;
 use wsn_doubles::readers::Chopped;
 use wsn_doubles::vectors::{Stream, streams};
-use wsn_doubles::writers::{Full, Narrow};
+use wsn_doubles::writers::Narrow;
 use wsn_job::Job;
 
 /// Fails unless the command writes a stream's normal form, and reports its verdict unless that is `accepted`.
@@ -44,26 +43,14 @@ fn a_failed_read_is_reported_in_one_line(rt: HostRuntime) {
 fn a_failed_write_is_reported_in_one_line(rt: HostRuntime) {
     let alloc = rt.alloc();
     for stream in streams(alloc).expect(&rt, "every vector").iter() {
-        if let Some(prefix) = stream.normal.get(..1) {
+        if let Some(out) = stream.normal.get(..1) {
             let job = Job::Normal(stream.role, stream.limits);
-            expect_failed_writes(&rt, alloc, alloc, &job, stream.bytes.as_slice(), 1, prefix);
+            let write = FailedWrite {
+                bytes: stream.bytes.as_slice(),
+                at_most: 1,
+                out,
+            };
+            expect_failed_writes(&rt, alloc, alloc, &job, write);
         }
-    }
-}
-
-/// Fails unless the normal form is written to a writer that accepts one byte per call.
-fn expect_by_one(rt: &impl Abort, alloc: Global, stream: &Stream) {
-    let mut writer = Narrow::new(alloc, 1, usize::MAX, Full::Fails);
-    let reader = Chopped::new(stream.bytes.as_slice(), usize::MAX);
-    let answer = normalised(alloc, stream, reader, &mut writer);
-    let reading = Reading::whole(stream, "normalised", usize::MAX);
-    reading.expect_bytes(rt, writer.taken.as_slice(), stream.normal.as_slice());
-    reading.expect_answer(rt, alloc, &answer, stream.verdict);
-}
-
-#[test]
-fn a_writer_may_accept_one_byte_per_call(rt: HostRuntime) {
-    for stream in streams(rt.alloc()).expect(&rt, "every vector").iter() {
-        expect_by_one(&rt, rt.alloc(), stream);
     }
 }

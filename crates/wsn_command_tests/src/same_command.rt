@@ -1,7 +1,7 @@
 //! `wsn same`: streams with the same events, streams with others, and streams that are not accepted; the line on
 //! standard output, and the exit status.
 
-use crate::expecting::{Reading, expect_line, expect_run};
+use crate::expecting::{expect_line, expect_line_of, expect_run};
 use std::alloc::{Allocator, Global};
 use std::process::Abort;
 use wsn_command_runs::run_same_on;
@@ -10,7 +10,7 @@ use wsn_doubles::engines::compared;
 use wsn_doubles::readers::{Chopped, READS};
 use wsn_doubles::vectors::{Stream, greatest, streams};
 use wsn_doubles::writers::{FULL, Full, Narrow};
-use wsn_scan::{Limits, MESSAGE_MAX};
+use wsn_rules::{Limits, MESSAGE_MAX};
 use wsn_wire::Role;
 
 /// Two streams of a server, the line of their comparison, and the maximum number of messages in memory at a time. A
@@ -166,7 +166,7 @@ fn expect_equal(rt: &impl Abort, alloc: Global, stream: &Stream) {
         stream.limits,
     );
     let line = compared_line(alloc, &answer).expect(rt, "memory");
-    Reading::whole(stream, "compared", 4_095).expect_line(rt, line.as_str(), "equal");
+    expect_line_of(rt, line.as_str(), "equal", &stream.name);
 }
 
 #[test]
@@ -183,7 +183,7 @@ pub fn expect_printed<A: Allocator + Copy>(rt: &impl Abort, heap: A, alloc: Glob
     let line = printed(alloc, pair.line).expect(rt, "memory");
     let limits = greatest();
     let (first, second) = (pair.first_reader(), pair.second_reader());
-    let done = run_same_on(heap, alloc, limits, first, second, Narrow::wide(alloc));
+    let done = run_same_on(heap, alloc, limits, (first, second), Narrow::wide(alloc));
     expect_run(rt, &done, pair.status(), line.as_bytes(), "");
 }
 
@@ -200,7 +200,7 @@ fn expect_failed_line(rt: &impl Abort, alloc: Global, pair: &Pair, line: &[u8], 
     for room in 0..line.len() {
         let (first, second) = (pair.first_reader(), pair.second_reader());
         let writer = Narrow::new(alloc, 1, room, full);
-        let done = run_same_on(alloc, alloc, limits, first, second, writer);
+        let done = run_same_on(alloc, alloc, limits, (first, second), writer);
         expect_run(rt, &done, 2, &line[..room], "write failed");
     }
 }
@@ -225,7 +225,7 @@ const LONG: &[u8] = b"\x88\x02\x03\xe8\x81";
 /// Fails unless the command, with an input limit of four bytes, reports this of two readers.
 fn expect_error(rt: &impl Abort, alloc: Global, first: Chopped, second: Chopped, err: &str) {
     let limits = Limits::new(MESSAGE_MAX, 4).expect(rt, "limits in range");
-    let done = run_same_on(alloc, alloc, limits, first, second, Narrow::wide(alloc));
+    let done = run_same_on(alloc, alloc, limits, (first, second), Narrow::wide(alloc));
     expect_run(rt, &done, 2, &[], err);
 }
 

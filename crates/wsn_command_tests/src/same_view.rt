@@ -8,9 +8,10 @@ use wsn_command_runs::CommandRun;
 use wsn_doubles::readers::Chopped;
 use wsn_doubles::vectors::greatest;
 use wsn_doubles::writers::{FULL, Full, Narrow};
+use wsn_io::{Input, Output};
 use wsn_job::{Format, Without, run_same};
 use wsn_print::ViewLimit;
-use wsn_wire::{Input, Output, Role};
+use wsn_wire::Role;
 
 /// Two streams of a server, the most bytes of a payload that are shown, and what is printed.
 #[derive(Clone, Copy)]

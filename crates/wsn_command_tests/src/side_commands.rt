@@ -24,59 +24,60 @@ const BOTH_SERVER: &[u8] = b"\x89\x00\x01\x02Hi";
 /// A ping and a text's head, and then a line of none of the forms.
 const FAULTY: &[u8] = b"C 00\nS 8900\nS 8102\nX\nS 4869\n";
 
-/// Fails unless this is the result of a command on the server's side of a text, however the text is read.
-fn expect_on_side(
-    rt: &impl Abort,
-    alloc: Global,
-    job: &Job,
-    text: &[u8],
+/// The expected result of a run: its exit status, standard output, and the line on standard error, if any.
+#[derive(Clone, Copy)]
+struct Expected<'a> {
     status: u8,
-    out: &[u8],
-    line: &str,
-)
+    out: &'a [u8],
+    line: &'a str,
+}
+
+impl<'a> Expected<'a> {
+    /// A run that prints this, and then reports a stop.
+    fn stop(out: &'a [u8], line: &'a str) -> Self {
+        Expected {
+            status: 2,
+            out,
+            line,
+        }
+    }
+}
+
+/// Fails unless this is the result of a command on the server's side of a text, however the text is read.
+fn expect_on_side(rt: &impl Abort, alloc: Global, job: &Job, text: &[u8], expected: Expected)
     requires { MayRunOnSide job.now }
 {
     for at_most in READS {
         let text = Chopped::new(text, at_most);
-        let done = run_on_side_on(alloc, alloc, job, Role::Server, text, Narrow::wide(alloc));
-        expect_run(rt, &done, status, out, line);
+        let done = run_on_side_on(alloc, alloc, job, text, Narrow::wide(alloc));
+        expect_run(rt, &done, expected.status, expected.out, expected.line);
     }
 }
 
 /// Fails unless a command answers on a side of `BOTH` as it does on the side's bytes.
-fn expect_as_on_bytes(rt: &impl Abort, alloc: Global, job: &Job, role: Role, bytes: &[u8])
+fn expect_as_on_bytes(rt: &impl Abort, alloc: Global, job: &Job, bytes: &[u8])
     requires { MayRunOnSide job.now }
 {
     let text = Chopped::new(BOTH, 7);
-    let side = run_on_side_on(alloc, alloc, job, role, text, Narrow::wide(alloc));
+    let side = run_on_side_on(alloc, alloc, job, text, Narrow::wide(alloc));
     let stream = Chopped::new(bytes, 5);
     let done = run_on(alloc, alloc, job, stream, Narrow::wide(alloc));
-    expect_bytes_of(rt, side.out.as_slice(), done.out.as_slice(), &role);
-    expect_bytes_of(rt, side.err.as_slice(), done.err.as_slice(), &role);
-    expect_equal_of(rt, &side.status, &done.status, &role);
+    expect_bytes_of(rt, side.out.as_slice(), done.out.as_slice(), &bytes);
+    expect_bytes_of(rt, side.err.as_slice(), done.err.as_slice(), &bytes);
+    expect_equal_of(rt, &side.status, &done.status, &bytes);
 }
 
 #[test]
 fn each_command_answers_as_on_the_sides_bytes(rt: HostRuntime) {
     let alloc = rt.alloc();
     for (role, bytes) in [(Role::Client, BOTH_CLIENT), (Role::Server, BOTH_SERVER)] {
-        expect_as_on_bytes(
-            &rt,
-            alloc,
-            &Job::Judge(role, greatest(), Format::Text),
-            role,
-            bytes,
-        );
-        expect_as_on_bytes(
-            &rt,
-            alloc,
-            &Job::Frames(role, greatest(), Format::Text),
-            role,
-            bytes,
-        );
-        expect_as_on_bytes(&rt, alloc, &Job::Normal(role, greatest()), role, bytes);
-        expect_as_on_bytes(&rt, alloc, &Job::Redact(role, greatest()), role, bytes);
-        expect_as_on_bytes(&rt, alloc, &Job::Plan(role, greatest()), role, bytes);
+        let judge = Job::Judge(role, greatest(), Format::Text);
+        expect_as_on_bytes(&rt, alloc, &judge, bytes);
+        let frames = Job::Frames(role, greatest(), Format::Text);
+        expect_as_on_bytes(&rt, alloc, &frames, bytes);
+        expect_as_on_bytes(&rt, alloc, &Job::Normal(role, greatest()), bytes);
+        expect_as_on_bytes(&rt, alloc, &Job::Redact(role, greatest()), bytes);
+        expect_as_on_bytes(&rt, alloc, &Job::Plan(role, greatest()), bytes);
     }
 }
 
@@ -86,8 +87,13 @@ fn a_side_is_recut_by_size(rt: HostRuntime) {
     let how = How::by_size(Role::Server, 1, false, None).expect(&rt, "a size");
     let job = Job::Recut(Role::Server, greatest(), how);
     let text = b"S 8102\nC 00\nS 4869";
-    expect_on_side(&rt, alloc, &job, text, 0, b"\x01\x01H\x80\x01i", "");
-    expect_on_side(&rt, alloc, &job, FAULTY, 2, b"", "line 4: bad-form");
+    let recut = Expected {
+        status: 0,
+        out: b"\x01\x01H\x80\x01i",
+        line: "",
+    };
+    expect_on_side(&rt, alloc, &job, text, recut);
+    expect_on_side(&rt, alloc, &job, FAULTY, Expected::stop(b"", "line 4: bad-form"));
 }
 
 #[test]
@@ -95,14 +101,14 @@ fn what_was_printed_before_a_faulty_line_stays(rt: HostRuntime) {
     let alloc = rt.alloc();
     let line = "line 4: bad-form";
     let judge = Job::Judge(Role::Server, greatest(), Format::Text);
-    expect_on_side(&rt, alloc, &judge, FAULTY, 2, b"", line);
+    expect_on_side(&rt, alloc, &judge, FAULTY, Expected::stop(b"", line));
     let frames = Job::Frames(Role::Server, greatest(), Format::Text);
     let heads = b"0 fin ping - 0\n2 fin text - 2\n";
-    expect_on_side(&rt, alloc, &frames, FAULTY, 2, heads, line);
+    expect_on_side(&rt, alloc, &frames, FAULTY, Expected::stop(heads, line));
     let normal = Job::Normal(Role::Server, greatest());
-    expect_on_side(&rt, alloc, &normal, FAULTY, 2, b"\x89\x00", line);
+    expect_on_side(&rt, alloc, &normal, FAULTY, Expected::stop(b"\x89\x00", line));
     let plan = Job::Plan(Role::Server, greatest());
-    expect_on_side(&rt, alloc, &plan, FAULTY, 2, b"", line);
+    expect_on_side(&rt, alloc, &plan, FAULTY, Expected::stop(b"", line));
 }
 
 /// A text, and the line that is reported of it.
@@ -120,7 +126,7 @@ fn bad_form_bad_hex_and_after_end_are_reported(rt: HostRuntime) {
     let alloc = rt.alloc();
     let judge = Job::Judge(Role::Server, greatest(), Format::Text);
     for (text, line) in FAULTS.iter() {
-        expect_on_side(&rt, alloc, &judge, text.as_bytes(), 2, b"", line);
+        expect_on_side(&rt, alloc, &judge, text.as_bytes(), Expected::stop(b"", line));
     }
 }
 
@@ -129,25 +135,11 @@ fn too_long_and_too_many_lines_are_reported(rt: HostRuntime) {
     let alloc = rt.alloc();
     let judge = Job::Judge(Role::Server, greatest(), Format::Text);
     let long = filled(alloc, b"#\n#", b'#', 8_194).expect(&rt, "memory");
-    expect_on_side(
-        &rt,
-        alloc,
-        &judge,
-        long.as_slice(),
-        2,
-        b"",
-        "line 2: too-long",
-    );
+    let expected = Expected::stop(b"", "line 2: too-long");
+    expect_on_side(&rt, alloc, &judge, long.as_slice(), expected);
     let many = filled(alloc, b"", b'\n', 1_000_001).expect(&rt, "memory");
     let text = Chopped::new(many.as_slice(), usize::MAX);
-    let done = run_on_side_on(
-        alloc,
-        alloc,
-        &judge,
-        Role::Server,
-        text,
-        Narrow::wide(alloc),
-    );
+    let done = run_on_side_on(alloc, alloc, &judge, text, Narrow::wide(alloc));
     expect_run(&rt, &done, 2, b"", "line 1000001: too-many-lines");
 }
 
@@ -156,18 +148,19 @@ fn a_refusal_before_a_faulty_line_is_the_answer(rt: HostRuntime) {
     let alloc = rt.alloc();
     let text = b"C 00\nS 89\nS 00c1\nX\n";
     let judge = Job::Judge(Role::Server, greatest(), Format::Text);
-    let verdict = b"refused 2 reserved-bits 1002\n";
-    expect_on_side(&rt, alloc, &judge, text, 1, verdict, "");
+    let printed = Expected {
+        status: 1,
+        out: b"refused 2 reserved-bits 1002\n",
+        line: "",
+    };
+    expect_on_side(&rt, alloc, &judge, text, printed);
     let plan = Job::Plan(Role::Server, greatest());
-    expect_on_side(
-        &rt,
-        alloc,
-        &plan,
-        text,
-        1,
-        b"",
-        "refused 2 reserved-bits 1002",
-    );
+    let reported = Expected {
+        status: 1,
+        out: b"",
+        line: "refused 2 reserved-bits 1002",
+    };
+    expect_on_side(&rt, alloc, &plan, text, reported);
 }
 
 #[test]
@@ -176,14 +169,7 @@ fn a_failed_read_of_the_text_is_reported_as_such(rt: HostRuntime) {
     let frames = Job::Frames(Role::Server, greatest(), Format::Text);
     for left in [FAULTY.len(), 10, 9, 8] {
         let text = Chopped::stumbling(FAULTY, 4, left, ErrorKind::Interrupted);
-        let done = run_on_side_on(
-            alloc,
-            alloc,
-            &frames,
-            Role::Server,
-            text,
-            Narrow::wide(alloc),
-        );
+        let done = run_on_side_on(alloc, alloc, &frames, text, Narrow::wide(alloc));
         expect_equal_of(&rt, &done.status, &2, &left);
         expect_bytes_of(&rt, done.err.as_slice(), b"read failed\n", &left);
     }
@@ -196,7 +182,7 @@ fn a_failed_write_before_a_faulty_line_is_reported(rt: HostRuntime) {
     for full in FULL {
         let text = Chopped::new(FAULTY, 3);
         let writer = Narrow::new(alloc, 1, 4, full);
-        let done = run_on_side_on(alloc, alloc, &frames, Role::Server, text, writer);
+        let done = run_on_side_on(alloc, alloc, &frames, text, writer);
         expect_run(&rt, &done, 2, b"0 fi", "write failed");
     }
 }
@@ -222,13 +208,11 @@ static PAIRS: [(&str, &str, u8, &str, &str); 7] = [
 fn sides_of_captures_are_compared(rt: HostRuntime) {
     let alloc = rt.alloc();
     for (first, second, status, out, line) in PAIRS.iter() {
-        let done = run_same_on_sides_on(
-            alloc,
-            greatest(),
+        let texts = (
             Chopped::new(first.as_bytes(), 3),
             Chopped::new(second.as_bytes(), 4),
-            Narrow::wide(alloc),
         );
+        let done = run_same_on_sides_on(alloc, greatest(), texts, Narrow::wide(alloc));
         expect_run(&rt, &done, *status, out.as_bytes(), line);
     }
 }
@@ -247,7 +231,7 @@ fn a_failed_read_of_either_text_is_reported_as_such(rt: HostRuntime) {
         ),
     ] {
         let writer = Narrow::wide(alloc);
-        let done = run_same_on_sides_on(alloc, greatest(), first, second, writer);
+        let done = run_same_on_sides_on(alloc, greatest(), (first, second), writer);
         expect_run(&rt, &done, 2, b"", "read failed");
     }
 }

@@ -4,14 +4,14 @@ use crate::expecting::{
     expect_answer, expect_bytes_of, expect_equal_of, expect_of, expect_shown, prefix_of,
 };
 use std::alloc::Global;
-use std::fmt::Debug;
 use std::io::{self, ErrorKind, Read};
 use std::process::Abort;
 use wsn_capture::{CaptureStop, LineFault, SideReader};
 use wsn_doubles::readers::{Chopped, READS};
 use wsn_doubles::vectors::{filled, greatest};
-use wsn_scan::{Stop, judge};
-use wsn_wire::{Input, Role};
+use wsn_io::{Input, Stop};
+use wsn_scan::judge;
+use wsn_wire::Role;
 
 /// Lines of both sides, with LF and CR LF, in capitals, an empty line, comments, end marks, and no LF at the end.
 const BOTH: &[u8] = b"# both\nC 0a0B\r\nS 0C\n\nS.\r\n#S ff\nC 0d0e0f\n\r\nC 10";
@@ -20,80 +20,66 @@ const BOTH_CLIENT: &[u8] = &[0x0a, 0x0b, 0x0d, 0x0e, 0x0f, 0x10];
 
 const BOTH_SERVER: &[u8] = &[0x0c];
 
-/// How a side's bytes come to their end.
-#[derive(Clone, Copy, Debug, PartialEq, Eq)]
-enum End {
-    Whole,
-    Failed(ErrorKind),
-}
-
-/// Appends what a side gives, in reads of at most `size` bytes, up to its end or a failed read.
+/// Appends what a side gives, in reads of at most `size` bytes, up to its end or a failed read, whose kind is returned.
 fn take_all<R: Read>(
     rt: &impl Abort,
     side: &mut SideReader<R>,
     size: usize,
     taken: &mut Vec<u8>,
-) -> End {
+) -> Option<ErrorKind> {
     let mut buffer = [0; 5_000];
     let size = size.min(buffer.len());
     for _ in 0..u64::MAX {
         match side.read(&mut buffer[..size]) {
-            Ok(0) => return End::Whole,
+            Ok(0) => return None,
             Ok(count) => taken
                 .extend_from_slice(&buffer[..count])
                 .expect(rt, "memory"),
-            Err(error) => return End::Failed(error.kind()),
+            Err(error) => return Some(error.kind()),
         }
     }
-    End::Whole
+    None
 }
 
-/// Fails unless a text gives a side these bytes, and then its end or this stop, with reads of each of these sizes.
-fn expect_side_by(
-    rt: &impl Abort,
-    alloc: Global,
-    sizes: &[usize],
-    text: &[u8],
-    role: Role,
-    bytes: &[u8],
+/// What a side gives: these bytes, and then its end or this stop.
+#[derive(Clone, Copy)]
+struct Given<'a> {
+    bytes: &'a [u8],
     stop: Option<CaptureStop>,
-) {
-    for at_most in sizes.iter() {
-        for size in sizes.iter() {
-            let mut side = SideReader::new(Chopped::new(text, *at_most), role);
-            expect_side(
-                rt,
-                alloc,
-                &mut side,
-                *size,
-                bytes,
-                stop,
-                &(*at_most, *size, role),
-            );
+}
+
+impl<'a> Given<'a> {
+    fn whole(bytes: &'a [u8]) -> Self {
+        Given { bytes, stop: None }
+    }
+}
+
+/// Fails unless this is what a text gives a side, with reads of each size.
+fn expect_side_by(rt: &impl Abort, alloc: Global, text: &[u8], role: Role, given: Given) {
+    for at_most in READS {
+        for size in READS {
+            let mut side = SideReader::new(Chopped::new(text, at_most), role);
+            expect_side(rt, alloc, &mut side, (at_most, size), given);
         }
     }
 }
 
-/// Fails unless a side gives these bytes, and then its end or this stop, which each later read repeats.
+/// Fails unless this is what a side gives, and each later read repeats its end. The sizes are those of the text's reads
+/// and of the side's.
 fn expect_side<R: Read>(
     rt: &impl Abort,
     alloc: Global,
     side: &mut SideReader<R>,
-    size: usize,
-    bytes: &[u8],
-    stop: Option<CaptureStop>,
-    of: &impl Debug,
+    sizes: (usize, usize),
+    given: Given,
 ) {
-    let expected = match stop {
-        Some(_) => End::Failed(ErrorKind::InvalidData),
-        None => End::Whole,
-    };
     let mut taken = Vec::new(alloc);
     for _ in 0..3 {
-        let end = take_all(rt, side, size, &mut taken);
-        expect_of(rt, end == expected, of);
-        expect_bytes_of(rt, taken.as_slice(), bytes, of);
-        expect_equal_of(rt, &side.stop(), &stop, of);
+        let failed = take_all(rt, side, sizes.1, &mut taken);
+        let expected = given.stop.map(|_| ErrorKind::InvalidData);
+        expect_equal_of(rt, &failed, &expected, &sizes);
+        expect_bytes_of(rt, taken.as_slice(), given.bytes, &sizes);
+        expect_equal_of(rt, &side.stop(), &given.stop, &sizes);
     }
 }
 
@@ -143,44 +129,44 @@ fn faulty() -> &'static [Faulty] {
 
 #[test]
 fn sides_with_reads_of_every_size(rt: HostRuntime) {
-    let alloc = rt.alloc();
-    let sizes = READS.as_slice();
-    expect_side_by(&rt, alloc, sizes, BOTH, Role::Client, BOTH_CLIENT, None);
-    expect_side_by(&rt, alloc, sizes, BOTH, Role::Server, BOTH_SERVER, None);
-    expect_side_by(&rt, alloc, sizes, b"", Role::Client, &[], None);
-    expect_side_by(&rt, alloc, sizes, b"S 0c\n", Role::Client, &[], None);
+    for (text, role, bytes) in [
+        (BOTH, Role::Client, BOTH_CLIENT),
+        (BOTH, Role::Server, BOTH_SERVER),
+        (b"", Role::Client, b""),
+        (b"S 0c\n", Role::Client, b""),
+    ] {
+        expect_side_by(&rt, rt.alloc(), text, role, Given::whole(bytes));
+    }
 }
 
 #[test]
 fn bad_form_bad_hex_and_after_end_of_a_side(rt: HostRuntime) {
-    let alloc = rt.alloc();
-    let sizes = READS.as_slice();
     for (text, client, server, number, fault) in faulty() {
-        let stop = CaptureStop::Line {
+        let stop = Some(CaptureStop::Line {
             number: *number,
             fault: *fault,
-        };
-        let text = text.as_bytes();
-        expect_side_by(&rt, alloc, sizes, text, Role::Client, client, Some(stop));
-        expect_side_by(&rt, alloc, sizes, text, Role::Server, server, Some(stop));
+        });
+        for (role, bytes) in [(Role::Client, *client), (Role::Server, *server)] {
+            let given = Given { bytes, stop };
+            expect_side_by(&rt, rt.alloc(), text.as_bytes(), role, given);
+        }
     }
 }
 
-/// Fails unless a text whose reader fails after its last byte gives the client these bytes and then this stop.
+/// Fails unless a text whose reader fails after its last byte gives the client the byte 0a and then this stop.
 fn expect_stop_of_client(
     rt: &impl Abort,
     alloc: Global,
     text: &[u8],
     at_most: usize,
-    bytes: &[u8],
     stop: CaptureStop,
 ) {
     let of = (text.len(), at_most);
     let mut taken = Vec::new(alloc);
     let mut side = SideReader::new(Chopped::breaking(text, at_most), Role::Client);
-    let end = take_all(rt, &mut side, 1, &mut taken);
-    expect_of(rt, end != End::Whole, &of);
-    expect_bytes_of(rt, taken.as_slice(), bytes, &of);
+    let failed = take_all(rt, &mut side, 1, &mut taken);
+    expect_of(rt, failed.is_some(), &of);
+    expect_bytes_of(rt, taken.as_slice(), &[0x0a], &of);
     expect_equal_of(rt, &side.stop(), &Some(stop), &of);
 }
 
@@ -189,9 +175,10 @@ fn expect_stop_of_client(
 fn the_longest_line_of_a_side(rt: HostRuntime) {
     let alloc = rt.alloc();
     let text = filled(alloc, b"C 0a\nS ", b'0', 8_192).expect(&rt, "memory");
+    let given = Given::whole(&[0; 4_096]);
     for at_most in READS {
         let mut side = SideReader::new(Chopped::new(text.as_slice(), at_most), Role::Server);
-        expect_side(&rt, alloc, &mut side, 3_000, &[0; 4_096], None, &at_most);
+        expect_side(&rt, alloc, &mut side, (at_most, 3_000), given);
     }
 }
 
@@ -205,8 +192,8 @@ fn too_long_of_a_side(rt: HostRuntime) {
     let whole = text.as_slice();
     let shorter = prefix_of(&rt, whole, 8_200);
     for at_most in READS {
-        expect_stop_of_client(&rt, alloc, whole, at_most, &[0x0a], stop);
-        expect_stop_of_client(&rt, alloc, shorter, at_most, &[0x0a], CaptureStop::Read);
+        expect_stop_of_client(&rt, alloc, whole, at_most, stop);
+        expect_stop_of_client(&rt, alloc, shorter, at_most, CaptureStop::Read);
     }
 }
 
@@ -214,16 +201,19 @@ fn too_long_of_a_side(rt: HostRuntime) {
 #[test]
 fn too_many_lines_of_a_side(rt: HostRuntime) {
     let alloc = rt.alloc();
-    let fault = LineFault::TooManyLines;
-    let number = 1_000_001;
-    let stop = CaptureStop::Line { number, fault };
+    let many = CaptureStop::Line {
+        number: 1_000_001,
+        fault: LineFault::TooManyLines,
+    };
     let mut text = filled(alloc, b"", b'\n', 999_999).expect(&rt, "memory");
     text.extend_from_slice(b"C 0a\n").expect(&rt, "memory");
-    let mut side = SideReader::new(text.as_slice(), Role::Client);
-    expect_side(&rt, alloc, &mut side, 1, &[0x0a], None, &number);
-    text.extend_from_slice(b"\n").expect(&rt, "memory");
-    let mut side = SideReader::new(text.as_slice(), Role::Client);
-    expect_side(&rt, alloc, &mut side, 1, &[0x0a], Some(stop), &number);
+    for stop in [None, Some(many)] {
+        let bytes = &[0x0a];
+        let mut side = SideReader::new(text.as_slice(), Role::Client);
+        let given = Given { bytes, stop };
+        expect_side(&rt, alloc, &mut side, (usize::MAX, 1), given);
+        text.extend_from_slice(b"\n").expect(&rt, "memory");
+    }
 }
 
 /// A failed read of the text is passed on as it is, loses nothing, and a later read goes on.
@@ -237,12 +227,12 @@ fn a_failed_read_loses_nothing_of_a_side(rt: HostRuntime) {
             let mut side = SideReader::new(reader, Role::Client);
             let of = (left, at_most);
             let mut taken = Vec::new(alloc);
-            let end = take_all(&rt, &mut side, 2, &mut taken);
-            expect_of(&rt, end == End::Failed(kind), &of);
+            let failed = take_all(&rt, &mut side, 2, &mut taken);
+            expect_of(&rt, failed == Some(kind), &of);
             expect_of(&rt, BOTH_CLIENT.starts_with(taken.as_slice()), &of);
             expect_equal_of(&rt, &side.stop(), &Some(CaptureStop::Read), &of);
-            let end = take_all(&rt, &mut side, 2, &mut taken);
-            expect_of(&rt, end == End::Whole, &of);
+            let failed = take_all(&rt, &mut side, 2, &mut taken);
+            expect_of(&rt, failed.is_none(), &of);
             expect_bytes_of(&rt, taken.as_slice(), BOTH_CLIENT, &of);
         }
     }
@@ -277,7 +267,7 @@ fn the_end_of_a_side_is_final(rt: HostRuntime) {
             later: b"C 0b\n",
         };
         let mut side = SideReader::new(reader, Role::Client);
-        expect_side(&rt, rt.alloc(), &mut side, 2, bytes, None, &rest);
+        expect_side(&rt, rt.alloc(), &mut side, (4, 2), Given::whole(bytes));
     }
 }
 

@@ -3,7 +3,7 @@
 use std::process::Abort;
 use wsn_capture::{Tails, read_capture};
 use wsn_doubles::vectors::greatest;
-use wsn_wire::Input;
+use wsn_io::Input;
 
 /// A capture, and the number of bytes after the client's Close and after the server's.
 static CAPTURES: [(&str, u64, u64); 8] = [

@@ -1,6 +1,5 @@
 //! The lines that answers and frames are printed as, built by the tests themselves.
 
-use crate::vectors::Stream;
 use std::alloc::{AllocError, Allocator, Global};
 use wsn_canon::Compared;
 use wsn_plan::{PlanAnswer, RecutAnswer, Why};
@@ -95,16 +94,6 @@ fn word_of_fault(why: Why) -> &'static str {
         Why::WrongForm => "wrong-form",
         Why::EventsLeft => "events-left",
     }
-}
-
-/// The output of `list`: the lines of the frames, and of the verdict if there is one.
-pub fn listing(alloc: Global, stream: &Stream) -> Result<String, AllocError> {
-    let frames = stream.frames;
-    if stream.is_too_long() {
-        return line_of(alloc, frames);
-    }
-    let verdict = stream.verdict;
-    format!(in alloc; "{frames}{verdict}\n")
 }
 
 fn cut_line(alloc: Global, used: u64) -> Result<String, AllocError> {

@@ -1,48 +1,66 @@
-//! The engines, each applied to a vector's stream and a reader of the tests.
+//! The engines, each applied to a stream and a reader of the tests.
+ghost use Rattle.std.specs.Prelude.{◌≡◌, ◌↔◌, IsSome};
+ghost use Rattle.wsn_wire.specs.declared.endpoint.Role.TheVariants.{Client};
 
 use crate::readers::Chopped;
 use crate::vectors::Stream;
-use std::alloc::Allocator;
-use std::io::Write;
+use std::alloc::{AllocError, Allocator, Global};
+use std::io::{Read, Write};
 use wsn_canon::{Compared, normalise, same};
 use wsn_list::list;
 use wsn_plan::{Plan, PlanAnswer, RecutAnswer, plan_of, recut, recut_uniform};
 use wsn_scan::{Limits, Stop, Verdict, judge};
 use wsn_wire::{Input, Output, Role};
 
-/// The answer of `judge`.
-pub fn judged(stream: &Stream, mut reader: Chopped) -> Result<Verdict, Stop> {
-    judge(&mut Input::new(&mut reader), stream.role, stream.limits)
+/// An engine whose answer is a verdict.
+#[derive(Clone, Copy, Debug, PartialEq, Eq)]
+pub enum Engine {
+    Judge,
+    List,
+    Normalise,
 }
 
-/// The answer of `list`, which writes to this writer.
-pub fn listed<W: Write>(
-    stream: &Stream,
-    mut reader: Chopped,
-    writer: &mut W,
-) -> Result<Verdict, Stop> {
-    list(
-        &mut Input::new(&mut reader),
-        &mut Output::new(writer),
-        stream.role,
-        stream.limits,
-    )
-}
+/// Every engine whose answer is a verdict.
+pub const ENGINES: [Engine; 3] = [Engine::Judge, Engine::List, Engine::Normalise];
 
-/// The answer of `normalise`, which writes to this writer and allocates from this heap.
-pub fn normalised<A: Allocator + Copy, W: Write>(
-    heap: A,
-    stream: &Stream,
-    mut reader: Chopped,
-    writer: &mut W,
-) -> Result<Verdict, Stop> {
-    normalise(
-        heap,
-        &mut Input::new(&mut reader),
-        &mut Output::new(writer),
-        stream.role,
-        stream.limits,
-    )
+impl Engine {
+    /// The answer for a vector's stream, which comes from this reader. The engine writes to this writer and allocates from
+    /// this heap.
+    pub fn run<A: Allocator + Copy, R: Read + Drop, W: Write>(
+        self,
+        heap: A,
+        stream: &Stream,
+        mut reader: R,
+        writer: &mut W,
+    ) -> Result<Verdict, Stop> {
+        let (role, limits) = (stream.role, stream.limits);
+        let mut input = Input::new(&mut reader);
+        let mut output = Output::new(writer);
+        match self {
+            Engine::Judge => judge(&mut input, role, limits),
+            Engine::List => list(&mut input, &mut output, role, limits),
+            Engine::Normalise => normalise(heap, &mut input, &mut output, role, limits),
+        }
+    }
+
+    /// What the engine writes of a vector's whole stream before the verdict.
+    pub fn output_before_verdict(self, stream: &Stream) -> &[u8] {
+        match self {
+            Engine::Judge => &[],
+            Engine::List => stream.frames.as_bytes(),
+            Engine::Normalise => stream.normal.as_slice(),
+        }
+    }
+
+    /// All that the engine writes of a vector's whole stream.
+    pub fn output(self, alloc: Global, stream: &Stream) -> Result<Vec<u8>, AllocError> {
+        let mut output = self.output_before_verdict(stream).to_vec(alloc)?;
+        if self == Engine::List && !stream.is_too_long() {
+            output.extend_from_slice(stream.verdict.as_bytes())?;
+            output.push(b'\n')?;
+        }
+        Ok(output)
+    }
 }
 
 /// The answer of `same` for the streams of two readers. It allocates from this heap.
@@ -62,37 +80,63 @@ pub fn compared<A: Allocator + Copy>(
     )
 }
 
+/// A stream that comes from the endpoint of this role, under these limits.
+#[derive(Drop)]
+pub struct SentStream<'a> {
+    pub role: Role,
+    pub limits: Limits,
+    pub reader: Chopped<'a>,
+}
+
+impl<'a> SentStream<'a> {
+    /// A stream of a vector's endpoint, under the vector's limits.
+    pub fn of(stream: &Stream, reader: Chopped<'a>) -> Self {
+        SentStream {
+            role: stream.role,
+            limits: stream.limits,
+            reader,
+        }
+    }
+}
+
 /// The answer of `plan_of`, which allocates from this heap.
 pub fn planned<A: Allocator + Copy>(
     heap: A,
-    role: Role,
-    limits: Limits,
-    mut reader: Chopped,
+    mut stream: SentStream,
 ) -> Result<PlanAnswer<A>, Stop> {
-    plan_of(heap, &mut Input::new(&mut reader), role, limits)
+    let mut input = Input::new(&mut stream.reader);
+    plan_of(heap, &mut input, stream.role, stream.limits)
 }
 
 /// The answer of a recut by this plan, which writes to this writer and allocates from this heap.
 pub fn recut_by<A: Allocator + Copy, W: Write>(
     heap: A,
-    role: Role,
-    limits: Limits,
+    mut stream: SentStream,
     plan: &Plan<A>,
-    mut reader: Chopped,
     writer: &mut W,
 ) -> Result<RecutAnswer, Stop> {
     recut(
         heap,
-        &mut Input::new(&mut reader),
+        &mut Input::new(&mut stream.reader),
         &mut Output::new(writer),
-        role,
-        limits,
+        stream.role,
+        stream.limits,
         plan,
     )
 }
 
 /// The key of a client's frames in a recut by size.
 pub const KEY: [u8; 4] = [1, 2, 3, 4];
+
+/// The key of an endpoint's frames in a recut by size: a client masks its frames, and a server doesn't.
+pub fn key_of(role: Role) -> Option<[u8; 4]>
+    ensures { IsSome result ↔ (role ≡ Client) }
+{
+    match role {
+        Role::Client => Some(KEY),
+        Role::Server => None,
+    }
+}
 
 /// The size of frames, at least one byte, and whether the controls before a message are interleaved with its frames.
 #[derive(Clone, Copy, Debug)]
@@ -104,36 +148,18 @@ pub struct Sizes {
 /// The answer of a recut in frames of one size, which writes to this writer and allocates from this heap.
 pub fn recut_uniformly<A: Allocator + Copy, W: Write>(
     heap: A,
-    role: Role,
-    limits: Limits,
+    mut stream: SentStream,
     sizes: Sizes,
-    mut reader: Chopped,
     writer: &mut W,
 ) -> Result<RecutAnswer, Stop> {
-    let mut input = Input::new(&mut reader);
-    let mut output = Output::new(writer);
-    let size = sizes.size.max(1);
-    let weave = sizes.weave;
-    match role {
-        Role::Client => recut_uniform(
-            heap,
-            &mut input,
-            &mut output,
-            Role::Client,
-            limits,
-            size,
-            weave,
-            Some(KEY),
-        ),
-        Role::Server => recut_uniform(
-            heap,
-            &mut input,
-            &mut output,
-            Role::Server,
-            limits,
-            size,
-            weave,
-            None,
-        ),
-    }
+    recut_uniform(
+        heap,
+        &mut Input::new(&mut stream.reader),
+        &mut Output::new(writer),
+        stream.role,
+        stream.limits,
+        sizes.size.max(1),
+        sizes.weave,
+        key_of(stream.role),
+    )
 }

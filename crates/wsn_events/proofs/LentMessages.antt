@@ -35,9 +35,8 @@ use Rattle.wsn_events.specs.declared.reassembly.Reassembly.{Reassembly}
 use Rattle.wsn_events.specs.declared.source.Next.TheVariants as nexts
 use Rattle.wsn_events.specs.EventsMeant.{meant}
 use Rattle.wsn_events.specs.EventReaders.{HasGiven, IsGiven, IsNextEvent, answered, held_of, offset_of, frames_of}
-use Rattle.wsn_events.specs.LentMessages.{LendsMessage, lent_message}
+use Rattle.wsn_events.specs.LentMessages.{LendsMessage, lent_message, held_bytes}
 use Rattle.wsn_events.specs.Reassembly.{IsBetweenFrames, IsInFrame, IsPlacedAt, offset_given, frames_given}
-use Rattle.wsn_events.specs.TakenEvents.{held_bytes}
 use Rattle.wsn_events.proofs.GivenSoFar.{all_came, given_first}
 use Rattle.wsn_events.proofs.ReassembledFrames.{given_of_frame, message_ended, reassembled_alike}
 use Rattle.wsn_events.proofs.TakenParts.{ended_by, data_of_frame, before_frame}

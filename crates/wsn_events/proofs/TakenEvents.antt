@@ -22,7 +22,7 @@ use Rattle.wsn_events.specs.declared.source.Next.TheVariants as nexts
 use Rattle.wsn_events.specs.EventsMeant.{meant}
 use Rattle.wsn_events.specs.EventReaders.{HasGiven, ReadsNextEvent, IsAtWork}
 use Rattle.wsn_events.specs.Normalised.{IsNormalised}
-use Rattle.wsn_events.specs.TakenEvents.{TakesEventsAfter, PutsTaken}
+use Rattle.wsn_events.specs.LentMessages.{TakesEventsAfter, PutsTaken}
 use Rattle.wsn_events.proofs.GivenSoFar.{begun_sound, given_first}
 use Rattle.wsn_events.proofs.Normalising.{HasWritten, goes_on, is_failed}
 

@@ -20,7 +20,11 @@ pub struct EventReader<A: Allocator> {
 
 impl<A: Allocator + Copy> EventReader<A> {
     ghost use Rattle.std.specs.Prelude.{◌≡◌, ℕ, ◌<◌, ◌≤◌, List, [], None, Some, true, false, IfSome, IfNone};
-    ghost use Rattle.wsn_events.specs.Words.{Role, MeantEvent, HasGiven, IsAsBefore, IsAtWork, ReadsNextEvent, IsNextEvent, IsEvent, TakesTurn, GivesEvent, answered, held_of, offset_of, frames_of, events_ahead, TakesEventsAfter, held_bytes, LendsMessage};
+    ghost use Rattle.wsn_wire.specs.declared.endpoint.Role.{Role};
+    ghost use Rattle.wsn_rules.specs.Meaning.{MeantEvent};
+    ghost use Rattle.wsn_events.specs.EventReaders.{HasGiven, IsAsBefore, IsAtWork, ReadsNextEvent, IsNextEvent, IsEvent, answered, held_of, offset_of, frames_of, events_ahead};
+    ghost use Rattle.wsn_events.specs.Turns.{TakesTurn, GivesEvent};
+    ghost use Rattle.wsn_events.specs.LentMessages.{TakesEventsAfter, held_bytes, LendsMessage};
 
     /// A source that has read nothing.
     #[tactic(none)]

@@ -1,7 +1,10 @@
 ghost use Rattle.std.specs.Prelude.{◌≡◌, ℕ, ◌<◌, None, Some, IfOk, IfSome, IfNone, Ok, List, MatchOption, Result, true, false};
 ghost use Rattle.wsn_rules.specs.Meaning.{MeantEvent};
-ghost use Rattle.wsn_events.specs.Words.{Role, Verdict, Stop, HasGiven, GivesEvent, answered, events_ahead, next_of, own_turn};
-ghost use Rattle.wsn_events.specs.EventReaders.{HasBegunOrEnded};
+ghost use Rattle.wsn_wire.specs.declared.endpoint.Role.{Role};
+ghost use Rattle.wsn_rules.specs.declared.verdict.Verdict.{Verdict};
+ghost use Rattle.wsn_io.specs.declared.stop.Stop.{Stop};
+ghost use Rattle.wsn_events.specs.EventReaders.{HasGiven, answered, events_ahead, next_of, HasBegunOrEnded};
+ghost use Rattle.wsn_events.specs.Turns.{GivesEvent, own_turn};
 ghost use Rattle.wsn_events.specs.LeavingOut.{is_turn_left_out, ReadsTurn, TakesTurnWithout};
 
 use crate::event::Event;

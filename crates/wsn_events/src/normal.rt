@@ -2,7 +2,7 @@ ghost use Rattle.std.specs.Prelude.{◌≡◌, ◌≤◌, false, ℕ, List, None
 ghost use Rattle.wsn_wire.specs.declared.endpoint.Role.{Role};
 ghost use Rattle.wsn_rules.specs.Meaning.{MeantEvent};
 ghost use Rattle.wsn_events.specs.EventReaders.{HasGiven, answered, events_ahead};
-ghost use Rattle.wsn_events.specs.TakenEvents.{PutsTaken};
+ghost use Rattle.wsn_events.specs.LentMessages.{PutsTaken};
 ghost use Rattle.wsn_events.specs.Normalised.{IsNormalised, IsNormalisedWhole};
 
 use crate::putting::put_event;

@@ -37,7 +37,13 @@ impl<A: Allocator> Model for Source<A> {
 }
 
 impl<A: Allocator + Copy> Source<A> {
-    ghost use Rattle.wsn_events.specs.Words.{Role, MeantEvent, Verdict, Stop, HasGiven, IsAsBefore, ReadsNextEvent, IsEvent, answered, held_of, offset_of, frames_of, events_ahead, next_of, TakesEventsAfter, held_bytes, TakesTurn, GivesEvent, MayLend, own_turn};
+    ghost use Rattle.wsn_wire.specs.declared.endpoint.Role.{Role};
+    ghost use Rattle.wsn_rules.specs.Meaning.{MeantEvent};
+    ghost use Rattle.wsn_rules.specs.declared.verdict.Verdict.{Verdict};
+    ghost use Rattle.wsn_io.specs.declared.stop.Stop.{Stop};
+    ghost use Rattle.wsn_events.specs.EventReaders.{HasGiven, IsAsBefore, ReadsNextEvent, IsEvent, answered, held_of, offset_of, frames_of, events_ahead, next_of};
+    ghost use Rattle.wsn_events.specs.LentMessages.{TakesEventsAfter, held_bytes, MayLend};
+    ghost use Rattle.wsn_events.specs.Turns.{TakesTurn, GivesEvent, own_turn};
 
     /// A source that has read nothing. `role` is the endpoint that sent the stream. It allocates no memory.
     pub fn new(alloc: A, role: Role, limits: Limits) -> Self

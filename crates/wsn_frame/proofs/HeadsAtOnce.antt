@@ -25,8 +25,7 @@ use Rattle.wsn_frame.specs.declared.open_message.OpenMessage.{OpenMessage}
 use Rattle.wsn_frame.specs.declared.parsing.Parsed.{Parsed}
 use Rattle.wsn_frame.specs.declared.parsing.Parsed.TheVariants.{Whole}
 use Rattle.wsn_frame.specs.OpenMessages.{IsOpenMessage}
-use Rattle.wsn_frame.specs.EvidentLast.{IsEvidentLast}
-use Rattle.wsn_frame.specs.PartialHeads.{IsShort, IsHeadSoFar, IsHead, IsHeadPrefix, IsParsed, IsWithin, HasTwoBytes, IsLengthRead}
+use Rattle.wsn_frame.specs.PartialHeads.{IsEvidentLast, IsShort, IsHeadSoFar, IsHead, IsHeadPrefix, IsParsed, IsWithin, HasTwoBytes, IsLengthRead}
 use Rattle.wsn_rules.proofs.Prefixes.{head_same, tail_same, nil-parts, same_front}
 use Rattle.wsn_rules.proofs.HeadEvidence.{second_number, encoding_number, length_number, payload_number, length_row, encoding_row, no_evidence, first_evidence, after_first, unmasked-nil}
 use Rattle.wsn_rules.proofs.PlanTheory.MessageFrames.{bytes_take}

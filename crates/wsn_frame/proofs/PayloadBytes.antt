@@ -16,8 +16,7 @@ use Rattle.wsn_rules.specs.Limits.{Limits}
 use Rattle.wsn_rules.specs.Group.{payload_of}
 use Rattle.wsn_rules.specs.Evidence.{IsOfText, EvidentByPayload, unmasked, Evidence}
 use Rattle.wsn_rules.specs.Evidence.Evidence.{ByPayload}
-use Rattle.wsn_frame.specs.EvidentLast.{IsEvidentLast}
-use Rattle.wsn_frame.specs.PartialHeads.{IsHead}
+use Rattle.wsn_frame.specs.PartialHeads.{IsEvidentLast, IsHead}
 use Rattle.wsn_frame.specs.PayloadChecks.{HasChecked}
 use Rattle.wsn_frame.specs.Payloads.{unmasked_by, HoldsPayload}
 use Rattle.wsn_rules.proofs.MessageText.{begins_not_bad}

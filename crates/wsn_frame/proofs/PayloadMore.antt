@@ -12,7 +12,7 @@ use Rattle.wsn_frame.specs.declared.payload_check.BadByte.{BadByte}
 use Rattle.wsn_frame.specs.declared.payload_check.PayloadCheck.{PayloadCheck}
 use Rattle.wsn_rules.specs.Limits.{Limits}
 use Rattle.wsn_rules.specs.Evidence.{EvidentByPayload, Evidence}
-use Rattle.wsn_frame.specs.EvidentLast.{IsEvidentLast}
+use Rattle.wsn_frame.specs.PartialHeads.{IsEvidentLast}
 use Rattle.wsn_frame.specs.PayloadChecks.{HasChecked, IsQuiet, IsChecked}
 use Rattle.wsn_frame.specs.Payloads.{unmasked_by, HoldsPayload}
 use Rattle.wsn_rules.proofs.Prefixes.{two_fronts}

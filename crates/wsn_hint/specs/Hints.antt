@@ -3,13 +3,13 @@ use Rattle.std.specs.Prelude.{◌≡◌, ℕ, ◌+◌, ◌%◌, ◌<◌, ◌≤�
 use Rattle.std.specs.Char.{is_ascii_hexdigit}
 use Rattle.std.specs.List.{AllByRecursion, Contains, take_while}
 use Rattle.wsn_wire.specs.declared.endpoint.Role.{Role}
-use Rattle.wsn_wire.specs.declared.length_forms.Lengths.TheVariants.{Shortest}
 use Rattle.wsn_wire.specs.declared.endpoint.Role.TheVariants.{Client, Server}
 use Rattle.wsn_wire.specs.declared.refusal.Reason.{Reason}
 use Rattle.wsn_wire.specs.declared.refusal.Reason.TheVariants.{ReservedBits, MaskMissing, MaskPresent}
 use Rattle.wsn_wire.specs.Frame.{Frame}
 use Rattle.wsn_rules.specs.declared.verdict.Verdict.{Verdict}
 use Rattle.wsn_rules.specs.Limits.{Limits}
+use Rattle.wsn_rules.specs.Examples.{greatest}
 use Rattle.wsn_rules.specs.Verdict.{IsRefused, IsVerdict}
 use Rattle.wsn_scan.specs.Judging.{IsUnrefused}
 use Rattle.wsn_hint.specs.declared.hint.Hint.{Hint}
@@ -56,13 +56,9 @@ BeginsHttp bytes =
     ⊎ Begins (codes "CONNECT ") bytes ⊎ Begins (codes "OPTIONS ") bytes ⊎ Begins (codes "TRACE ") bytes
     ⊎ Begins (codes "PATCH ") bytes
 
--- the greatest limits, with the shortest encoding of each length
-abbrev pub greatest_limits : Limits
-greatest_limits = record { message = 16777216; input = 1099511627776; frames = None; lengths = Shortest }
-
 -- There are at least two bytes, and an endpoint may have sent the first two, under the greatest limits.
 abbrev pub MayBeStream : List ℕ → Type 0
-MayBeStream bytes = (2 ≤ length bytes) × ((role : Role) × IsUnrefused role greatest_limits (take 2 bytes))
+MayBeStream bytes = (2 ≤ length bytes) × ((role : Role) × IsUnrefused role greatest (take 2 bytes))
 
 -- The first byte of the head of a text or binary frame, in one frame or more, without RSV bits (RFC 6455 section 5.2).
 abbrev pub IsDataHead : ℕ → Type 0

@@ -5,7 +5,7 @@ use Rattle.std.proofs.Math.Seq.{take-append-add}
 use Rattle.std.proofs.KnownBytes.{Appends-trans}
 use Rattle.std.specs.Io.KnownBytes.{Appends}
 use Rattle.wsn_wire.specs.declared.endpoint.Role.{Role}
-use Rattle.wsn_io.specs.Transfer.{Incoming, Outgoing, IsWrittenUpToFailure}
+use Rattle.wsn_io.specs.Transfer.{Incoming, Outgoing, IsWrittenUpToFailure, IsWrittenBut}
 use Rattle.wsn_rules.specs.declared.head_info.HeadInfo.{HeadInfo}
 use Rattle.wsn_rules.specs.declared.verdict.Refusal.{Refusal}
 use Rattle.wsn_rules.specs.declared.verdict.Verdict.{Verdict}
@@ -23,7 +23,7 @@ use Rattle.wsn_scan.specs.ChunkReaders.{HasCome, IsEndOf, IsHaltOf}
 use Rattle.wsn_scan.specs.Judging.{HasVerdictAndHeads, IsJudgedOf, IsReached, chunk_size}
 use Rattle.wsn_print.specs.declared.format.Format.{Format}
 use Rattle.wsn_print.specs.Formats.{heads_text, verdict_text}
-use Rattle.wsn_list.specs.Listing.{listing, IsReadUpToRefusal, IsEnded, IsListedChunk, IsListedButChunk, IsListedAs}
+use Rattle.wsn_list.specs.Listing.{listing, IsReadUpToRefusal, IsEnded, IsListedChunk, IsListedAs, IsHeadsText}
 use Rattle.wsn_rules.proofs.OneVerdict.{one_verdict}
 use Rattle.wsn_scan.proofs.ChunksSoFar.{received, within_limit}
 use Rattle.wsn_scan.proofs.Unrefused.{place_after, reported_so_far, reported_refused}
@@ -124,10 +124,12 @@ module _ (format : Format) (role : Role) (limits : Limits) where
           last = [];
           whole = sym (append-nil came);
           short = omega arith;
-          heads = heads;
-          are_heads = (verdict, reported);
-          more = take is_end.1.1.0 (verdict_text format verdict);
-          written = Appends-trans before.written mid.written after.written (heads_text format heads) (take is_end.1.1.0 (verdict_text format verdict)) lines is_end.1.1.1;
+          written = (
+            heads_text format heads,
+            take is_end.1.1.0 (verdict_text format verdict),
+            (heads, (verdict, reported), refl),
+            Appends-trans before.written mid.written after.written (heads_text format heads) (take is_end.1.1.0 (verdict_text format verdict)) lines is_end.1.1.1,
+          );
         };
       })
 
@@ -207,17 +209,19 @@ module _ (format : Format) (role : Role) (limits : Limits) where
           at_once = λ _. but_chunk listed.printed;
         }
       where
-        but_chunk : IsWrittenUpToFailure mid_out after (heads_text format listed.fed.heads) → IsListedButChunk format role limits all_came before after
+        but_chunk : IsWrittenUpToFailure mid_out after (heads_text format listed.fed.heads) → IsWrittenBut chunk_size (IsHeadsText format role limits) all_came before after
         but_chunk (inl all) = let both : true ≡ false = sym broke ∙ all.0 in absurd cc
         but_chunk (inr front) = record {
           done = came;
           last = chunk ++ come.past;
           whole = after_came;
           short = short_last;
-          heads = heads;
-          are_heads = reported_so_far role limits scan came heads read.taken read.none;
-          more = take front.1.0 (heads_text format listed.fed.heads);
-          written = Appends-trans before.written mid_out.written after.written (heads_text format heads) (take front.1.0 (heads_text format listed.fed.heads)) lines front.1.1;
+          written = (
+            heads_text format heads,
+            take front.1.0 (heads_text format listed.fed.heads),
+            (heads, reported_so_far role limits scan came heads read.taken read.none, refl),
+            Appends-trans before.written mid_out.written after.written (heads_text format heads) (take front.1.0 (heads_text format listed.fed.heads)) lines front.1.1,
+          );
         }
 
         of : IsWrittenUpToFailure before after (heads_text format (heads ++ listed.fed.heads)) → (k : ℕ) × Appends before.written after.written (take k (listing format (heads ++ listed.fed.heads) (reported_within refusal listed.fed).0))

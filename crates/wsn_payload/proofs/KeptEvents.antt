@@ -11,7 +11,7 @@ use Rattle.wsn_rules.specs.Limits.{Limits}
 use Rattle.wsn_rules.specs.Group.{is_data, unfinished, IsOpen, first_op, payload_of}
 use Rattle.wsn_rules.specs.Heads.{info_of}
 use Rattle.wsn_rules.specs.Lawful.{IsLawful}
-use Rattle.wsn_rules.specs.Meaning.{event_at}
+use Rattle.wsn_rules.specs.Meaning.{event_at, payload_in}
 use Rattle.wsn_rules.specs.ShownStream.{open_offset, event_offset, frame_so_far}
 use Rattle.wsn_rules.proofs.Groups.{unfinished_control, unfinished_final, unfinished_more}
 use Rattle.wsn_rules.proofs.MessageText.{text_of_push}
@@ -19,8 +19,8 @@ use Rattle.wsn_rules.proofs.OpenOffsets.{offset_of_none, offset_after_control, o
 use Rattle.wsn_scan.specs.Positions.{BetweenFrames, InFrame}
 use Rattle.wsn_payload.specs.declared.answer.EventStart.{EventStart}
 use Rattle.wsn_payload.specs.declared.event_at.EventAt.{EventAt}
-use Rattle.wsn_payload.specs.EventsAt.{content, IsOpenAt, IsBegunAt, end_of, EndBefore}
-use Rattle.wsn_payload.specs.Following.{KeepsOpen, KeepsFrame, HasBegunAt, KeepsEventAt, MayBegin, IsElsewhere, EndsEvent, own_part}
+use Rattle.wsn_payload.specs.EventsAt.{IsOpenAt, IsBegunAt, end_of, EndBefore, IsElsewhere, EndsEvent}
+use Rattle.wsn_payload.specs.Following.{KeepsOpen, KeepsFrame, HasBegunAt, KeepsEventAt, MayBegin, own_part}
 use Rattle.wsn_scan.proofs.FrameEnds.{first_alike}
 use Rattle.wsn_payload.proofs.OpenMessages.{open_or_not, open_before, offset_of_control, offset_of_data, offset_within, content_of_control, content_of_data, apart_from_control, first_of_more, control_is_final, frame_end}
 
@@ -114,7 +114,7 @@ module _ (kept : EventAt) (at : ℕ) (fs : List Frame) (info : HeadInfo) (text :
         begins : event_offset fs f ≡ at
         begins = own_frame.0 holds
 
-        by : (b : Bool) → HasBegunAt b fs BetweenFrames at text → text ≡ content (event_at fs f)
+        by : (b : Bool) → HasBegunAt b fs BetweenFrames at text → text ≡ payload_in (event_at fs f)
         by true is =
             elim (cases_Bool (is_control info.op)) [
               | inl control ↦ absurd (apart_from_control fs f at control is.some is.begins begins)
@@ -173,7 +173,7 @@ module _ (kept : EventAt) (at : ℕ) (fs : List Frame) (info : HeadInfo) (part m
   longer = frame_so_far info (part ++ more)
 
   -- the content of a longer frame
-  content_on : content (event_at fs longer) ≡ content (event_at fs here) ++ more
+  content_on : payload_in (event_at fs longer) ≡ payload_in (event_at fs here) ++ more
   content_on =
       elim (cases_Bool (is_control info.op)) [
         | inl control ↦ content_of_control fs longer control ∙ ap (λ (bs : List ℕ). bs ++ more) (sym (content_of_control fs here control))
@@ -222,10 +222,10 @@ module _ (role : Role) (limits : Limits) (kept : EventAt) (at : ℕ) (fs : List 
       let within = offset_within fs f in
       omega (arith, ends, within, same)
 
-  pub content_whole : event_offset fs f ≡ at → text ≡ content (event_at fs f)
+  pub content_whole : event_offset fs f ≡ at → text ≡ payload_in (event_at fs f)
   content_whole same = by kept.begun k.begun
     where
-      by : (b : Bool) → HasBegunAt b fs (InFrame info f.payload) at text → text ≡ content (event_at fs f)
+      by : (b : Bool) → HasBegunAt b fs (InFrame info f.payload) at text → text ≡ payload_in (event_at fs f)
       by true (inl is) = absurd (apart_from_control fs f at is.0 is.1.some is.1.begins same)
       by true (inr is) = is.1
       by false is = absurd (not_after same is.0)

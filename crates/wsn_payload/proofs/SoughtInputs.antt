@@ -1,10 +1,10 @@
 -- An input of which a payload is taken: the answer is right for the bytes that came.
-use Rattle.std.proofs.Common.{◌≡◌, ℕ, ◌+◌, ◌<◌, ◌≤◌, ◌⊎◌, Bool, true, false, Option, None, Some, Result, Ok, Err, List, [], ◌∷◌, ◌++◌, length, take, drop, if◌then◌else◌, inl, inr, refl, sym, ap, ◌∙◌, subst, append_assoc, append-nil, length-append, take-append-drop, arith}
+use Rattle.std.proofs.Common.{◌≡◌, ℕ, ◌+◌, ◌<◌, ◌≤◌, ◌⊎◌, Bool, true, false, Option, None, Some, Result, Ok, Err, List, [], ◌∷◌, ◌++◌, length, take, drop, refl, sym, ap, ◌∙◌, subst, append_assoc, append-nil, length-append, take-append-drop, arith}
 use Rattle.std.proofs.KnownBytes.{Appends-nil}
-use Rattle.std.proofs.lemmas.Bool.{cond-true, cond-false}
+use Rattle.std.proofs.lemmas.Bool.{cond-true}
 use Rattle.std.proofs.lemmas.List.{take-append-le}
 use Rattle.std.specs.Io.KnownBytes.{Consumes, IsAtEnd}
-use Rattle.wsn_io.specs.Transfer.{Incoming, Outgoing, IsWritten}
+use Rattle.wsn_io.specs.Transfer.{Incoming, Outgoing, IsWritten, IsWrittenBut}
 use Rattle.wsn_io.specs.declared.stop.Stop.{Stop}
 use Rattle.wsn_io.specs.declared.stop.Stop.TheVariants as stop
 use Rattle.wsn_wire.specs.declared.endpoint.Role.{Role}
@@ -13,7 +13,7 @@ use Rattle.wsn_rules.specs.declared.verdict.Verdict.{Verdict}
 use Rattle.wsn_rules.specs.declared.verdict.Verdict.TheVariants.{Accepted, Cut, Refused}
 use Rattle.wsn_rules.specs.Accepted.{EndsWithClose}
 use Rattle.wsn_rules.specs.Limits.{Limits}
-use Rattle.wsn_rules.specs.Verdict.{IsRefused, IsVerdict}
+use Rattle.wsn_rules.specs.Verdict.{IsRefused, IsVerdict, judged_bytes}
 use Rattle.wsn_rules.proofs.StaysRefused.{place_within}
 use Rattle.wsn_scan.specs.declared.chunk_reader.ChunkReader.{ChunkReader}
 use Rattle.wsn_scan.specs.declared.scan.Scan.{Scan}
@@ -29,9 +29,9 @@ use Rattle.wsn_payload.specs.declared.answer.EventStart.{EventStart}
 use Rattle.wsn_payload.specs.declared.answer.Payload.{Payload}
 use Rattle.wsn_payload.specs.declared.answer.Payload.TheVariants.{Whole, Unfinished, Inside, Head, Nothing}
 use Rattle.wsn_payload.specs.declared.event_at.EventAt.{EventAt}
-use Rattle.wsn_payload.specs.EventsAt.{IsWholeAt, IsRestAt, judged_bytes, AreApart, IsUnfinishedAt, EndsBefore, IsInHeadAt, IsAfterAll, IsInsideAt}
+use Rattle.wsn_payload.specs.EventsAt.{IsWholeAt, IsRestAt, AreApart, IsUnfinishedAt, EndsBefore, IsInHeadAt, IsAfterAll, IsInsideAt}
 use Rattle.wsn_payload.specs.Following.{HasBegunAt, KeepsEventAt, is_judged, answer_without_event, ended_answer, HasSought, IsRefusedHere, IsAnsweredAt, SeeksThrough}
-use Rattle.wsn_payload.specs.Payloads.{IsPartAt, IsPayloadInFront, IsPayloadAnswer, IsPayloadTaken, IsPayloadOfAll, IsWrittenBut}
+use Rattle.wsn_payload.specs.Payloads.{IsPartAt, IsPayloadInFront, IsPayloadAnswer, IsPayloadTaken, IsPayloadOfAll, IsPartOf}
 use Rattle.wsn_scan.proofs.FollowedScans.{unrefused_so_far, judged_so_far}
 use Rattle.wsn_payload.proofs.EndedAnswers.{IsAnswered, answered_without, in_head, after_all}
 use Rattle.wsn_payload.proofs.EndedAnswers.IsAnswered.{InHead, AfterAll}
@@ -47,9 +47,7 @@ whole_longer role limits bytes more at payload w = record {
   whole = ap (λ (bs : List ℕ). bs ++ more) w.whole ∙ append_assoc (stream (w.before ++ w.last ∷ [])) w.later more;
   within = w.within;
   lawful = w.lawful;
-  final = w.final;
-  begins = w.begins;
-  payload_is = w.payload_is;
+  ends = w.ends;
 }
 
 pub inside_longer : (role : Role) (limits : Limits) (bytes more : List ℕ) (at : ℕ) (start : EventStart) → IsInsideAt role limits bytes at start → IsInsideAt role limits (bytes ++ more) at start
@@ -62,9 +60,6 @@ inside_longer role limits bytes more at start w = record {
   last = w.last;
   info = w.info;
   are_heads = w.are_heads;
-  from = w.from;
-  to = w.to;
-  is_start = w.is_start;
   elsewhere = w.elsewhere;
 }
 
@@ -188,10 +183,10 @@ module _ (role : Role) (limits : Limits) (at : ℕ) where
             at_once = λ is. at_once;
           })
         where
-          but : IsWrittenBut (length chunk) role limits at (came ++ chunk) first after
+          but : IsWrittenBut (length chunk) (IsPartOf role limits at) (came ++ chunk) first after
           but = given.2
 
-          at_once : IsWrittenBut chunk_size role limits at all_came first after
+          at_once : IsWrittenBut chunk_size (IsPartOf role limits at) all_came first after
           at_once = record {
             done = but.done;
             last = but.last ++ come.past;

@@ -1,9 +1,9 @@
 -- What one call of the scan says of the event that begins at an offset.
-use Rattle.std.proofs.Common.{◌≡◌, ℕ, ◌+◌, ◌≤◌, ◌^◌, ◌⊎◌, Bool, true, false, not, Option, None, Some, Result, Ok, Err, List, [], ◌∷◌, ◌++◌, length, take, drop, if◌then◌else◌, inl, inr, refl, sym, ap, ◌∙◌, subst, append-nil, append_assoc, arith, length-append, take-append-drop, ◌-◌}
+use Rattle.std.proofs.Common.{◌≡◌, ℕ, ◌+◌, ◌≤◌, ◌^◌, ◌⊎◌, Bool, true, false, not, Option, None, Some, Result, Ok, Err, List, [], ◌∷◌, ◌++◌, length, take, drop, inl, inr, refl, sym, ap, ◌∙◌, subst, append-nil, append_assoc, arith, length-append, take-append-drop, ◌-◌}
 use Rattle.std.proofs.KnownBytes.{Appends-trans}
 use Rattle.std.proofs.lemmas.Bool.{cases_Bool, cond-true, cond-false}
 use Rattle.std.proofs.lemmas.List.{take_all, take-append-le, drop_at}
-use Rattle.wsn_io.specs.Transfer.{Outgoing, IsWritten, IsPartlyWritten}
+use Rattle.wsn_io.specs.Transfer.{Outgoing, IsWritten, IsPartlyWritten, IsWrittenBut}
 use Rattle.wsn_io.specs.declared.stop.Stop.{Stop}
 use Rattle.wsn_io.proofs.PutTexts.{put_both, put_front}
 use Rattle.wsn_wire.specs.declared.endpoint.Role.{Role}
@@ -23,7 +23,7 @@ use Rattle.wsn_rules.specs.Evidence.Evidence.{ByFirst}
 use Rattle.wsn_rules.specs.Heads.{heads_of, info_of, IsBegun, AreHeads}
 use Rattle.wsn_rules.specs.Lawful.{IsLawful}
 use Rattle.wsn_rules.specs.ShownStream.{frame_so_far}
-use Rattle.wsn_rules.specs.Verdict.{IsVerdict}
+use Rattle.wsn_rules.specs.Verdict.{IsVerdict, judged_bytes}
 use Rattle.wsn_rules.proofs.HeadsGoOn.{begins_longer}
 use Rattle.wsn_scan.specs.declared.part.Part.{Part}
 use Rattle.wsn_scan.specs.declared.part.Taken.{Taken}
@@ -36,10 +36,10 @@ use Rattle.wsn_scan.proofs.HeadsSoFar.{heads_reported}
 use Rattle.wsn_payload.specs.declared.answer.Payload.{Payload}
 use Rattle.wsn_payload.specs.declared.answer.Payload.TheVariants.{Whole, Unfinished, Inside, Head, Nothing}
 use Rattle.wsn_payload.specs.declared.event_at.EventAt.{EventAt}
-use Rattle.wsn_payload.specs.EventsAt.{IsWholeAt, IsRestAt, IsBegunAt, judged_bytes, AreApart, IsInsideAt}
+use Rattle.wsn_payload.specs.EventsAt.{IsWholeAt, IsRestAt, IsBegunAt, AreApart, IsInsideAt, EndsEvent}
 use Rattle.wsn_scan.specs.FollowedScans.{HasFollowed, IsCall}
-use Rattle.wsn_payload.specs.Following.{HasBegunAt, KeepsEventAt, MayBegin, EndsEvent, TakesPart, own_part, is_judged, answer_without_event, ended_answer, HasSought, IsRefusedHere, IsStepOf, SeeksOn}
-use Rattle.wsn_payload.specs.Payloads.{IsPartAt, IsPayloadInFront, IsWrittenBut}
+use Rattle.wsn_payload.specs.Following.{HasBegunAt, KeepsEventAt, MayBegin, TakesPart, own_part, is_judged, answer_without_event, ended_answer, HasSought, IsRefusedHere, IsStepOf, SeeksOn}
+use Rattle.wsn_payload.specs.Payloads.{IsPartAt, IsPayloadInFront, IsPartOf}
 use Rattle.wsn_scan.proofs.FollowedScans.{wire_payload_is, few, lawful_done, whole_is, rest_few, room_within, unrefused_so_far, judged_so_far, in_frame, between, reached, same_follows, reach, part_follows, refused_there, refused_begun}
 use Rattle.wsn_scan.proofs.FoundHeads.{heads_after}
 use Rattle.wsn_payload.proofs.EndedAnswers.{IsAnswered, answered_without, in_head, after_all}
@@ -100,7 +100,7 @@ part_of role limits at scan kept came first now h v is = by kept.begun h.keeps.b
 
 -- it was written, and then a prefix of more
 before_chunk : (role : Role) (limits : Limits) (at : ℕ) (scan : Scan) (kept : EventAt) (came chunk : List ℕ) (first now after : Outgoing) (h : HasSought role limits at scan kept came first now) (more : List ℕ) → IsPartlyWritten now after more
-    → IsWrittenBut (length chunk) role limits at (came ++ chunk) first after
+    → IsWrittenBut (length chunk) (IsPartOf role limits at) (came ++ chunk) first after
 before_chunk role limits at scan kept came chunk first now after h more (failed, (k, put)) =
     let v = judged_so_far role limits scan came h.frames h.position h.rest h.followed in
     record {
@@ -108,7 +108,7 @@ before_chunk role limits at scan kept came chunk first now after h more (failed,
       last = chunk;
       whole = refl;
       short = omega arith;
-      written = (v.0, h.payload, take k more, part_of role limits at scan kept came first now h v.0 v.1, Appends-trans first.written now.written after.written h.payload (take k more) h.written.1 put);
+      written = (h.payload, take k more, (v.0, part_of role limits at scan kept came first now h v.0 v.1), Appends-trans first.written now.written after.written h.payload (take k more) h.written.1 put);
     }
 
 -- a whole lawful frame may begin there
@@ -227,9 +227,7 @@ module _ (role : Role) (limits : Limits) (at : ℕ) (old new : Scan) (chunk afte
           whole = bytes ∙ ap (λ (fs : List Frame). stream fs ++ r.since) are;
           within = subst (λ (fs : List Frame). length (stream fs) ≤ limits.input) are short;
           lawful = subst (IsLawful role limits) are (lawful_done role limits new (came ++ share) r.frames r.position r.since follows_part);
-          final = e.final;
-          begins = e.begins;
-          payload_is = e.payload_is;
+          ends = e;
         }
 
     in_front : (payload : List ℕ) → IsBegunAt r.frames r.position at payload ⊎ ((f : Frame) × (r.frames ≡ done ++ f ∷ []) × EndsEvent done f at payload) → IsPayloadInFront role limits (came ++ chunk) at payload
@@ -268,10 +266,7 @@ module _ (role : Role) (limits : Limits) (at : ℕ) (old new : Scan) (chunk afte
           last = last_frame.0;
           info = part.head;
           are_heads = heads;
-          from = t.0.from;
-          to = t.0.to;
-          is_start = t.0.is_start;
-          elsewhere = t.0.other;
+          elsewhere = t.0;
         } in
         subst (SeeksOn role limits at new kept_after came chunk first out) (sym is) (most, (there, nothing))
     part_step kept_after out (Ok (Some (Unfinished v))) t given is = absurd t
@@ -378,7 +373,7 @@ module _ (role : Role) (limits : Limits) (at : ℕ) (old new : Scan) (chunk afte
                 (most_refused, (here_refused, (λ later. after_all role limits ((came ++ share) ++ later) done at kept (with_evidence h.position evidence) text kept_here (Refused refusal) (refused_apart later) has.0 why), nothing))
 
     pub refused_failed : (out : Outgoing) → kept.own ≡ true → IsPartlyWritten now out (own_part kept evidence)
-        → ((payload : List ℕ) × IsPayloadInFront role limits (came ++ chunk) at payload × IsPartlyWritten first out payload) × IsWrittenBut (length chunk) role limits at (came ++ chunk) first out
+        → ((payload : List ℕ) × IsPayloadInFront role limits (came ++ chunk) at payload × IsPartlyWritten first out payload) × IsWrittenBut (length chunk) (IsPartOf role limits at) (came ++ chunk) first out
     refused_failed out own partly = (
       (text, in_refused, put_front first now out h.payload (own_part kept evidence) h.written partly),
       before_chunk role limits at old kept came chunk first now out h (own_part kept evidence) partly,

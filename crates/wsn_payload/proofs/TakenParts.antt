@@ -12,10 +12,10 @@ use Rattle.wsn_scan.specs.declared.part.Part.{Part}
 use Rattle.wsn_scan.specs.Parts.{IsPartAt}
 use Rattle.wsn_scan.specs.Positions.{Position, BetweenFrames, InFrame}
 use Rattle.wsn_payload.specs.declared.event_at.EventAt.{EventAt}
-use Rattle.wsn_payload.specs.EventsAt.{IsBegunAt, EndBefore}
+use Rattle.wsn_payload.specs.EventsAt.{IsBegunAt, EndBefore, EndsEvent}
 use Rattle.wsn_scan.specs.FollowedScans.{IsTaken}
 use Rattle.wsn_scan.proofs.FollowedScans.{begins_at, goes_on_at}
-use Rattle.wsn_payload.specs.Following.{HasBegunAt, KeepsEventAt, EndsEvent, EndsFrame, own_part}
+use Rattle.wsn_payload.specs.Following.{HasBegunAt, KeepsEventAt, EndsFrame, own_part}
 use Rattle.wsn_payload.proofs.OpenMessages.{offset_within}
 use Rattle.wsn_payload.proofs.KeptEvents.{goes_on, content_whole, begun_own}
 

@@ -78,11 +78,6 @@ IsEndOf least all bytes = (bytes.bytes ≡ length all) × HoldsLast least all by
 
 -- ---- events
 
--- The payload of an event.
-abbrev pub payload_in : MeantEvent → List ℕ
-payload_in (Message kind payload) = payload
-payload_in (Control op body) = body
-
 -- The event with this opcode and this payload. No event has the opcode of a continuation.
 abbrev pub event_of : Op → List ℕ → MeantEvent
 event_of ops.Text payload = Message kinds.Text payload

@@ -105,18 +105,6 @@ pub fn expect_recut(
     expect_bytes_of(rt, found.1, expected.1, of);
 }
 
-/// Fails unless this is the line of a row's recut, and these bytes were written. The count says how the row was read.
-pub fn expect_recut_at(
-    rt: &impl Abort,
-    alloc: Global,
-    found: (&Result<RecutAnswer, Stop>, &[u8]),
-    expected: (&str, &[u8]),
-    row: &impl Debug,
-    count: usize,
-) {
-    expect_recut(rt, alloc, found, expected, &(row, count));
-}
-
 /// Fails unless `same` answered that two streams have the same events.
 pub fn expect_equal(
     rt: &impl Abort,

@@ -5,7 +5,7 @@
 //!
 //! Plans: `plan_text` and `plan_files` read and write them, `plans` takes them from streams. Recuts: `recuts` by plans
 //! that fit, `recut_faults` by plans that do not, `sized_recuts` in frames of one size, `long_plans` in a million
-//! steps. `plan_commands` and `recut_size_commands` run the commands.
+//! steps. `plan_commands` runs the commands.
 //!
 //! Hostile use: failing readers and writers in `recut_stops`, failed allocations in `recut_memory`. `peer` is another
 //! implementation, the kit's `tungstenite`. `expecting` has the assertions.
@@ -29,8 +29,6 @@ mod plans;
 mod recut_faults;
 #[cfg(test)]
 mod recut_memory;
-#[cfg(test)]
-mod recut_size_commands;
 #[cfg(test)]
 mod recut_stops;
 #[cfg(test)]

@@ -4,7 +4,7 @@ use crate::expecting::{expect_answer, expect_equal, expect_line_of, expect_of};
 use std::alloc::Global;
 use std::process::Abort;
 use tungstenite::{CloseCode, CloseFrame, Duplex, Message, NoMask, Utf8Bytes, WebSocket};
-use wsn_doubles::engines::{Sizes, compared, recut_uniformly};
+use wsn_doubles::engines::{SentStream, Sizes, compared, recut_uniformly};
 use wsn_doubles::readers::Chopped;
 use wsn_doubles::vectors::{filled, greatest};
 use wsn_wire::Role;
@@ -141,9 +141,13 @@ fn a_server_reads_frames_of_each_size(rt: HostRuntime) {
 
 /// Fails unless a server reads the session in frames of one size.
 fn expect_session_in(rt: &impl Abort, alloc: Global, bytes: &[u8], sizes: Sizes) {
+    let stream = SentStream {
+        role: Role::Client,
+        limits: greatest(),
+        reader: Chopped::new(bytes, usize::MAX),
+    };
     let mut out = Vec::new(alloc);
-    let reader = Chopped::new(bytes, usize::MAX);
-    let answer = recut_uniformly(alloc, Role::Client, greatest(), sizes, reader, &mut out);
+    let answer = recut_uniformly(alloc, stream, sizes, &mut out);
     expect_answer(rt, alloc, &answer, "done", &sizes);
     expect_session(rt, alloc, out.as_slice());
 }

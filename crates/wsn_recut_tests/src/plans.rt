@@ -6,7 +6,7 @@ use std::alloc::{Allocator, Global};
 use std::fmt::Debug;
 use std::process::Abort;
 use wsn_doubles::answer_lines::planned_line;
-use wsn_doubles::engines::{planned, recut_by};
+use wsn_doubles::engines::{SentStream, planned, recut_by};
 use wsn_doubles::heaps::heap_of;
 use wsn_doubles::readers::{Chopped, READS};
 use wsn_doubles::vectors::{
@@ -106,50 +106,53 @@ pub static PLANNED: [Planned; 13] = [
     },
 ];
 
+/// The stream of a row, in reads of at most `at_most` bytes.
+fn stream_of(rt: &impl Abort, row: &Planned, at_most: usize) -> SentStream<'static> {
+    SentStream {
+        role: row.role,
+        limits: limits_from(&row.settings).expect(rt, "limits in range"),
+        reader: Chopped::new(row.bytes, at_most),
+    }
+}
+
 #[test]
 fn streams_are_planned(rt: HostRuntime) {
+    let alloc = rt.alloc();
     for row in PLANNED.iter() {
         for at_most in READS {
-            expect_planned(&rt, rt.alloc(), row, at_most);
+            let answer = planned(alloc, stream_of(&rt, row, at_most));
+            let of = (row, at_most);
+            expect_text(&rt, alloc, &answer, row.text, &of);
+            expect_reported(&rt, alloc, &answer, row.line, &of);
         }
     }
 }
 
-/// Fails unless planning a row gives its line and its plan's text, with reads of at most `at_most` bytes.
-fn expect_planned(rt: &impl Abort, alloc: Global, row: &Planned, at_most: usize) {
-    let limits = limits_from(&row.settings).expect(rt, "limits in range");
-    let answer = planned(alloc, row.role, limits, Chopped::new(row.bytes, at_most));
-    expect_text(rt, alloc, &answer, row.text, row, at_most);
-    expect_reported(rt, alloc, &answer, row.line, row, at_most);
-}
-
-/// Fails unless this is the text of a row's plan, or empty where there is no plan.
+/// Fails unless this is the text of a plan, or empty where there is no plan.
 fn expect_text(
     rt: &impl Abort,
     alloc: Global,
     answer: &Result<PlanAnswer, Stop>,
     expected: &str,
-    row: &impl Debug,
-    at_most: usize,
+    of: &impl Debug,
 ) {
     let text = match answer {
         Ok(PlanAnswer::Plan(plan)) => plan_written(rt, alloc, plan),
         _ => Vec::new(alloc),
     };
-    expect_bytes_of(rt, text.as_slice(), expected.as_bytes(), &(row, at_most));
+    expect_bytes_of(rt, text.as_slice(), expected.as_bytes(), of);
 }
 
-/// Fails unless this is the line of planning a row. The count is the size of a read, or a number of blocks.
+/// Fails unless this is the line of a plan's answer.
 fn expect_reported<A: Allocator>(
     rt: &impl Abort,
     alloc: Global,
     answer: &Result<PlanAnswer<A>, Stop>,
     expected: &str,
-    row: &impl Debug,
-    count: usize,
+    of: &impl Debug,
 ) {
     let line = planned_line(alloc, answer).expect(rt, "memory");
-    expect_line_of(rt, line.as_str(), expected, &(row, count));
+    expect_line_of(rt, line.as_str(), expected, of);
 }
 
 /// The number of bytes in the frames of an accepted stream.
@@ -162,8 +165,8 @@ fn used(rt: &impl Abort, stream: &Stream) -> usize {
 fn expect_restored(rt: &impl Abort, alloc: Global, stream: &Stream, plan: &Plan) {
     let prefix = stream.bytes.get(..used(rt, stream)).expect(rt, "frames");
     let mut out = Vec::new(alloc);
-    let reader = Chopped::new(stream.normal.as_slice(), 4_095);
-    let answer = recut_by(alloc, stream.role, stream.limits, plan, reader, &mut out);
+    let normal = SentStream::of(stream, Chopped::new(stream.normal.as_slice(), 4_095));
+    let answer = recut_by(alloc, normal, plan, &mut out);
     let found = (&answer, out.as_slice());
     expect_recut(rt, alloc, found, ("done", prefix), &stream.name);
 }
@@ -180,11 +183,11 @@ fn a_stream_is_restored_from_its_plan_and_its_normal_form(rt: HostRuntime) {
 /// Fails unless a stream is restored by its plan, or is unfinished and has none.
 fn expect_restored_or_unfinished(rt: &impl Abort, alloc: Global, stream: &Stream) {
     let reader = Chopped::new(stream.bytes.as_slice(), 4_095);
-    let answer = planned(alloc, stream.role, stream.limits, reader);
+    let answer = planned(alloc, SentStream::of(stream, reader));
     if let Ok(PlanAnswer::Plan(plan)) = &answer {
         expect_restored(rt, alloc, stream, plan);
     } else {
-        expect_reported(rt, alloc, &answer, "unfinished", &stream.name, 4_095);
+        expect_reported(rt, alloc, &answer, "unfinished", &stream.name);
         expect_of(rt, !stream.verdict.ends_with(" -"), &stream.name);
     }
 }
@@ -194,24 +197,19 @@ fn a_failed_read_is_reported_unless_the_answer_is_decided(rt: HostRuntime) {
     let alloc = rt.alloc();
     for stream in streams(alloc).expect(&rt, "every vector").iter() {
         for prefix in stream.prefixes(alloc).expect(&rt, "memory").iter() {
-            expect_unplanned(&rt, alloc, stream, prefix, 1);
-            expect_unplanned(&rt, alloc, stream, prefix, 4_096);
+            expect_unplanned(&rt, alloc, stream, prefix);
         }
     }
 }
 
-/// Fails unless a failed read after this prefix of a stream is reported, with reads of at most `at_most` bytes.
-fn expect_unplanned(
-    rt: &impl Abort,
-    alloc: Global,
-    stream: &Stream,
-    prefix: &[u8],
-    at_most: usize,
-) {
-    let expected = line_after(stream, prefix);
-    let reader = Chopped::breaking(prefix, at_most);
-    let answer = planned(alloc, stream.role, stream.limits, reader);
-    expect_reported(rt, alloc, &answer, expected, &stream.name, at_most);
+/// Fails unless a failed read after this prefix of a stream is reported, with reads of one byte and of many.
+fn expect_unplanned(rt: &impl Abort, alloc: Global, stream: &Stream, prefix: &[u8]) {
+    for at_most in [1, 4_096] {
+        let reader = Chopped::breaking(prefix, at_most);
+        let answer = planned(alloc, SentStream::of(stream, reader));
+        let of = (stream.name, prefix.len(), at_most);
+        expect_reported(rt, alloc, &answer, line_after(stream, prefix), &of);
+    }
 }
 
 /// Heaps of fewer blocks than this are tried. The last of them has enough memory for every test.
@@ -233,12 +231,11 @@ fn planning_answers_out_of_memory(rt: HostRuntime) {
 /// Whether a heap of `blocks` blocks has enough memory to plan the stream of a row. Fails unless the answer is then
 /// the row's line, and otherwise `out of memory`.
 fn is_served(rt: &impl Abort, alloc: Global, row: &Planned, blocks: usize) -> bool {
-    let limits = limits_from(&row.settings).expect(rt, "limits in range");
     let heap = heap_of(alloc, blocks).expect(rt, "memory");
-    let answer = planned(&heap, row.role, limits, Chopped::new(row.bytes, 1));
+    let answer = planned(&heap, stream_of(rt, row, 1));
     let is_served = answer.is_ok();
     let expected = if is_served { row.line } else { "out of memory" };
-    expect_reported(rt, alloc, &answer, expected, row, blocks);
+    expect_reported(rt, alloc, &answer, expected, &(row, blocks));
     is_served
 }
 
@@ -251,8 +248,7 @@ fn fragments_of_65_535_bytes_and_of_one_are_planned(rt: HostRuntime) {
     );
     for at_most in READS {
         let reader = Chopped::new(stream.bytes.as_slice(), at_most);
-        let answer = planned(alloc, stream.role, stream.limits, reader);
-        let text = "piece 65535 -\nlast -\n";
-        expect_text(&rt, alloc, &answer, text, &stream.name, at_most);
+        let answer = planned(alloc, SentStream::of(&stream, reader));
+        expect_text(&rt, alloc, &answer, "piece 65535 -\nlast -\n", &at_most);
     }
 }

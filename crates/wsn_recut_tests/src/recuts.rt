@@ -1,17 +1,28 @@
 //! Recuts by a plan that fits: their output.
 
-use crate::expecting::{expect_answer, expect_of, expect_recut, expect_recut_at, plan_read};
-use std::alloc::Global;
+use crate::expecting::{expect_answer, expect_of, expect_recut, plan_read};
+use std::alloc::{Allocator, Global};
+use std::io::Write;
 use std::process::Abort;
-use wsn_doubles::engines::recut_by;
+use wsn_doubles::engines::{SentStream, Sizes, recut_by, recut_uniformly};
 use wsn_doubles::readers::{Chopped, READS};
 use wsn_doubles::vectors::{
-    ANY_LENGTHS, GREATEST, Settings, Stream, filled, limits_from, stream_named,
+    ANY_LENGTHS, GREATEST, Settings, filled, limits_from, stream_named,
 };
-use wsn_plan::Plan;
+use wsn_plan::{PlanFault, RecutAnswer, read_plan};
+use wsn_scan::Stop;
 use wsn_wire::Role;
 
-/// A stream, a plan for it, and the expected result. The name begins with the printed fault, the refusal's reason, or
+/// How a stream is recut: by the plan of a text, or in frames of this size. With `SizeAndWeave` the controls before a
+/// message are interleaved with its frames.
+#[derive(Clone, Copy, Debug)]
+pub enum By {
+    Plan(&'static str),
+    Size(u32),
+    SizeAndWeave(u32),
+}
+
+/// A stream, how it is recut, and the expected result. The name begins with the printed fault, the refusal's reason, or
 /// `done`.
 #[derive(Clone, Copy, Debug)]
 pub struct RecutRow {
@@ -19,7 +30,7 @@ pub struct RecutRow {
     pub role: Role,
     pub settings: Settings,
     pub bytes: &'static [u8],
-    pub plan: &'static str,
+    pub by: By,
     /// `done`, the fault, or the verdict of a stream that is not accepted.
     pub line: &'static str,
     /// The output.
@@ -32,7 +43,7 @@ pub const PING_HELLO: RecutRow = RecutRow {
     role: Role::Server,
     settings: GREATEST,
     bytes: b"\x89\x00\x81\x05Hello",
-    plan: "",
+    by: By::Plan(""),
     line: "fault 0 events-left",
     out: b"",
 };
@@ -67,21 +78,21 @@ pub static FITS: [RecutRow; 12] = [
     },
     RecutRow {
         name: "done: a ping between two fragments",
-        plan: "piece 3 -\ncontrol -\nlast -",
+        by: By::Plan("piece 3 -\ncontrol -\nlast -"),
         line: "done",
         out: b"\x01\x03Hel\x89\x00\x80\x02lo",
         ..PING_HELLO
     },
     RecutRow {
         name: "done: an empty last fragment",
-        plan: "piece 5 -\ncontrol -\nlast -",
+        by: By::Plan("piece 5 -\ncontrol -\nlast -"),
         line: "done",
         out: b"\x01\x05Hello\x89\x00\x80\x00",
         ..PING_HELLO
     },
     RecutRow {
         name: "done: the normal form itself",
-        plan: "control -\nlast -",
+        by: By::Plan("control -\nlast -"),
         line: "done",
         out: b"\x89\x00\x81\x05Hello",
         ..PING_HELLO
@@ -90,7 +101,7 @@ pub static FITS: [RecutRow; 12] = [
         name: "done: a client's key",
         role: Role::Client,
         bytes: b"\x81\x85\0\0\0\0Hello",
-        plan: "last 37fa213d",
+        by: By::Plan("last 37fa213d"),
         out: b"\x81\x85\x37\xfa\x21\x3d\x7f\x9f\x4d\x51\x58",
         ..NOTHING
     },
@@ -98,7 +109,7 @@ pub static FITS: [RecutRow; 12] = [
         name: "done: three fragments with three keys, and a ping among them",
         role: Role::Client,
         bytes: b"\x89\x80\0\0\0\0\x81\x83\0\0\0\0\xe2\x82\xac",
-        plan: "piece 1 37fa213d\ncontrol 00000001\npiece 1 ff000000\nlast 00000000",
+        by: By::Plan("piece 1 37fa213d\ncontrol 00000001\npiece 1 ff000000\nlast 00000000"),
         out: &[
             0x01, 0x81, 0x37, 0xfa, 0x21, 0x3d, 0xd5, 0x89, 0x80, 0x00, 0x00, 0x00, 0x01, 0x00,
             0x81, 0xff, 0x00, 0x00, 0x00, 0x7d, 0x80, 0x81, 0x00, 0x00, 0x00, 0x00, 0xac,
@@ -108,14 +119,14 @@ pub static FITS: [RecutRow; 12] = [
     RecutRow {
         name: "done: a Close and bytes after it",
         bytes: b"\x88\x02\x03\xe8\x81\x01A",
-        plan: "control -",
+        by: By::Plan("control -"),
         out: b"\x88\x02\x03\xe8",
         ..NOTHING
     },
     RecutRow {
         name: "done: a Close inside a message",
         bytes: b"\x01\x03Hel\x88\x02\x03\xe8",
-        plan: "control -",
+        by: By::Plan("control -"),
         out: b"\x88\x02\x03\xe8",
         ..NOTHING
     },
@@ -123,7 +134,7 @@ pub static FITS: [RecutRow; 12] = [
         name: "done: a length in two bytes",
         settings: ANY_LENGTHS,
         bytes: b"\x81\x01A",
-        plan: "last - two",
+        by: By::Plan("last - two"),
         out: b"\x81\x7e\x00\x01A",
         ..NOTHING
     },
@@ -131,41 +142,67 @@ pub static FITS: [RecutRow; 12] = [
         name: "done: a length in eight bytes",
         settings: ANY_LENGTHS,
         bytes: b"\x81\x01A",
-        plan: "last - eight",
+        by: By::Plan("last - eight"),
         out: b"\x81\x7f\0\0\0\0\0\0\0\x01A",
         ..NOTHING
     },
     RecutRow {
         name: "done: nine messages",
         bytes: NINE_MESSAGES,
-        plan: NINE_PLAN,
+        by: By::Plan(NINE_PLAN),
         out: NINE_MESSAGES,
         ..NOTHING
     },
 ];
 
-/// Fails unless this is a row's recut, with reads of every size.
-pub fn expect_recut_row(rt: &impl Abort, alloc: Global, row: &RecutRow) {
-    let plan = plan_read(rt, alloc, row.plan.as_bytes());
-    for at_most in READS {
-        expect_recut_row_with(rt, alloc, row, &plan, at_most);
+/// The answer of a row's recut of what this reader gives. It writes to this writer. All memory is from this heap, that of
+/// the plan too.
+pub fn recut_of<A: Allocator + Copy, W: Write>(
+    rt: &impl Abort,
+    heap: A,
+    row: &RecutRow,
+    reader: Chopped,
+    writer: &mut W,
+) -> Result<RecutAnswer, Stop> {
+    let stream = SentStream {
+        role: row.role,
+        limits: limits_from(&row.settings).expect(rt, "limits in range"),
+        reader,
+    };
+    let (size, weave) = match row.by {
+        By::Plan(text) => return recut_by_text(rt, heap, stream, text, writer),
+        By::Size(size) => (size, false),
+        By::SizeAndWeave(size) => (size, true),
+    };
+    recut_uniformly(heap, stream, Sizes { size, weave }, writer)
+}
+
+/// The answer of a recut by the plan of this text. Fails unless the text is a plan.
+fn recut_by_text<A: Allocator + Copy, W: Write>(
+    rt: &impl Abort,
+    heap: A,
+    stream: SentStream,
+    text: &str,
+    writer: &mut W,
+) -> Result<RecutAnswer, Stop> {
+    match read_plan(heap, text.as_bytes()) {
+        Ok(plan) => recut_by(heap, stream, &plan, writer),
+        Err(fault) => {
+            expect_of(rt, fault == PlanFault::Memory, &fault);
+            Err(Stop::Memory)
+        }
     }
 }
 
-/// Fails unless this is a row's recut by this plan, with reads of at most `at_most` bytes.
-fn expect_recut_row_with(
-    rt: &impl Abort,
-    alloc: Global,
-    row: &RecutRow,
-    plan: &Plan,
-    at_most: usize,
-) {
-    let limits = limits_from(&row.settings).expect(rt, "limits in range");
-    let mut out = Vec::new(alloc);
-    let reader = Chopped::new(row.bytes, at_most);
-    let answer = recut_by(alloc, row.role, limits, plan, reader, &mut out);
-    let found = (&answer, out.as_slice());
-    expect_recut_at(rt, alloc, found, (row.line, row.out), row, at_most);
+/// Fails unless this is a row's recut, with reads of every size.
+pub fn expect_recut_row(rt: &impl Abort, alloc: Global, row: &RecutRow) {
+    for at_most in READS {
+        let mut out = Vec::new(alloc);
+        let reader = Chopped::new(row.bytes, at_most);
+        let answer = recut_of(rt, alloc, row, reader, &mut out);
+        let found = (&answer, out.as_slice());
+        expect_recut(rt, alloc, found, (row.line, row.out), &(row.name, at_most));
+    }
 }
 
 #[test]
@@ -186,25 +223,16 @@ fn wrong_form_of_a_length_of_two_bytes(rt: HostRuntime) {
         ("last - eight", "done", eight.as_slice()),
         ("last -", "done", bytes.as_slice()),
     ] {
-        expect_recut_in_any_length(&rt, alloc, bytes.as_slice(), text, (line, expected));
+        let stream = SentStream {
+            role: Role::Server,
+            limits: limits_from(&ANY_LENGTHS).expect(&rt, "limits in range"),
+            reader: Chopped::new(bytes.as_slice(), usize::MAX),
+        };
+        let mut out = Vec::new(alloc);
+        let answer = recut_by_text(&rt, alloc, stream, text, &mut out);
+        let found = (&answer, out.as_slice());
+        expect_recut(&rt, alloc, found, (line, expected), &text);
     }
-}
-
-/// Fails unless this is the recut of a server's stream by the plan of this text, with all encodings of lengths
-/// allowed.
-fn expect_recut_in_any_length(
-    rt: &impl Abort,
-    alloc: Global,
-    bytes: &[u8],
-    text: &str,
-    expected: (&str, &[u8]),
-) {
-    let plan = plan_read(rt, alloc, text.as_bytes());
-    let limits = limits_from(&ANY_LENGTHS).expect(rt, "limits in range");
-    let mut out = Vec::new(alloc);
-    let reader = Chopped::new(bytes, usize::MAX);
-    let answer = recut_by(alloc, Role::Server, limits, &plan, reader, &mut out);
-    expect_recut(rt, alloc, (&answer, out.as_slice()), expected, &text);
 }
 
 #[test]
@@ -216,15 +244,10 @@ fn fragments_of_65_535_bytes_and_of_one_are_restored(rt: HostRuntime) {
     );
     let plan = plan_read(&rt, alloc, b"piece 65535 -\nlast -\n");
     for at_most in READS {
-        expect_restored(&rt, alloc, &stream, &plan, at_most);
+        let mut out = Vec::new(alloc);
+        let normal = SentStream::of(&stream, Chopped::new(stream.normal.as_slice(), at_most));
+        let answer = recut_by(alloc, normal, &plan, &mut out);
+        expect_of(&rt, out.as_slice() == stream.bytes.as_slice(), &at_most);
+        expect_answer(&rt, alloc, &answer, "done", &at_most);
     }
-}
-
-/// Fails unless a stream is restored from its normal form by this plan, with reads of at most `at_most` bytes.
-fn expect_restored(rt: &impl Abort, alloc: Global, stream: &Stream, plan: &Plan, at_most: usize) {
-    let mut out = Vec::new(alloc);
-    let reader = Chopped::new(stream.normal.as_slice(), at_most);
-    let answer = recut_by(alloc, stream.role, stream.limits, plan, reader, &mut out);
-    expect_of(rt, out.as_slice() == stream.bytes.as_slice(), &at_most);
-    expect_answer(rt, alloc, &answer, "done", &at_most);
 }

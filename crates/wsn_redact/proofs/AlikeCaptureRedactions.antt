@@ -14,8 +14,7 @@ use Rattle.wsn_redact.specs.declared.extension_names.Within.TheVariants.{Name}
 use Rattle.wsn_redact.specs.ExtensionNames.{names_in}
 use Rattle.wsn_redact.specs.Redaction.{IsRedaction}
 use Rattle.wsn_redact.specs.RedactedCaptures.{extensions_prefix, SaysElse, IsRedactedNothing, IsRedactedLineText, cr_of, AreRedactedLines, IsRedactedCapture}
-use Rattle.wsn_redact.specs.AlikeLines.{IsAlike, AreAlike}
-use Rattle.wsn_redact.specs.AlikeCaptures.{AreAlikeComments, AreAlikeIn, AreAlikeInLines, AreAlikeCaptures}
+use Rattle.wsn_redact.specs.AlikeCaptures.{IsAlike, AreAlike, AreAlikeComments, AreAlikeIn, AreAlikeInLines, AreAlikeCaptures}
 use Rattle.wsn_redact.proofs.OneRedactedCapture.{one_nothing, bytes_off, nothing_off, mark_off, stays_or_extensions, stays_or_else}
 use Rattle.wsn_redact.proofs.RedactedEntries.{AllBytes, first_bytes, other_bytes, line_text, text_alike, entries_given, all_bytes, others_bytes, others_given, others_alike}
 use Rattle.wsn_redact.proofs.CapturesTwice.{hash_says}

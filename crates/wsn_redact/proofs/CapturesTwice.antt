@@ -19,7 +19,7 @@ use Rattle.wsn_redact.specs.declared.extension_names.Within.{Within}
 use Rattle.wsn_redact.specs.declared.extension_names.Within.TheVariants.{Name, Value, Quoted, Escaped}
 use Rattle.wsn_redact.specs.ExtensionNames.{is_separator, is_of_names, within_after, is_kept, names_in}
 use Rattle.wsn_redact.specs.RedactedCaptures.{extensions_prefix, Stays, SaysElse, IsRedactedNothing, IsRedactedLineText, cr_of, IsRedactedLine, AreRedactedLines, IsRedactedCapture}
-use Rattle.wsn_redact.specs.AlikeLines.{IsAlike, AreAlike}
+use Rattle.wsn_redact.specs.AlikeCaptures.{IsAlike, AreAlike}
 use Rattle.wsn_redact.proofs.OneRedactedCapture.{no_time, no_reset}
 use Rattle.wsn_redact.proofs.RedactedEntries.{HasBytes, AllBytes, first_bytes, other_bytes, line_text, line_facts, RedactedTextFacts, text_alike, entries_given, all_bytes, others_bytes, others_given, ended_alike, sizes_alike}
 use Rattle.wsn_redact.proofs.PlainEnds.{same_cr}

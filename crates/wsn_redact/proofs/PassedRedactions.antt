@@ -2,7 +2,7 @@
 use Rattle.std.proofs.Common.{◌≡◌, ℕ, ◌+◌, ◌-◌, ◌<◌, false, Result, Ok, Err, List, [], ◌∷◌, ◌++◌, length, take, drop, inl, inr, refl, sym, ap, ◌∙◌, subst, append_assoc, append-nil, length-append, length-drop, arith}
 use Rattle.std.specs.Prelude.{OnOk, IfErr}
 use Rattle.std.proofs.lemmas.List.{take-append-drop, take_all}
-use Rattle.wsn_io.specs.Transfer.{Outgoing, IsWritten, IsPartlyWritten, IsWrittenUpToFailure}
+use Rattle.wsn_io.specs.Transfer.{Outgoing, IsWritten, IsPartlyWritten, IsWrittenUpToFailure, IsWrittenAtLeast}
 use Rattle.wsn_io.proofs.PutTexts.{put_both, put_front}
 use Rattle.wsn_rules.specs.Limits.{Limits}
 use Rattle.wsn_rules.specs.Entries.{Entry}
@@ -10,8 +10,7 @@ use Rattle.wsn_rules.specs.TextLines.{IsLine, ended, AreLines}
 use Rattle.wsn_rules.proofs.TextLines.{ended-push, each_join, lines_at_end}
 use Rattle.wsn_capture.specs.declared.capture_stop.CaptureStop.TheVariants as capture
 use Rattle.wsn_capture.specs.LineFaults.{AreAcceptedLines}
-use Rattle.wsn_capture.specs.LineSplitters.{HasPassedOn, IsStopAt, IsStopWithin}
-use Rattle.wsn_capture.specs.SplitLines.{ContinuesLine, EndsLine}
+use Rattle.wsn_capture.specs.LineSplitters.{HasPassedOn, IsStopAt, IsStopWithin, ContinuesLine, EndsLine}
 use Rattle.wsn_capture.proofs.SplitLines.{split_line, line_join, stop_line, stop_at_most, no_long, unfaulted, faulty_last}
 use Rattle.wsn_capture.proofs.ChunkPrefixes.{goes_on, stop_in_rest, last_of}
 use Rattle.wsn_show.proofs.PassedChunks.{more_after, failed_part, whole_part}
@@ -19,9 +18,8 @@ use Rattle.wsn_redact.specs.declared.capture_redactor.CaptureRedactor.{CaptureRe
 use Rattle.wsn_redact.specs.declared.capture_redacting.RedactStop.{RedactStop}
 use Rattle.wsn_redact.specs.declared.capture_redacting.RedactStop.TheVariants as stop
 use Rattle.wsn_redact.specs.RedactedCaptures.{IsRedactedCapture}
-use Rattle.wsn_redact.specs.RedactingCaptures.{IsTextOfLines, BeginWithLines, IsTextOf, IsWholeText, IsWrittenBefore, IsWrittenAtLeast}
-use Rattle.wsn_redact.specs.CaptureRedactors.{HasRedactedLines}
-use Rattle.wsn_redact.specs.PassedRedactions.{HasWritten, PutsLine, StopsAtLine, StopsWithin, EndsRedacting}
+use Rattle.wsn_redact.specs.RedactingCaptures.{IsTextOfLines, BeginWithLines, IsTextOf, IsWholeText, IsWrittenBefore, IsTextOfWhole}
+use Rattle.wsn_redact.specs.PassedRedactions.{HasRedactedLines, HasWritten, PutsLine, StopsAtLine, StopsWithin, EndsRedacting}
 use Rattle.wsn_redact.proofs.RedactedLines.{redacted_so_far}
 
 pub rest_is : (n : ℕ) (bs : List ℕ) → take (length bs - n) (drop n bs) ≡ drop n bs
@@ -84,10 +82,10 @@ module _ (limits : Limits) (first : Outgoing) (redactor : CaptureRedactor) (begu
         }
 
   -- what the lines so far became was written, and then more
-  pub at_least : (after : Outgoing) (more : List ℕ) → IsWrittenUpToFailure now after more → IsWrittenAtLeast limits came first after
+  pub at_least : (after : Outgoing) (more : List ℕ) → IsWrittenUpToFailure now after more → IsWrittenAtLeast (IsTextOfWhole limits came) first after
   at_least after more went =
       let rest = more_after first now after (ended has.redacted) more has.written went in
-      (has.lines, begun, ended has.redacted, rest.0, (has.passed.each, has.passed.whole), has.passed.in_line, text_so_far, rest.1)
+      (ended has.redacted, rest.0, (has.lines, begun, (has.passed.each, has.passed.whole), has.passed.in_line, text_so_far), rest.1)
 
 -- ---- stops
 

@@ -1,7 +1,7 @@
 -- An input whose capture is redacted: the answer fits the bytes that came.
 use Rattle.std.proofs.Common.{◌≡◌, ℕ, ◌+◌, ◌*◌, ◌≤◌, false, true, Result, Ok, Err, List, [], ◌∷◌, ◌++◌, length, inl, inr, refl, sym, ap, ◌∙◌, subst, append_assoc, append-nil, length-append, arith}
 use Rattle.std.specs.Io.KnownBytes.{IsAtEnd}
-use Rattle.wsn_io.specs.Transfer.{Incoming, Outgoing, IsConsumed, IsKept}
+use Rattle.wsn_io.specs.Transfer.{Incoming, Outgoing, IsConsumed, IsKept, IsWrittenBut}
 use Rattle.wsn_io.proofs.Received.{consumed_none, consumed_on, consumed_end, consumed_kept, received_of}
 use Rattle.wsn_io.proofs.PutTexts.{prints_nothing}
 use Rattle.wsn_rules.specs.Limits.{Limits}
@@ -17,9 +17,8 @@ use Rattle.wsn_capture.proofs.SplitLines.{unfaulted}
 use Rattle.wsn_redact.specs.declared.capture_redactor.CaptureRedactor.{CaptureRedactor}
 use Rattle.wsn_redact.specs.declared.capture_redacting.RedactStop.{RedactStop}
 use Rattle.wsn_redact.specs.declared.capture_redacting.RedactStop.TheVariants as stop
-use Rattle.wsn_redact.specs.CaptureRedactors.{HasRedactedLines}
-use Rattle.wsn_redact.specs.RedactingCaptures.{IsWrittenBut, IsCaptureRedactAnswer, IsRedactedCaptureInput}
-use Rattle.wsn_redact.specs.PassedRedactions.{HasWritten, StopsWithin, EndsRedacting}
+use Rattle.wsn_redact.specs.PassedRedactions.{HasRedactedLines, HasWritten, StopsWithin, EndsRedacting}
+use Rattle.wsn_redact.specs.RedactingCaptures.{IsCaptureRedactAnswer, IsRedactedCaptureInput, IsTextOfWhole}
 use Rattle.wsn_show.proofs.PassedChunks.{whole_part}
 use Rattle.wsn_redact.proofs.PassedRedactions.{text_so_far}
 
@@ -71,12 +70,14 @@ module _ (limits : Limits) (old mid new : Incoming) (first : Outgoing) (redactor
       failed,
       unfaulted limits read.has_written.lines begun read.came read.has_written.passed,
       (
-        read.has_written.lines,
-        begun,
         ended read.has_written.redacted,
-        (read.has_written.passed.each, read.has_written.passed.whole),
-        read.has_written.passed.in_line,
-        text_so_far limits first redactor begun now read.came read.has_written,
+        (
+          read.has_written.lines,
+          begun,
+          (read.has_written.passed.each, read.has_written.passed.whole),
+          read.has_written.passed.in_line,
+          text_so_far limits first redactor begun now read.came read.has_written,
+        ),
         read.has_written.written,
       ),
     );
@@ -92,7 +93,7 @@ module _ (limits : Limits) (old mid new : Incoming) (first : Outgoing) (redactor
   at_end (Err stop.Write) after ends unfailed is = (unfailed, is.0)
 
   all_at_end : (result : Result (Unit {0}) RedactStop) (after : Outgoing) → EndsRedacting limits first after read.came result → result ≡ Err stop.Write
-      → IsWrittenBut chunk_size limits read.came first after
+      → IsWrittenBut chunk_size (IsTextOfWhole limits) read.came first after
   all_at_end result after ends is =
       let at_end = subst (λ (r : Result (Unit {0}) RedactStop). EndsRedacting limits first after read.came r) is ends in
       record { done = read.came; last = []; whole = sym (append-nil read.came); short = omega arith; written = at_end.1 }
@@ -140,7 +141,7 @@ module _ (limits : Limits) (old mid new : Incoming) (first : Outgoing) (redactor
   within_chunk chunk stop.Write after size unfailed stops = (unfailed, stops.0)
 
   all_but_chunk : (chunk : List ℕ) (s : RedactStop) (after : Outgoing) → length chunk ≤ 4096 → StopsWithin limits first after read.came chunk s
-      → (let answer : Result (Unit {0}) RedactStop = Err s in answer) ≡ Err stop.Write → IsWrittenBut chunk_size limits (read.came ++ chunk) first after
+      → (let answer : Result (Unit {0}) RedactStop = Err s in answer) ≡ Err stop.Write → IsWrittenBut chunk_size (IsTextOfWhole limits) (read.came ++ chunk) first after
   all_but_chunk chunk (stop.Capture capture) after size stops is = cc
   all_but_chunk chunk stop.Write after size stops is =
       let but = stops.1 in

@@ -4,7 +4,7 @@ use Rattle.std.proofs.lemmas.Bool.{cases_lt}
 use Rattle.std.proofs.lemmas.List.{take_all, drop_at, take-append-le, length-take-le}
 use Rattle.wsn_wire.specs.declared.endpoint.Role.{Role}
 use Rattle.wsn_wire.specs.declared.opcode.Op.{Op}
-use Rattle.wsn_wire.specs.declared.opcode.Op.TheVariants.{Continue, Text, Binary, Close, Ping, Pong}
+use Rattle.wsn_wire.specs.declared.opcode.Op.TheVariants.{Text, Close, Ping, Pong}
 use Rattle.wsn_wire.specs.Frame.{Frame, first_byte, is_control, wire_payload, stream}
 use Rattle.wsn_wire.proofs.FrameLemmas.{first_byte_fields}
 use Rattle.wsn_text.specs.Utf8.{BeginsText}
@@ -28,7 +28,7 @@ use Rattle.wsn_rules.specs.Evidence.{Evidence, EvidentByPayload, IsOfText}
 use Rattle.wsn_rules.specs.Group.{unfinished, first_op, payload_of}
 use Rattle.wsn_rules.specs.Heads.{BeginsWithHead, IsBegun}
 use Rattle.wsn_rules.specs.ShownStream.{frame_so_far}
-use Rattle.wsn_rules.specs.Verdict.{IsRefused, IsVerdict}
+use Rattle.wsn_rules.specs.Verdict.{IsRefused, IsVerdict, judged_bytes}
 use Rattle.wsn_rules.proofs.HeadsGoOn.{begins_longer}
 use Rattle.wsn_rules.proofs.MessageText.{text_of_push}
 use Rattle.wsn_rules.proofs.Prefixes.{append_cancel}
@@ -43,7 +43,7 @@ use Rattle.wsn_scan.specs.Positions.{Position, BetweenFrames, InFrame, begun_at}
 use Rattle.wsn_scan.specs.Scans.{HasScanned, IsAt, IsRefusedThere, refusal_in, refusal_at}
 use Rattle.wsn_scan.proofs.FollowedScans.{wire_payload_is, lawful_done, whole_is, unrefused_so_far, in_frame, between, refused_there, refused_begun}
 use Rattle.wsn_redact.specs.declared.redactor.Redactor.{Redactor}
-use Rattle.wsn_redact.specs.Redaction.{zeros_for, is_text, is_of_text, IsRedactedPayload, IsRedactedRest, judged, unjudged, IsRedactionAt, redacted_payload, redacted_frames}
+use Rattle.wsn_redact.specs.Redaction.{zeros_for, is_text, is_of_text, IsRedactedPayload, IsRedactedRest, unjudged, IsRedactionAt, redacted_payload, redacted_frames}
 use Rattle.wsn_redact.specs.RedactedParts.{RefusesPart, KeepsAt, IsRestWritten, IsRedacting, HasRefused, IsBadReason, refused_part}
 use Rattle.wsn_redact.proofs.RedactedPayloads.{HasText, zeros-append, payload_is, are_redacted, length-redacted_payload}
 use Rattle.wsn_redact.proofs.KeptParts.{text_of_group}
@@ -319,10 +319,10 @@ module _ (role : Role) (limits : Limits) where
       whole = h.whole ∙ ap (λ (bs : List ℕ). stream (redacted_frames [] h.frames) ++ bs) (sym (append-nil h.rest_written)) ∙ ap (λ (bs : List ℕ). stream (redacted_frames [] h.frames) ++ (h.rest_written ++ zeros_for bs)) (sym (all v is).1);
     }
       where
-        all : (w : Verdict) → IsVerdict role limits came h.frames w → (judged w came ≡ came) × (unjudged w came ≡ [])
+        all : (w : Verdict) → IsVerdict role limits came h.frames w → (judged_bytes w came ≡ came) × (unjudged w came ≡ [])
         all (Accepted s) is_w = (refl, refl)
         all (Cut s) is_w = (refl, refl)
         all (Refused r) is_w = absurd (unrefused_so_far role limits scan came h.frames h.position h.rest h.followed h.frames r.place r.reason is_w)
 
-        rest : drop (length (stream h.frames)) (judged v came) ≡ h.rest
+        rest : drop (length (stream h.frames)) (judged_bytes v came) ≡ h.rest
         rest = ap (λ (bs : List ℕ). drop (length (stream h.frames)) bs) ((all v is).0 ∙ whole_is role limits scan came h.frames h.position h.rest h.followed) ∙ drop_at (stream h.frames) h.rest (length (stream h.frames)) refl

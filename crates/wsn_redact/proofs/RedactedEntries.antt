@@ -18,7 +18,7 @@ use Rattle.wsn_capture.proofs.EveryReport.{sent_bytes}
 use Rattle.wsn_redact.specs.declared.extension_names.Within.TheVariants.{Name}
 use Rattle.wsn_redact.specs.ExtensionNames.{names_in}
 use Rattle.wsn_redact.specs.RedactedCaptures.{IsRedactedNothing, IsRedactedLineText, IsRedactedLine, AreRedactedLines, IsRedactedCapture}
-use Rattle.wsn_redact.specs.AlikeLines.{IsAlike, AreAlike}
+use Rattle.wsn_redact.specs.AlikeCaptures.{IsAlike, AreAlike}
 use Rattle.wsn_redact.proofs.RedactedBytes.{redaction_bytes}
 use Rattle.wsn_redact.proofs.PlainEnds.{text_of_line, extensions_plain, bytes_plain}
 

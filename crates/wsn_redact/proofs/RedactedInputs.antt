@@ -136,10 +136,12 @@ module _ (role : Role) (limits : Limits) where
           last = chunk ++ come.past;
           whole = append_assoc came chunk come.past;
           short = omega (arith, short, length-append chunk come.past);
-          redacted = read.text;
-          is_redaction = some_redaction scan kept came read.text read.has_redacted;
-          more = take partly.1.0 out;
-          written = Appends-trans first.written now.written after.written read.text (take partly.1.0 out) read.written.1 partly.1.1;
+          written = (
+            read.text,
+            take partly.1.0 out,
+            some_redaction scan kept came read.text read.has_redacted,
+            Appends-trans first.written now.written after.written read.text (take partly.1.0 out) read.written.1 partly.1.1,
+          );
         };
       }
 

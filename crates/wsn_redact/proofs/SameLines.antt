@@ -15,7 +15,7 @@ use Rattle.wsn_show.specs.EndedBy.{marks_in, end_marks, reset_comment, SayReset,
 use Rattle.wsn_redact.specs.declared.extension_names.Within.TheVariants.{Name}
 use Rattle.wsn_redact.specs.ExtensionNames.{names_in}
 use Rattle.wsn_redact.specs.RedactedCaptures.{extensions_prefix, IsRedactedNothing, IsRedactedLineText, IsRedactedLine, AreRedactedLines, IsRedactedCapture}
-use Rattle.wsn_redact.specs.AlikeLines.{IsAlike, AreAlike, IsAlikeLine, AreAlikeLines}
+use Rattle.wsn_redact.specs.AlikeCaptures.{IsAlike, AreAlike, IsAlikeLine, AreAlikeLines}
 use Rattle.wsn_redact.proofs.OneRedactedCapture.{no_time, no_reset}
 use Rattle.wsn_redact.proofs.RedactedEntries.{HasBytes, AllBytes, first_bytes, other_bytes, line_text, line_facts, text_alike, entries_given, others_bytes, others_given, others_alike}
 

@@ -4,9 +4,8 @@ ghost use Rattle.wsn_rules.specs.Limits.{Limits};
 ghost use Rattle.wsn_rules.specs.Entries.{Entry};
 ghost use Rattle.wsn_capture.specs.CaptureLines.{count_of};
 ghost use Rattle.wsn_capture.specs.LineSplitters.{bytes_ahead};
-ghost use Rattle.wsn_redact.specs.CaptureRedactors.{HasRedactedLines, IsRedactingLines};
+ghost use Rattle.wsn_redact.specs.PassedRedactions.{HasRedactedLines, IsRedactingLines, HasWritten, IsWritingLines, PutsLine, StopsAtLine, StopsWithin, EndsRedacting};
 ghost use Rattle.wsn_redact.specs.RedactingCaptures.{IsRedactedCaptureInput};
-ghost use Rattle.wsn_redact.specs.PassedRedactions.{HasWritten, IsWritingLines, PutsLine, StopsAtLine, StopsWithin, EndsRedacting};
 
 use crate::capture_redactor::CaptureRedactor;
 use crate::redacted_line::LINE_ROOM;

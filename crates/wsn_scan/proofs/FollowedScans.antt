@@ -14,12 +14,11 @@ use Rattle.wsn_rules.specs.declared.verdict.Refusal.{Refusal}
 use Rattle.wsn_rules.specs.declared.verdict.Verdict.{Verdict}
 use Rattle.wsn_rules.specs.Limits.{Limits}
 use Rattle.wsn_rules.specs.Accepted.{HasNoClose, EndsWithClose}
-use Rattle.wsn_rules.specs.Evidence.{IsOfText}
+use Rattle.wsn_rules.specs.Evidence.{IsOfText, HasNoEvidence}
 use Rattle.wsn_rules.specs.Group.{unfinished, first_op, payload_of}
 use Rattle.wsn_rules.specs.BadCharacter.{payload_offset}
 use Rattle.wsn_rules.specs.Heads.{heads_of, info_of, BeginsWithHead, IsBegun, AreHeads}
 use Rattle.wsn_rules.specs.Lawful.{IsLawful}
-use Rattle.wsn_rules.specs.NoEvidence.{HasNoEvidence}
 use Rattle.wsn_rules.specs.ShownStream.{frame_so_far}
 use Rattle.wsn_rules.specs.Verdict.{IsVerdict}
 use Rattle.wsn_rules.proofs.Groups.{group_of_lawful}

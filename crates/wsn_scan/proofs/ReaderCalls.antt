@@ -17,9 +17,8 @@ use Rattle.wsn_scan.specs.declared.frame_reader.FrameReader.{FrameReader}
 use Rattle.wsn_io.specs.declared.stop.Stop.{Stop}
 use Rattle.wsn_scan.specs.Positions.{Position}
 use Rattle.wsn_scan.specs.FrameReaders.{HasTaken, IsReading}
-use Rattle.wsn_scan.specs.ReadParts.{ReadsOn, IsNextPart, IsJudgedAt}
+use Rattle.wsn_scan.specs.ReadParts.{ReadsOn, IsNextPart, IsJudgedAt, StepsOn, IsUsed, IsFilled, HasRefused}
 use Rattle.wsn_scan.specs.Scans.{refusal_judged}
-use Rattle.wsn_scan.specs.ReaderSteps.{StepsOn, IsUsed, IsFilled, HasRefused}
 
 -- A call has read these bytes more and taken nothing yet.
 pub record HasRead (role : Role) (limits : Limits) (old new : Incoming) (reader : FrameReader) (came : List ℕ) (fs : List Frame) (at : Position) : Type 0 where

@@ -25,8 +25,7 @@ use Rattle.wsn_scan.specs.Feeding.{HasScannedBytes}
 use Rattle.wsn_scan.specs.Positions.{Position, begun_at}
 use Rattle.wsn_scan.specs.Judging.{IsUnrefused, IsReached}
 use Rattle.wsn_scan.specs.FrameReaders.{unread}
-use Rattle.wsn_scan.specs.ReadParts.{AllTaken, IsJudgedAt, IsHaltedAt}
-use Rattle.wsn_scan.specs.ReaderSteps.{IsUsed, IsFilled, IsFilledBy}
+use Rattle.wsn_scan.specs.ReadParts.{AllTaken, IsJudgedAt, IsHaltedAt, IsUsed, IsFilled, IsFilledBy}
 use Rattle.wsn_scan.specs.Scans.{HasScanned, refusal_in, refusal_judged}
 use Rattle.wsn_scan.proofs.ChunksSoFar.{by_past, few_counted}
 use Rattle.wsn_scan.proofs.HeadsSoFar.{heads_reported}

@@ -26,8 +26,7 @@ use Rattle.wsn_rules.specs.Accepted.{HasNoClose, EndsWithClose}
 use Rattle.wsn_rules.specs.Summary.{close_of}
 use Rattle.wsn_rules.specs.Verdict.{IsRefused}
 use Rattle.wsn_frame.specs.OpenMessages.{IsOpenMessage}
-use Rattle.wsn_frame.specs.PartialHeads.{IsHeadSoFar, IsHead, info_at}
-use Rattle.wsn_frame.specs.EvidentLast.{IsEvidentLast}
+use Rattle.wsn_frame.specs.PartialHeads.{IsHeadSoFar, IsHead, info_at, IsEvidentLast}
 use Rattle.wsn_rules.specs.Heads.{heads_of, info_of, AreHeads}
 use Rattle.wsn_frame.specs.PayloadChecks.{HasChecked}
 use Rattle.wsn_frame.specs.Counts.{AreCounts}

@@ -1,7 +1,7 @@
 ghost use Rattle.std.specs.Prelude.{◌≡◌, ℕ, ◌<◌, ◌↔◌, List, [], false, true, Ok, Err, Some, length};
 ghost use Rattle.wsn_io.specs.Transfer.{Incoming};
 ghost use Rattle.wsn_rules.specs.Limits.{Limits};
-ghost use Rattle.wsn_scan.specs.Words.{Stop};
+ghost use Rattle.wsn_io.specs.declared.stop.Stop.{Stop};
 ghost use Rattle.wsn_scan.specs.ChunkReaders.{HasCome, IsNextOf, has_passed, chunks_ahead};
 
 use std::io::Read;

@@ -33,7 +33,9 @@ pub struct FrameReader {
 }
 
 impl FrameReader {
-    ghost use Rattle.wsn_scan.specs.Words.{Position, BetweenFrames, HasTaken, IsReading, parts_ahead, held_payload, ReadsOn, StepsOn, IsUsed, IsFilled, TakesRun, TakesMessage};
+    ghost use Rattle.wsn_scan.specs.Positions.{Position, BetweenFrames};
+    ghost use Rattle.wsn_scan.specs.FrameReaders.{HasTaken, IsReading, parts_ahead, held_payload, TakesRun};
+    ghost use Rattle.wsn_scan.specs.ReadParts.{ReadsOn, TakesMessage, StepsOn, IsUsed, IsFilled};
 
     /// A reader that has read nothing. `role` is the endpoint that sent the stream. It allocates no memory.
     #[tactic(none)]

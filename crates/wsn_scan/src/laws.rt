@@ -1,7 +1,20 @@
 //! Laws about this crate's answers and definitions. Each function does nothing: its contract is the law.
 
 ghost use Rattle.std.specs.Prelude.{◌≡◌, ℕ, ◌+◌, false, None, Some, Result, List, length};
-ghost use Rattle.wsn_scan.specs.Words.{Frame, IsBytes, Role, Incoming, Limits, Verdict, Stop, FrameReader, Position, InFrame, HasTaken, IsTakenOf, IsJudged, Scan, HasScanned, IsPositionIn, IsPayloadSoFar, HeadInfo, refusal_in, room_of, ScanCall, IsAnswered, FindsByCase};
+ghost use Rattle.wsn_wire.specs.Frame.{Frame, IsBytes};
+ghost use Rattle.wsn_wire.specs.declared.endpoint.Role.{Role};
+ghost use Rattle.wsn_io.specs.Transfer.{Incoming};
+ghost use Rattle.wsn_rules.specs.Limits.{Limits};
+ghost use Rattle.wsn_rules.specs.declared.verdict.Verdict.{Verdict};
+ghost use Rattle.wsn_io.specs.declared.stop.Stop.{Stop};
+ghost use Rattle.wsn_scan.specs.declared.frame_reader.FrameReader.{FrameReader};
+ghost use Rattle.wsn_scan.specs.Positions.{Position, InFrame, IsTakenOf, IsPositionIn, IsPayloadSoFar};
+ghost use Rattle.wsn_scan.specs.FrameReaders.{HasTaken};
+ghost use Rattle.wsn_scan.specs.Judging.{IsJudged};
+ghost use Rattle.wsn_scan.specs.declared.scan.Scan.{Scan};
+ghost use Rattle.wsn_scan.specs.Scans.{HasScanned, refusal_in, room_of, ScanCall, IsAnswered};
+ghost use Rattle.wsn_rules.specs.declared.head_info.HeadInfo.{HeadInfo};
+ghost use Rattle.wsn_scan.specs.Parts.{FindsByCase};
 
 /// [`judge`](crate::judge) has one right answer for an input whose bytes are known, in whatever chunks they come,
 /// unless a read fails.

@@ -23,7 +23,8 @@ pub struct Scan {
 
 impl Scan {
     ghost use Rattle.std.specs.Prelude.{◌≡◌, ◌≢◌, ◌+◌, ◌≤◌, ◌⊎◌, ◌↔◌, [], length, take, drop, true, IfSome, IsSome};
-    ghost use Rattle.wsn_scan.specs.Words.{HasScanned, BetweenFrames, room_of, taken_of, refusal_in, IsAdvance, Unmasks, HasNoRest};
+    ghost use Rattle.wsn_scan.specs.Scans.{HasScanned, room_of, taken_of, refusal_in, IsAdvance, Unmasks, HasNoRest};
+    ghost use Rattle.wsn_scan.specs.Positions.{BetweenFrames};
 
     /// A scan that has consumed nothing. `role` is the endpoint that sent the stream.
     #[tactic(none)]

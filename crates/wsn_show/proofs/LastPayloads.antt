@@ -6,9 +6,8 @@ use Rattle.std.proofs.Math.Seq.{take-suc}
 use Rattle.std.specs.Str.Lossy.{utf8_valid_len}
 use Rattle.wsn_wire.specs.Frame.{Frame}
 use Rattle.wsn_rules.specs.declared.head_info.HeadInfo.{HeadInfo}
-use Rattle.wsn_rules.specs.BadCharacter.{payload_offset, placed_payloads, last_of, open_payload, message_payload, first_offset, bytes_of, bad_character}
+use Rattle.wsn_rules.specs.BadCharacter.{payload_offset, placed_payloads, last_of, open_payload, message_payload, first_offset, bytes_of, bad_character, PlacedByte, placed}
 use Rattle.wsn_rules.specs.Group.{unfinished, payload_of}
-use Rattle.wsn_rules.specs.PlacedByte.{PlacedByte, placed}
 use Rattle.wsn_rules.proofs.LastElements.{last_of_none, last_of_long, last_of_push}
 use Rattle.wsn_rules.proofs.PlacedBytes.{placed-append, bytes_of_placed}
 use Rattle.wsn_show.specs.declared.last_payload.StreamByte.{StreamByte}

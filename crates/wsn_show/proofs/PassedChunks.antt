@@ -4,7 +4,7 @@ use Rattle.std.proofs.KnownBytes.{Appends-trans}
 use Rattle.std.proofs.lemmas.List.{take-append-drop}
 use Rattle.std.proofs.lemmas.List.Concat.{flat_map-append}
 use Rattle.std.specs.Io.KnownBytes.{Appends}
-use Rattle.wsn_io.specs.Transfer.{Outgoing, IsWritten, IsPartlyWritten, IsWrittenUpToFailure}
+use Rattle.wsn_io.specs.Transfer.{Outgoing, IsWritten, IsPartlyWritten, IsWrittenUpToFailure, IsWrittenAtLeast}
 use Rattle.wsn_io.proofs.PutTexts.{put_both, put_front}
 use Rattle.wsn_rules.specs.declared.detail.Detail.{Detail}
 use Rattle.wsn_rules.specs.Limits.{Limits}
@@ -17,15 +17,14 @@ use Rattle.wsn_print.specs.declared.style.Style.{Style}
 use Rattle.wsn_show.specs.Styles.{styled_line}
 use Rattle.wsn_capture.specs.declared.capture_stop.CaptureStop.TheVariants as capture
 use Rattle.wsn_capture.specs.LineFaults.{AreAcceptedLines}
-use Rattle.wsn_capture.specs.LineSplitters.{HasPassedOn, IsStopAt, IsStopWithin}
+use Rattle.wsn_capture.specs.LineSplitters.{HasPassedOn, IsStopAt, IsStopWithin, ContinuesLine, EndsLine}
 use Rattle.wsn_capture.proofs.SplitLines.{split_line, line_join, stop_line, stop_at_most, no_long}
 use Rattle.wsn_capture.proofs.ChunkPrefixes.{goes_on, stop_in_rest, last_of}
 use Rattle.wsn_show.specs.declared.capture_view.CaptureView.{CaptureView}
 use Rattle.wsn_show.specs.declared.showing.ShowStop.{ShowStop}
 use Rattle.wsn_show.specs.declared.showing.ShowStop.TheVariants as stop
 use Rattle.wsn_show.specs.CaptureViews.{ShowsLine}
-use Rattle.wsn_show.specs.Showing.{IsTextOfLines, BeginWithLines, IsPrintedAtLeast, IsTextOf}
-use Rattle.wsn_capture.specs.SplitLines.{ContinuesLine, EndsLine}
+use Rattle.wsn_show.specs.Showing.{IsTextOfLines, BeginWithLines, IsTextOf, IsTextSoFar}
 use Rattle.wsn_show.specs.PassedLines.{HasPrinted, StopsAtLine, StopsWithin}
 
 -- ---- lists
@@ -123,10 +122,10 @@ more_after first now after text more wrote (inr part) = (take part.1.0 more, App
 
 -- what the lines so far show was printed, and then more
 pub at_least : (limits : Limits) (style : Style) (first : Outgoing) (view : CaptureView) (begun : List ℕ) (now : Outgoing) (came : List ℕ) (has : HasPrinted limits style first view begun now came) (after : Outgoing) (more : List ℕ)
-    → IsWrittenUpToFailure now after more → IsPrintedAtLeast limits style came first after
+    → IsWrittenUpToFailure now after more → IsWrittenAtLeast (IsTextSoFar limits style came) first after
 at_least limits style first view begun now came has after more went =
     let rest = more_after first now after (flat_map (styled_line style) has.shown) more has.printed went in
-    (has.lines, flat_map (styled_line style) has.shown, rest.0, inl (has.passed.each, (begun, has.passed.in_line, has.passed.whole)), text_so_far limits style first view begun now came has, rest.1)
+    (flat_map (styled_line style) has.shown, rest.0, (has.lines, inl (has.passed.each, (begun, has.passed.in_line, has.passed.whole)), text_so_far limits style first view begun now came has), rest.1)
 
 pub failed_part : (before after : Outgoing) (text : List ℕ) → after.failed ≡ true → IsWrittenUpToFailure before after text → IsPartlyWritten before after text
 failed_part before after text failed (inl written) = let both : true ≡ false = sym failed ∙ written.0 in cc
@@ -177,7 +176,7 @@ module _ (limits : Limits) (style : Style) (first : Outgoing) (view : CaptureVie
       inl (has.lines ++ line ∷ [], begins_with ahead, text_with_line limits style first view begun now came has new line after stops.0),
       partly_with_line limits style first view begun now came has new line after stops.0 (failed_part now after (styled_line style stops.0.shown) stops.1 stops.0.printed),
     ),
-    record { done = came; last = bytes ++ 10 ∷ ahead; whole = refl; short = omega arith; printed = at_least limits style first view begun now came has after (styled_line style stops.0.shown) stops.0.printed },
+    record { done = came; last = bytes ++ 10 ∷ ahead; whole = refl; short = omega arith; written = at_least limits style first view begun now came has after (styled_line style stops.0.shown) stops.0.printed },
   )
 
   -- a line that is too long isn't shown
@@ -253,6 +252,6 @@ stops_in_rest limits style first now came chunk at stop.Write ((text, is, partly
     last = but.last;
     whole = sym (rest_whole came chunk at) ∙ but.whole;
     short = let size = ap (λ (bs : List ℕ). length bs) (rest_is at chunk) ∙ length-drop at chunk in let most = but.short in omega (arith, size, most);
-    printed = but.printed;
+    written = but.written;
   },
 )

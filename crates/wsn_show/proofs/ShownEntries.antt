@@ -24,7 +24,7 @@ use Rattle.wsn_capture.specs.declared.capture_lines.CaptureLines.{CaptureLines}
 use Rattle.wsn_capture.proofs.ClosingLines.{sent-push}
 use Rattle.wsn_show.specs.declared.capture_view.CaptureView.{CaptureView}
 use Rattle.wsn_show.specs.declared.stream_view.StreamView.{StreamView}
-use Rattle.wsn_show.specs.StreamViews.{HasViewed}
+use Rattle.wsn_show.specs.ShownSoFar.{HasViewed}
 use Rattle.wsn_show.specs.CaptureViews.{AreViewed, IsAcceptedText, CanShow, line_position, ShowsText, ShowsMark}
 
 -- ---- empty texts

@@ -1,7 +1,7 @@
 -- An input whose capture is shown: the answer fits the bytes that came.
 use Rattle.std.proofs.Common.{◌≡◌, ℕ, ◌+◌, ◌*◌, ◌≤◌, false, true, Result, Ok, Err, List, [], ◌∷◌, ◌++◌, flat_map, length, inl, inr, refl, sym, ap, ◌∙◌, subst, append_assoc, append-nil, length-append, arith}
 use Rattle.std.specs.Io.KnownBytes.{IsAtEnd}
-use Rattle.wsn_io.specs.Transfer.{Incoming, Outgoing, IsConsumed, IsKept}
+use Rattle.wsn_io.specs.Transfer.{Incoming, Outgoing, IsConsumed, IsKept, IsWrittenBut}
 use Rattle.wsn_io.proofs.Received.{consumed_none, consumed_on, consumed_end, consumed_kept, received_of}
 use Rattle.wsn_io.proofs.PutTexts.{prints_nothing}
 use Rattle.wsn_rules.specs.Limits.{Limits}
@@ -20,7 +20,7 @@ use Rattle.wsn_show.specs.declared.capture_view.CaptureView.{CaptureView}
 use Rattle.wsn_show.specs.declared.showing.ShowStop.{ShowStop}
 use Rattle.wsn_show.specs.declared.showing.ShowStop.TheVariants as stop
 use Rattle.wsn_show.specs.CaptureViews.{HasShownLines}
-use Rattle.wsn_show.specs.Showing.{IsPrintedBut, IsShowAnswer, IsShown}
+use Rattle.wsn_show.specs.Showing.{IsShowAnswer, IsShown, IsTextSoFar}
 use Rattle.wsn_show.specs.PassedLines.{HasPrinted, StopsWithin, EndsShowing}
 use Rattle.wsn_show.proofs.PassedChunks.{text_so_far, whole_part}
 
@@ -94,10 +94,10 @@ module _ (limits : Limits) (style : Style) (old mid new : Incoming) (first : Out
   at_end (Err stop.Write) after ends unfailed is = (unfailed, is.0)
 
   all_at_end : (result : Result CaptureReport ShowStop) (after : Outgoing) → EndsShowing limits style first after read.came result → result ≡ Err stop.Write
-      → IsPrintedBut chunk_size limits style read.came first after
+      → IsWrittenBut chunk_size (IsTextSoFar limits style) read.came first after
   all_at_end result after ends is =
       let at_end = subst (λ (r : Result CaptureReport ShowStop). EndsShowing limits style first after read.came r) is ends in
-      record { done = read.came; last = []; whole = sym (append-nil read.came); short = omega arith; printed = at_end.1 }
+      record { done = read.came; last = []; whole = sym (append-nil read.came); short = omega arith; written = at_end.1 }
 
   -- the input ended
   pub ended : (result : Result CaptureReport ShowStop) (after : Outgoing) → IsConsumed mid new [] → IsAtEnd new.remaining → new.failed ≡ false
@@ -142,11 +142,11 @@ module _ (limits : Limits) (style : Style) (old mid new : Incoming) (first : Out
   within_chunk chunk stop.Write after size unfailed stops = (unfailed, stops.0)
 
   all_but_chunk : (chunk : List ℕ) (s : ShowStop) (after : Outgoing) → length chunk ≤ 4096 → StopsWithin limits style first after read.came chunk s
-      → (let answer : Result CaptureReport ShowStop = Err s in answer) ≡ Err stop.Write → IsPrintedBut chunk_size limits style (read.came ++ chunk) first after
+      → (let answer : Result CaptureReport ShowStop = Err s in answer) ≡ Err stop.Write → IsWrittenBut chunk_size (IsTextSoFar limits style) (read.came ++ chunk) first after
   all_but_chunk chunk (stop.Capture capture) after size stops is = cc
   all_but_chunk chunk stop.Write after size stops is =
       let but = stops.1 in
-      record { done = but.done; last = but.last; whole = but.whole; short = let most = but.short in omega (arith, most, size); printed = but.printed }
+      record { done = but.done; last = but.last; whole = but.whole; short = let most = but.short in omega (arith, most, size); written = but.written }
 
   -- the stop is within a chunk
   pub stops_here : (chunk : List ℕ) (s : ShowStop) (after : Outgoing) → IsConsumed mid new chunk → length chunk ≤ 4096 → new.failed ≡ false

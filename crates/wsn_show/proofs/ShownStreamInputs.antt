@@ -4,7 +4,7 @@ use Rattle.std.proofs.KnownBytes.{Appends-nil, Appends-trans}
 use Rattle.std.proofs.lemmas.List.{take_all, map-append}
 use Rattle.std.proofs.lemmas.List.Concat.{flat_map-append}
 use Rattle.std.specs.Io.KnownBytes.{Appends}
-use Rattle.wsn_io.specs.Transfer.{Incoming, Outgoing, IsReceived, IsWritten, IsPartlyWritten, IsWrittenUpToFailure}
+use Rattle.wsn_io.specs.Transfer.{Incoming, Outgoing, IsReceived, IsWritten, IsPartlyWritten, IsWrittenUpToFailure, IsWrittenAtLeast}
 use Rattle.wsn_io.specs.declared.stop.Stop.{Stop}
 use Rattle.wsn_io.specs.declared.stop.Stop.TheVariants as stop
 use Rattle.wsn_io.proofs.PutTexts.{put_both, put_front, prints_on, prints_no_more}
@@ -31,9 +31,8 @@ use Rattle.wsn_scan.proofs.JudgedInputs.{stopped_unrefused}
 use Rattle.wsn_scan.proofs.Unrefused.{place_after}
 use Rattle.wsn_print.specs.declared.style.Style.{Style}
 use Rattle.wsn_show.specs.Styles.{styled_item, styled_items, styled_verdict}
-use Rattle.wsn_show.specs.ShownSoFar.{items_in}
-use Rattle.wsn_show.specs.StreamViews.{Viewed, HasViewed}
-use Rattle.wsn_show.specs.StreamShows.{IsItemText, IsLeftWith, IsStreamText, IsPrintedText, IsShownAtLeast, EndsStream, IsStreamShown}
+use Rattle.wsn_show.specs.ShownSoFar.{items_in, Viewed, HasViewed}
+use Rattle.wsn_show.specs.StreamShows.{IsItemText, IsLeftWith, IsStreamText, IsPrintedText, EndsStream, IsStreamShown}
 
 module _ (role : Role) (limits : Limits) (style : Style) where
   -- All bytes that came aren't refused, and what is shown of them was printed.
@@ -61,7 +60,7 @@ module _ (role : Role) (limits : Limits) (style : Style) where
   }
 
   -- what follows a text that was written, up to a failed write
-  at_least : (first now after : Outgoing) (bytes text more : List ℕ) → IsItemText role limits style bytes text → IsWritten first now text → IsWrittenUpToFailure now after more → IsShownAtLeast role limits style bytes first after
+  at_least : (first now after : Outgoing) (bytes text more : List ℕ) → IsItemText role limits style bytes text → IsWritten first now text → IsWrittenUpToFailure now after more → IsWrittenAtLeast (IsItemText role limits style bytes) first after
   at_least first now after bytes text more is_text wrote (inl went) = (text, more, is_text, Appends-trans first.written now.written after.written text more wrote.1 went.1)
   at_least first now after bytes text more is_text wrote (inr part) = (text, take part.1.0 more, is_text, Appends-trans first.written now.written after.written text (take part.1.0 more) wrote.1 part.1.1)
 
@@ -167,7 +166,7 @@ module _ (role : Role) (limits : Limits) (style : Style) where
         received = end.received;
         answer = (end.unfailed, λ fs place reason refused. absurd (read.unrefused fs place reason refused));
         printed = (e.1.0, subst (λ (bs : List ℕ). IsPrintedText role limits style bs e.1.0) (sym within_all) e.1.1, e.1.2);
-        at_once = λ is. record { done = came; last = []; whole = sym (append-nil came); short = omega arith; shown = e.2 };
+        at_once = λ is. record { done = came; last = []; whole = sym (append-nil came); short = omega arith; written = e.2 };
       }
       ended (Err stop.Read) e = let h : stop.Read ≡ stop.Write = e.0 in absurd cc
       ended (Err stop.InputLimit) e = let h : stop.InputLimit ≡ stop.Write = e.0 in absurd cc
@@ -232,7 +231,7 @@ module _ (role : Role) (limits : Limits) (style : Style) where
           inl (subst (λ (bs : List ℕ). IsItemText role limits style bs lines) (sym within_is) text_now),
           elim written_now [ inl went ↦ (let both : false ≡ true = sym went.0 ∙ failed in absurd cc) | inr part ↦ part ],
         );
-        at_once = λ is. record { done = came; last = last_bytes; whole = after_came; short = short_last; shown = at_least first now after came read.text items read.is_text read.written shows.2 };
+        at_once = λ is. record { done = came; last = last_bytes; whole = after_came; short = short_last; written = at_least first now after came read.text items read.is_text read.written shows.2 };
       }
 
       module _ (works : after.failed ≡ false) where
@@ -269,7 +268,7 @@ module _ (role : Role) (limits : Limits) (style : Style) where
           soon : length all_came ≤ refusal.place + chunk_size
           soon = up_to_refusal fs refusal.place refusal.reason (subst (λ (bs : List ℕ). IsRefused role limits bs fs refusal.place refusal.reason) (append-nil all_came) (refused_all []))
 
-          shown_before : (verdict : List ℕ) → Appends after.written last.written verdict → IsShownAtLeast role limits style came first last
+          shown_before : (verdict : List ℕ) → Appends after.written last.written verdict → IsWrittenAtLeast (IsItemText role limits style came) first last
           shown_before verdict put = (
             read.text,
             items ++ verdict,
@@ -299,7 +298,7 @@ module _ (role : Role) (limits : Limits) (style : Style) where
               inr (Refused refusal, subst (λ (bs : List ℕ). IsStreamText role limits style bs (Refused refusal) (lines ++ verdict_text)) (sym within_is) whole_text),
               put_front first after last lines verdict_text wrote e.1,
             );
-            at_once = λ is. record { done = came; last = last_bytes; whole = after_came; short = short_last; shown = shown_before (take e.1.1.0 verdict_text) e.1.1.1 };
+            at_once = λ is. record { done = came; last = last_bytes; whole = after_came; short = short_last; written = shown_before (take e.1.1.0 verdict_text) e.1.1.1 };
           }
           refuses (Err stop.Read) e = let h : stop.Read ≡ stop.Write = e.0 in absurd cc
           refuses (Err stop.InputLimit) e = let h : stop.InputLimit ≡ stop.Write = e.0 in absurd cc

@@ -1,6 +1,6 @@
 -- How the text that came is related to the lines that a view has shown.
 use Rattle.std.specs.Prelude.{◌≡◌, ℕ, ◌+◌, true, Result, Ok, Err, List, [], ◌++◌, flat_map, length}
-use Rattle.wsn_io.specs.Transfer.{Outgoing, IsWritten, IsPartlyWritten}
+use Rattle.wsn_io.specs.Transfer.{Outgoing, IsWritten, IsPartlyWritten, IsWrittenBut, IsWrittenAtLeast}
 use Rattle.wsn_rules.specs.Limits.{Limits}
 use Rattle.wsn_rules.specs.Entries.{Entry}
 use Rattle.wsn_rules.specs.ShownCapture.{ShownLine, AreShownAfter}
@@ -17,7 +17,7 @@ use Rattle.wsn_show.specs.declared.capture_view.CaptureView.{CaptureView}
 use Rattle.wsn_show.specs.declared.showing.ShowStop.{ShowStop}
 use Rattle.wsn_show.specs.declared.showing.ShowStop.TheVariants.{Capture, Write}
 use Rattle.wsn_show.specs.CaptureViews.{HasShownLines, ShowsLine}
-use Rattle.wsn_show.specs.Showing.{IsTextOfLines, BeginWithLines, IsTextOf, IsWholeText, IsPrintedAtLeast, IsPrintedBefore, IsPrintedBut}
+use Rattle.wsn_show.specs.Showing.{IsTextOfLines, BeginWithLines, IsTextOf, IsWholeText, IsPrintedBefore, IsTextSoFar}
 
 -- These bytes came: whole lines, which the view has shown, and a line that has begun. What the lines show was printed.
 pub record HasPrinted (limits : Limits) (style : Style) (first : Outgoing) (view : CaptureView) (begun : List ℕ)
@@ -56,7 +56,7 @@ StopsWithin limits style first now came chunk (Capture (capture.Line number faul
 StopsWithin limits style first now came chunk (Capture capture.Read) = ⊥
 StopsWithin limits style first now came chunk Write =
     ((text : List ℕ) × IsTextOf limits style (came ++ chunk) text × IsPartlyWritten first now text)
-    × IsPrintedBut (length chunk) limits style (came ++ chunk) first now
+    × IsWrittenBut (length chunk) (IsTextSoFar limits style) (came ++ chunk) first now
 
 -- ---- the end of the text
 
@@ -80,4 +80,4 @@ EndsShowing limits style first now came (Err (Capture (capture.Line number fault
 EndsShowing limits style first now came (Err (Capture capture.Read)) = ⊥
 EndsShowing limits style first now came (Err Write) =
     ((text : List ℕ) × IsTextOf limits style came text × IsPartlyWritten first now text)
-    × IsPrintedAtLeast limits style came first now
+    × IsWrittenAtLeast (IsTextSoFar limits style came) first now

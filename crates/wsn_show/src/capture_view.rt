@@ -3,7 +3,7 @@ ghost use Rattle.wsn_rules.specs.Limits.{Limits};
 ghost use Rattle.wsn_rules.specs.Entries.{Entry};
 ghost use Rattle.wsn_rules.specs.Sides.{sent};
 ghost use Rattle.wsn_print.specs.declared.style.Style.{Style};
-ghost use Rattle.wsn_show.specs.StreamViews.{HasViewed};
+ghost use Rattle.wsn_show.specs.ShownSoFar.{HasViewed};
 ghost use Rattle.wsn_print.specs.ShownParts.EntryPosition.{InLine};
 ghost use Rattle.wsn_print.specs.ShownParts.{position_of};
 ghost use Rattle.wsn_capture.specs.CaptureLines.{count_of};

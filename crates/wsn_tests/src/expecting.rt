@@ -7,7 +7,6 @@ use std::process::Abort;
 use wsn_canon::{Next, Source};
 use wsn_doubles::answer_lines::{answer_line, line_of, stop_line, verdict_line};
 use wsn_doubles::readers::Chopped;
-use wsn_doubles::vectors::Stream;
 use wsn_scan::{Stop, Verdict};
 use wsn_wire::Input;
 
@@ -64,6 +63,18 @@ pub fn expect_answer(
     expect_line(rt, line.as_str(), expected);
 }
 
+/// Fails unless this is the line of the answer, and prints the context.
+pub fn expect_answer_of(
+    rt: &impl Abort,
+    alloc: Global,
+    answer: &Result<Verdict, Stop>,
+    expected: &str,
+    of: &impl Debug,
+) {
+    let line = answer_line(alloc, answer).expect(rt, "memory");
+    expect_line_of(rt, line.as_str(), expected, of);
+}
+
 /// The line of an answer of `next`: of a verdict, or of a stop.
 pub fn last_line<A: Allocator>(
     rt: &impl Abort,
@@ -110,61 +121,4 @@ pub fn expect_again<A: Allocator + Copy>(
 ) {
     expect_at_its_end(rt, alloc, source, line);
     expect_at_its_end(rt, alloc, source, line);
-}
-
-/// A way of reading a stream: the stream's name, the engine, the number of bytes, and the maximum size of a read.
-#[derive(Clone, Copy, Debug)]
-pub struct Reading<'a> {
-    pub name: &'a str,
-    pub how: &'static str,
-    pub count: usize,
-    pub at_most: usize,
-}
-
-impl<'a> Reading<'a> {
-    /// Reads all bytes of a stream, at most `at_most` per call.
-    pub fn whole(stream: &'a Stream, how: &'static str, at_most: usize) -> Self {
-        Reading {
-            name: stream.name,
-            how,
-            count: stream.bytes.len(),
-            at_most,
-        }
-    }
-
-    /// Fails unless this is the expected line.
-    pub fn expect_line(&self, rt: &impl Abort, line: &str, expected: &str) {
-        expect_line_of(rt, line, expected, self);
-    }
-
-    /// Fails unless this is the line of the answer.
-    pub fn expect_answer(
-        &self,
-        rt: &impl Abort,
-        alloc: Global,
-        answer: &Result<Verdict, Stop>,
-        expected: &str,
-    ) {
-        let line = answer_line(alloc, answer).expect(rt, "memory");
-        self.expect_line(rt, line.as_str(), expected);
-    }
-
-    /// Fails unless this holds.
-    pub fn expect(&self, rt: &impl Abort, holds: bool, problem: &str) {
-        expect_of(rt, holds, &(self, problem));
-    }
-
-    /// Fails unless these are the expected bytes.
-    pub fn expect_bytes(&self, rt: &impl Abort, bytes: &[u8], expected: &[u8]) {
-        self.expect(rt, bytes == expected, "other bytes than expected");
-    }
-
-    /// Fails unless the bytes begin with this prefix.
-    pub fn expect_prefix(&self, rt: &impl Abort, prefix: &[u8], bytes: &[u8]) {
-        self.expect(
-            rt,
-            bytes.starts_with(prefix),
-            "no prefix of what is expected",
-        );
-    }
 }

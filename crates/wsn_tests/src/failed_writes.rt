@@ -1,89 +1,85 @@
-//! Writers that fail, after each byte of an engine's output.
+//! Writers that fail, after each byte of an engine's output, or accept one byte per call.
 
-use crate::expecting::expect_of;
+use crate::expecting::{expect_answer_of, expect_of};
 use std::alloc::Global;
 use std::process::Abort;
-use wsn_canon::normalise;
-use wsn_doubles::answer_lines::listing;
-use wsn_doubles::engines::{listed, normalised};
+use wsn_doubles::engines::{ENGINES, Engine};
 use wsn_doubles::readers::Chopped;
 use wsn_doubles::vectors::{Stream, filled, stream_named, streams};
 use wsn_doubles::writers::{FULL, Full, Narrow};
-use wsn_scan::{Stop, Verdict};
-use wsn_wire::{Input, Output};
+use wsn_scan::Stop;
 
-/// Fails unless an engine reported that its writer failed, and the writer holds this prefix.
-fn expect_full(
-    rt: &impl Abort,
-    name: &str,
+/// An engine whose writer accepts at most `at_most` bytes per call, and is full at some time.
+#[derive(Clone, Copy)]
+struct FailedWrite<'a> {
+    engine: Engine,
+    stream: &'a Stream,
+    at_most: usize,
     full: Full,
-    answer: &Result<Verdict, Stop>,
-    written: &[u8],
-    prefix: &[u8],
-) {
-    let room = prefix.len();
-    let is_reported = matches!(answer, Err(Stop::Write)) && written == prefix;
-    expect_of(rt, is_reported, &(name, full, room));
 }
 
-/// Fails unless `list` reports that its writer fails after each byte of the lines.
-fn expect_full_list(rt: &impl Abort, alloc: Global, stream: &Stream, lines: &[u8], full: Full) {
-    for room in 0..lines.len() {
-        let mut writer = Narrow::new(alloc, 1, room, full);
-        let reader = Chopped::new(stream.bytes.as_slice(), usize::MAX);
-        let answer = listed(stream, reader, &mut writer);
-        expect_full(
-            rt,
-            stream.name,
-            full,
-            &answer,
-            writer.taken.as_slice(),
-            &lines[..room],
-        );
+impl FailedWrite<'_> {
+    /// Fails unless the engine reports that its writer, which has room for this prefix of the output, failed after it.
+    fn expect(&self, rt: &impl Abort, alloc: Global, prefix: &[u8]) {
+        let mut writer = Narrow::new(alloc, self.at_most, prefix.len(), self.full);
+        let reader = Chopped::new(self.stream.bytes.as_slice(), usize::MAX);
+        let answer = self.engine.run(alloc, self.stream, reader, &mut writer);
+        let is_reported = matches!(&answer, Err(Stop::Write)) && writer.taken.as_slice() == prefix;
+        let of = (self.stream.name, self.engine, self.full, prefix.len());
+        expect_of(rt, is_reported, &of);
     }
 }
 
-/// The same, for each behaviour of a full writer.
-fn expect_full_lists(rt: &impl Abort, alloc: Global, stream: &Stream) {
-    let whole = listing(alloc, stream).expect(rt, "memory");
+/// Fails unless an engine reports that its writer fails after each of the first 200 bytes of a stream's output, whatever
+/// the writer does then.
+fn expect_full(rt: &impl Abort, alloc: Global, engine: Engine, stream: &Stream) {
+    let whole = engine.output(alloc, stream).expect(rt, "memory");
     for full in FULL {
-        expect_full_list(rt, alloc, stream, whole.as_bytes(), full);
+        let write = FailedWrite {
+            engine,
+            stream,
+            at_most: 1,
+            full,
+        };
+        for room in 0..whole.len().min(200) {
+            write.expect(rt, alloc, &whole[..room]);
+        }
     }
 }
 
 #[test]
 fn list_reports_a_failed_write(rt: HostRuntime) {
     for stream in streams(rt.alloc()).expect(&rt, "every vector").iter() {
-        expect_full_lists(&rt, rt.alloc(), stream);
-    }
-}
-
-/// Fails unless `normalise` reports that its writer fails after each of the first 200 bytes.
-fn expect_full_normal(rt: &impl Abort, alloc: Global, stream: &Stream, full: Full) {
-    let normal = stream.normal.as_slice();
-    for room in 0..normal.len().min(200) {
-        let mut writer = Narrow::new(alloc, 1, room, full);
-        let reader = Chopped::new(stream.bytes.as_slice(), usize::MAX);
-        let answer = normalised(alloc, stream, reader, &mut writer);
-        expect_full(
-            rt,
-            stream.name,
-            full,
-            &answer,
-            writer.taken.as_slice(),
-            &normal[..room],
-        );
+        expect_full(&rt, rt.alloc(), Engine::List, stream);
     }
 }
 
 #[test]
 fn normalise_reports_a_failed_write(rt: HostRuntime) {
+    for stream in streams(rt.alloc()).expect(&rt, "every vector").iter() {
+        expect_full(&rt, rt.alloc(), Engine::Normalise, stream);
+    }
+}
+
+#[test]
+fn a_writer_may_accept_one_byte_per_call(rt: HostRuntime) {
     let alloc = rt.alloc();
     for stream in streams(alloc).expect(&rt, "every vector").iter() {
-        for full in FULL {
-            expect_full_normal(&rt, alloc, stream, full);
+        for engine in ENGINES {
+            expect_by_one(&rt, alloc, engine, stream);
         }
     }
+}
+
+/// Fails unless an engine writes a stream's output to a writer that accepts one byte per call.
+fn expect_by_one(rt: &impl Abort, alloc: Global, engine: Engine, stream: &Stream) {
+    let mut writer = Narrow::byte_by_byte(alloc);
+    let reader = Chopped::new(stream.bytes.as_slice(), usize::MAX);
+    let answer = engine.run(alloc, stream, reader, &mut writer);
+    let whole = engine.output(alloc, stream).expect(rt, "memory");
+    let of = (stream.name, engine);
+    expect_answer_of(rt, alloc, &answer, stream.verdict, &of);
+    expect_of(rt, writer.taken.as_slice() == whole.as_slice(), &of);
 }
 
 /// A ping, a message of 4,200 bytes, a pong and another message, which are their own normal form.
@@ -103,20 +99,15 @@ fn of_several_blocks(rt: &impl Abort, alloc: Global) -> Stream {
 fn normalise_reports_a_failed_write_after_each_byte(rt: HostRuntime) {
     let alloc = rt.alloc();
     let stream = of_several_blocks(&rt, alloc);
+    let write = FailedWrite {
+        engine: Engine::Normalise,
+        stream: &stream,
+        at_most: usize::MAX,
+        full: Full::FailsOnce,
+    };
     let bytes = stream.bytes.as_slice();
     for room in 0..bytes.len() {
-        let full = Full::FailsOnce;
-        let mut writer = Narrow::new(alloc, usize::MAX, room, full);
-        let answer = normalised(alloc, &stream, Chopped::new(bytes, usize::MAX), &mut writer);
-        let written = writer.taken.as_slice();
-        expect_full(
-            &rt,
-            "several blocks",
-            full,
-            &answer,
-            written,
-            &bytes[..room],
-        );
+        write.expect(&rt, alloc, &bytes[..room]);
     }
 }
 
@@ -126,15 +117,9 @@ fn normalise_reads_no_more_after_a_failed_write(rt: HostRuntime) {
     let alloc = rt.alloc();
     let stream = of_several_blocks(&rt, alloc);
     let mut left = stream.bytes.as_slice();
-    let answer = normalise(
-        alloc,
-        &mut Input::new(&mut left),
-        &mut Output::new(Narrow::new(alloc, usize::MAX, 0, Full::Fails)),
-        stream.role,
-        stream.limits,
-    );
-    let is_failed = matches!(answer, Err(Stop::Write));
-    expect_of(&rt, is_failed, &"a failed write");
+    let mut writer = Narrow::new(alloc, usize::MAX, 0, Full::Fails);
+    let answer = Engine::Normalise.run(alloc, &stream, &mut left, &mut writer);
+    expect_of(&rt, matches!(&answer, Err(Stop::Write)), &"a failed write");
     let came = stream.bytes.len().saturating_sub(left.len());
     expect_of(&rt, came == 4_096, &("bytes that came", came));
 }

@@ -3,27 +3,40 @@
 
 use crate::expecting::{expect, expect_bytes, expect_of};
 use arrayvec::ArrayVec;
-use std::io::{self, Read, Write};
+use std::io::{self, ErrorKind, Read, Write};
 use std::process::Abort;
+use wsn_doubles::readers::Chopped;
+use wsn_doubles::writers::{Full, Narrow};
 use wsn_wire::{Input, Output};
 
-/// Returns one byte, then an error, then the end.
+/// A reader or a writer whose calls are counted.
 #[derive(Drop)]
-struct FailsOnce {
+struct Called<T> {
+    inner: T,
     calls: u8,
 }
 
-impl Read for FailsOnce {
+impl<T> Called<T> {
+    fn new(inner: T) -> Self {
+        Called { inner, calls: 0 }
+    }
+}
+
+impl<T: Read> Read for Called<T> {
     fn read(&mut self, buf: &mut [u8]) -> io::Result<usize> {
         self.calls = self.calls.saturating_add(1);
-        if self.calls == 2 {
-            return Err(io::ErrorKind::Interrupted.into());
-        }
-        if self.calls > 2 || buf.is_empty() {
-            return Ok(0);
-        }
-        buf[0] = 7;
-        Ok(1)
+        self.inner.read(buf)
+    }
+}
+
+impl<T: Write> Write for Called<T> {
+    fn write(&mut self, buf: &[u8]) -> io::Result<usize> {
+        self.calls = self.calls.saturating_add(1);
+        self.inner.write(buf)
+    }
+
+    fn flush(&mut self) -> io::Result<()> {
+        self.inner.flush()
     }
 }
 
@@ -41,7 +54,8 @@ fn expect_read<R: Read>(
 
 #[test]
 fn an_input_calls_its_reader_once(rt: HostRuntime) {
-    let mut reader = FailsOnce { calls: 0 };
+    let once = Chopped::stumbling(&[7], 1, 0, ErrorKind::Interrupted);
+    let mut reader = Called::new(once);
     let mut input = Input::new(&mut reader);
     let mut into = [0; 4];
     expect_read(&rt, &mut input, &mut into, Some(1), false);
@@ -63,28 +77,6 @@ fn an_input_of_bytes_in_memory_never_fails(rt: HostRuntime) {
     expect(&rt, input.reader().is_none());
 }
 
-/// Accepts at most three bytes per call, and fails at the call `bad`.
-#[derive(Drop)]
-struct Choppy {
-    got: ArrayVec<u8, 16>,
-    calls: u8,
-    bad: u8,
-}
-
-impl Write for Choppy {
-    fn write(&mut self, buf: &[u8]) -> io::Result<usize> {
-        self.calls = self.calls.saturating_add(1);
-        if self.calls == self.bad {
-            return Err(io::ErrorKind::Interrupted.into());
-        }
-        self.got.write(&buf[..buf.len().min(3)])
-    }
-
-    fn flush(&mut self) -> io::Result<()> {
-        Ok(())
-    }
-}
-
 /// Fails unless this is the answer of `put`, and whether a write has failed by then.
 fn expect_put<W: Write>(
     rt: &impl Abort,
@@ -99,18 +91,15 @@ fn expect_put<W: Write>(
 
 #[test]
 fn an_output_continues_after_a_short_write(rt: HostRuntime) {
-    let mut writer = Choppy {
-        got: ArrayVec::new(),
-        calls: 0,
-        bad: 4,
-    };
+    let seven = Narrow::new(rt.alloc(), 3, 7, Full::IsInterruptedOnce);
+    let mut writer = Called::new(seven);
     let mut output = Output::new(&mut writer);
     expect_put(&rt, &mut output, b"", true, false);
     expect_put(&rt, &mut output, b"abcdefg", true, false);
     expect_put(&rt, &mut output, b"hi", false, true);
     expect_put(&rt, &mut output, b"jk", true, true);
     expect(&rt, writer.calls == 5);
-    expect_bytes(&rt, writer.got.as_slice(), b"abcdefgjk");
+    expect_bytes(&rt, writer.inner.taken.as_slice(), b"abcdefgjk");
 }
 
 #[test]
@@ -121,41 +110,13 @@ fn an_output_that_is_full_fails(rt: HostRuntime) {
     expect_bytes(&rt, full.as_slice(), b"abcd");
 }
 
-/// Accepts nothing or fails at its first call, and would accept everything at the next.
-#[derive(Drop)]
-struct Stalls {
-    got: ArrayVec<u8, 16>,
-    calls: u8,
-    fails: bool,
-}
-
-impl Write for Stalls {
-    fn write(&mut self, buf: &[u8]) -> io::Result<usize> {
-        self.calls = self.calls.saturating_add(1);
-        if self.calls > 1 {
-            return self.got.write(buf);
-        }
-        if self.fails {
-            return Err(io::ErrorKind::Interrupted.into());
-        }
-        Ok(0)
-    }
-
-    fn flush(&mut self) -> io::Result<()> {
-        Ok(())
-    }
-}
-
+/// The writer accepts nothing or fails at its first call, and would accept everything at the next.
 #[test]
 fn an_output_tries_nothing_again(rt: HostRuntime) {
-    for fails in [false, true] {
-        let mut writer = Stalls {
-            got: ArrayVec::new(),
-            calls: 0,
-            fails,
-        };
+    for full in [Full::TakesNothingOnce, Full::IsInterruptedOnce] {
+        let mut writer = Called::new(Narrow::new(rt.alloc(), usize::MAX, 0, full));
         let mut output = Output::new(&mut writer);
         expect_put(&rt, &mut output, b"ab", false, true);
-        expect_of(&rt, writer.calls == 1 && writer.got.is_empty(), &fails);
+        expect_of(&rt, writer.calls == 1 && writer.inner.taken.is_empty(), &full);
     }
 }

@@ -7,12 +7,12 @@ use std::io::ErrorKind;
 use std::process::Abort;
 use wsn_doubles::answer_lines::{answer_line, compared_line, planned_line, recut_line};
 use wsn_doubles::engines::{
-    Sizes, compared, judged, listed, normalised, planned, recut_by, recut_uniformly,
+    ENGINES, SentStream, Sizes, compared, planned, recut_by, recut_uniformly,
 };
 use wsn_doubles::readers::Chopped;
 use wsn_doubles::vectors::{Stream, line_after, stream_named, streams};
-use wsn_plan::{Plan, RecutAnswer};
-use wsn_scan::{Stop, Verdict, judge};
+use wsn_plan::Plan;
+use wsn_scan::judge;
 use wsn_wire::Input;
 
 const KINDS: [ErrorKind; 2] = [ErrorKind::Interrupted, ErrorKind::WouldBlock];
@@ -38,18 +38,12 @@ impl<'a> Stumble<'a> {
         )
     }
 
+    fn sent_stream(&self, at_most: usize) -> SentStream<'a> {
+        SentStream::of(self.stream, self.reader(at_most))
+    }
+
     fn expect(&self, rt: &impl Abort, line: &str) {
         expect_line_of(rt, line, self.expected, &(self.stream.name, self.count));
-    }
-
-    fn expect_answer(&self, rt: &impl Abort, alloc: Global, answer: &Result<Verdict, Stop>) {
-        let line = answer_line(alloc, answer).expect(rt, "memory");
-        self.expect(rt, line.as_str());
-    }
-
-    fn expect_recut(&self, rt: &impl Abort, alloc: Global, answer: &Result<RecutAnswer, Stop>) {
-        let line = recut_line(alloc, answer).expect(rt, "memory");
-        self.expect(rt, line.as_str());
     }
 
     /// Fails unless this is the line of the comparison of two readers.
@@ -62,58 +56,36 @@ impl<'a> Stumble<'a> {
 
 /// Checks the answers of `judge`, `list` and `normalise`, with reads of at most `at_most` bytes.
 fn expect_reported(rt: &impl Abort, alloc: Global, stumble: &Stumble, at_most: usize) {
-    let stream = stumble.stream;
-    let mut out = Vec::new(alloc);
-    stumble.expect_answer(rt, alloc, &judged(stream, stumble.reader(at_most)));
-    let answer = listed(stream, stumble.reader(at_most), &mut out);
-    stumble.expect_answer(rt, alloc, &answer);
-    let answer = normalised(alloc, stream, stumble.reader(at_most), &mut out);
-    stumble.expect_answer(rt, alloc, &answer);
+    for engine in ENGINES {
+        let mut out = Vec::new(alloc);
+        let answer = engine.run(alloc, stumble.stream, stumble.reader(at_most), &mut out);
+        let line = answer_line(alloc, &answer).expect(rt, "memory");
+        stumble.expect(rt, line.as_str());
+    }
 }
 
 /// Checks the answer of planning, with reads of at most `at_most` bytes.
 fn expect_planned(rt: &impl Abort, alloc: Global, stumble: &Stumble, at_most: usize) {
-    let (role, limits) = (stumble.stream.role, stumble.stream.limits);
-    let answer = planned(alloc, role, limits, stumble.reader(at_most));
+    let answer = planned(alloc, stumble.sent_stream(at_most));
     let line = planned_line(alloc, &answer).expect(rt, "memory");
     stumble.expect(rt, line.as_str());
 }
 
-/// Checks the answer of a recut by a plan without steps. It writes nothing.
-fn expect_recut_by_plan(rt: &impl Abort, alloc: Global, stumble: &Stumble, at_most: usize) {
-    let (role, limits) = (stumble.stream.role, stumble.stream.limits);
-    let plan = Plan::new(alloc);
-    let mut out = Vec::new(alloc);
-    let answer = recut_by(
-        alloc,
-        role,
-        limits,
-        &plan,
-        stumble.reader(at_most),
-        &mut out,
-    );
-    expect(rt, out.is_empty());
-    stumble.expect_recut(rt, alloc, &answer);
-}
-
-/// Checks the answer of a recut by size. It writes nothing.
-fn expect_recut_by_size(rt: &impl Abort, alloc: Global, stumble: &Stumble, at_most: usize) {
-    let (role, limits) = (stumble.stream.role, stumble.stream.limits);
+/// Checks the answers of a recut by a plan without steps and of one by size, which write nothing.
+fn expect_recut(rt: &impl Abort, alloc: Global, stumble: &Stumble, at_most: usize) {
     let sizes = Sizes {
         size: 2,
         weave: false,
     };
+    let plan = Plan::new(alloc);
     let mut out = Vec::new(alloc);
-    let answer = recut_uniformly(
-        alloc,
-        role,
-        limits,
-        sizes,
-        stumble.reader(at_most),
-        &mut out,
-    );
+    let by_plan = recut_by(alloc, stumble.sent_stream(at_most), &plan, &mut out);
+    let by_size = recut_uniformly(alloc, stumble.sent_stream(at_most), sizes, &mut out);
     expect(rt, out.is_empty());
-    stumble.expect_recut(rt, alloc, &answer);
+    for answer in [by_plan, by_size] {
+        let line = recut_line(alloc, &answer).expect(rt, "memory");
+        stumble.expect(rt, line.as_str());
+    }
 }
 
 /// Checks the answer of `same` where the first or the second reader fails.
@@ -131,8 +103,7 @@ fn expect_each(rt: &impl Abort, alloc: Global, stumble: &Stumble) {
     for at_most in [2, 4_096] {
         expect_reported(rt, alloc, stumble, at_most);
         expect_planned(rt, alloc, stumble, at_most);
-        expect_recut_by_plan(rt, alloc, stumble, at_most);
-        expect_recut_by_size(rt, alloc, stumble, at_most);
+        expect_recut(rt, alloc, stumble, at_most);
     }
     expect_compared(rt, alloc, stumble);
 }

@@ -6,7 +6,7 @@ use crate::expecting::{
 use std::alloc::Global;
 use std::process::Abort;
 use wsn_doubles::answer_lines::{frame_line, verdict_line};
-use wsn_doubles::vectors::{CLIENT, Stream, Vector, greatest};
+use wsn_doubles::vectors::{Stream, greatest, stream_named};
 use wsn_scan::{Part, Scan, Taken};
 use wsn_wire::Role;
 
@@ -73,22 +73,6 @@ impl ScanReport {
         }
         false
     }
-
-    /// Passes a stream to the scanner, in chunks of `size` bytes, until it is refused.
-    fn feed_chunks(
-        &mut self,
-        rt: &impl Abort,
-        alloc: Global,
-        scan: &mut Scan,
-        bytes: &[u8],
-        size: usize,
-    ) {
-        for chunk in bytes.chunks(size.max(1)) {
-            if self.feed(rt, alloc, scan, chunk) {
-                break;
-            }
-        }
-    }
 }
 
 /// The payload of a part that the scanner took of these bytes.
@@ -109,24 +93,20 @@ pub fn scanned(rt: &impl Abort, alloc: Global, stream: &Stream, size: usize) -> 
     };
     let mut scan = Scan::new(stream.role, stream.limits);
     let within = scan.room().min(stream.bytes.len() as u64) as usize;
-    scanned.feed_chunks(rt, alloc, &mut scan, &stream.bytes[..within], size);
+    for chunk in stream.bytes[..within].chunks(size.max(1)) {
+        if scanned.feed(rt, alloc, &mut scan, chunk) {
+            break;
+        }
+    }
     scanned.verdict = verdict_line(alloc, &scan.finish()).expect(rt, "memory");
     scanned
 }
 
 /// The masked text of RFC 6455 section 5.7.
-static MASKED_HELLO: Vector = Vector {
-    name: "a masked Hello",
-    bytes: &[
-        0x81, 0x85, 0x37, 0xfa, 0x21, 0x3d, 0x7f, 0x9f, 0x4d, 0x51, 0x58,
-    ],
-    ..CLIENT
-};
-
 #[test]
 fn a_frame_in_chunks_of_every_size_is_one_frame(rt: HostRuntime) {
     let alloc = rt.alloc();
-    let stream = Stream::new(alloc, &MASKED_HELLO).expect(&rt, "a stream");
+    let stream = stream_named(alloc, "Hello with a key").expect(&rt, "a vector of this name");
     for size in 1..=11 {
         let scanned = scanned(&rt, alloc, &stream, size);
         expect_bytes(&rt, scanned.frames.as_slice(), b"0 fin text 37fa213d 5\n");

@@ -1,10 +1,10 @@
 //! What ends an engine's work before its verdict: readers that fail after each byte; and the words of a stop.
 
-use crate::expecting::{Reading, expect_line, prefix_of};
+use crate::expecting::{expect_answer_of, expect_bytes_of, expect_line, expect_of, prefix_of};
 use std::alloc::Global;
 use std::process::Abort;
-use wsn_doubles::answer_lines::{listing, stop_line};
-use wsn_doubles::engines::{judged, listed, normalised};
+use wsn_doubles::answer_lines::stop_line;
+use wsn_doubles::engines::Engine;
 use wsn_doubles::readers::{Chopped, READS};
 use wsn_doubles::vectors::{Stream, line_after, stream_named, streams};
 use wsn_scan::Stop;
@@ -22,222 +22,135 @@ fn words_of_a_stop(rt: HostRuntime) {
     }
 }
 
-/// A stream whose reader fails after a prefix, with reads of at most `at_most` bytes, and the line of an engine's
-/// answer.
+/// An engine, and a stream whose reader fails after a prefix.
 #[derive(Clone, Copy)]
 struct Broken<'a> {
+    engine: Engine,
     stream: &'a Stream,
     prefix: &'a [u8],
-    at_most: usize,
-    expected: &'static str,
 }
 
-impl<'a> Broken<'a> {
-    fn reader(&self) -> Chopped<'a> {
-        Chopped::breaking(self.prefix, self.at_most)
-    }
-
-    fn reading(&self, how: &'static str) -> Reading<'a> {
-        Reading {
-            name: self.stream.name,
-            how,
-            count: self.prefix.len(),
-            at_most: self.at_most,
-        }
-    }
-
-    /// Fails unless the whole output was written where the answer is the stream's verdict, and otherwise a prefix of
-    /// it.
-    fn expect_written(
-        &self,
-        rt: &impl Abort,
-        reading: &Reading,
-        written: &[u8],
-        whole: &[u8],
-        prefix_of: &[u8],
-    ) {
-        if self.expected == self.stream.verdict {
-            reading.expect_bytes(rt, written, whole);
-        } else {
-            reading.expect_prefix(rt, written, prefix_of);
-        }
-    }
-
-    fn expect_judged(&self, rt: &impl Abort, alloc: Global) {
-        let answer = judged(self.stream, self.reader());
-        self.reading("judged")
-            .expect_answer(rt, alloc, &answer, self.expected);
-    }
-
-    fn expect_listed(&self, rt: &impl Abort, alloc: Global, whole: &[u8]) {
-        let mut text = Vec::new(alloc);
-        let answer = listed(self.stream, self.reader(), &mut text);
-        let reading = self.reading("listed");
-        let lines = self.stream.frames.as_bytes();
-        self.expect_written(rt, &reading, text.as_slice(), whole, lines);
-        reading.expect_answer(rt, alloc, &answer, self.expected);
-    }
-
-    fn expect_normalised(&self, rt: &impl Abort, alloc: Global) {
+impl Broken<'_> {
+    /// What the engine writes, with reads of at most `at_most` bytes. Fails unless its answer is this line.
+    fn written(&self, rt: &impl Abort, alloc: Global, at_most: usize, line: &str) -> Vec<u8> {
         let mut out = Vec::new(alloc);
-        let answer = normalised(alloc, self.stream, self.reader(), &mut out);
-        let normal = self.stream.normal.as_slice();
-        let reading = self.reading("normalised");
-        self.expect_written(rt, &reading, out.as_slice(), normal, normal);
-        reading.expect_answer(rt, alloc, &answer, self.expected);
+        let reader = Chopped::breaking(self.prefix, at_most);
+        let answer = self.engine.run(alloc, self.stream, reader, &mut out);
+        let of = (self.stream.name, self.engine, self.prefix.len(), at_most);
+        expect_answer_of(rt, alloc, &answer, line, &of);
+        out
+    }
+
+    /// Fails unless the engine reports the failed read, or the answer that the prefix decides. Then its whole output is
+    /// written, and otherwise a prefix of what comes before the verdict.
+    fn expect(&self, rt: &impl Abort, alloc: Global) {
+        let expected = line_after(self.stream, self.prefix);
+        let whole = self.engine.output(alloc, self.stream).expect(rt, "memory");
+        let before = self.engine.output_before_verdict(self.stream);
+        for at_most in READS {
+            let written = self.written(rt, alloc, at_most, expected);
+            let is_expected = if expected == self.stream.verdict {
+                written.as_slice() == whole.as_slice()
+            } else {
+                before.starts_with(written.as_slice())
+            };
+            let of = (self.stream.name, self.engine, self.prefix.len(), at_most);
+            expect_of(rt, is_expected, &of);
+        }
     }
 }
 
-/// Adds a failure after this prefix, with reads of each size.
-fn push_breaks<'a>(
-    rt: &impl Abort,
-    breaks: &mut Vec<Broken<'a>>,
-    stream: &'a Stream,
-    prefix: &'a [u8],
-) {
-    let expected = line_after(stream, prefix);
-    for at_most in READS {
-        let broken = Broken {
-            stream,
-            prefix,
-            at_most,
-            expected,
-        };
-        breaks.push(broken).expect(rt, "memory");
-    }
-}
-
-/// Every failure of a stream's reader: after each prefix, with reads of each size.
-fn breaks<'a>(rt: &impl Abort, alloc: Global, stream: &'a Stream) -> Vec<Broken<'a>> {
-    let mut breaks = Vec::new(alloc);
-    for prefix in stream.prefixes(alloc).expect(rt, "memory").iter() {
-        push_breaks(rt, &mut breaks, stream, prefix);
-    }
-    breaks
-}
-
-fn expect_judged_breaks(rt: &impl Abort, alloc: Global, stream: &Stream) {
-    for broken in breaks(rt, alloc, stream).iter() {
-        broken.expect_judged(rt, alloc);
+/// Fails unless an engine reports a failed read after each prefix of each stream, unless the answer is decided.
+fn expect_broken(rt: &impl Abort, alloc: Global, engine: Engine) {
+    for stream in streams(alloc).expect(rt, "every vector").iter() {
+        for prefix in stream.prefixes(alloc).expect(rt, "memory").iter() {
+            let broken = Broken {
+                engine,
+                stream,
+                prefix,
+            };
+            broken.expect(rt, alloc);
+        }
     }
 }
 
 #[test]
 fn judge_reports_a_failed_read_unless_the_answer_is_decided(rt: HostRuntime) {
-    for stream in streams(rt.alloc()).expect(&rt, "every vector").iter() {
-        expect_judged_breaks(&rt, rt.alloc(), stream);
-    }
-}
-
-fn expect_listed_breaks(rt: &impl Abort, alloc: Global, stream: &Stream) {
-    let whole = listing(alloc, stream).expect(rt, "memory");
-    for broken in breaks(rt, alloc, stream).iter() {
-        broken.expect_listed(rt, alloc, whole.as_bytes());
-    }
+    expect_broken(&rt, rt.alloc(), Engine::Judge);
 }
 
 #[test]
 fn list_reports_a_failed_read_unless_the_answer_is_decided(rt: HostRuntime) {
-    for stream in streams(rt.alloc()).expect(&rt, "every vector").iter() {
-        expect_listed_breaks(&rt, rt.alloc(), stream);
-    }
-}
-
-fn expect_normalised_breaks(rt: &impl Abort, alloc: Global, stream: &Stream) {
-    for broken in breaks(rt, alloc, stream).iter() {
-        broken.expect_normalised(rt, alloc);
-    }
+    expect_broken(&rt, rt.alloc(), Engine::List);
 }
 
 #[test]
 fn normalise_reports_a_failed_read_unless_the_answer_is_decided(rt: HostRuntime) {
-    for stream in streams(rt.alloc()).expect(&rt, "every vector").iter() {
-        expect_normalised_breaks(&rt, rt.alloc(), stream);
-    }
+    expect_broken(&rt, rt.alloc(), Engine::Normalise);
 }
 
-/// After how many bytes of a stream each frame's line is due, and after how many how much of its normal form.
+/// After how many bytes of a stream how many bytes of an engine's output are due.
 #[derive(Clone, Copy)]
 struct Due {
     name: &'static str,
-    lines: &'static [usize],
-    normal: &'static [(usize, usize)],
+    engine: Engine,
+    due: &'static [(usize, usize)],
 }
 
-static DUE: [Due; 2] = [
+/// The lines of frames are due after each head, and events after their last byte.
+static DUE: [Due; 4] = [
     Due {
         name: "Hello in two fragments, and a ping between them",
-        lines: &[2, 7, 9],
-        normal: &[(7, 2), (11, 9)],
+        engine: Engine::List,
+        due: &[(2, 16), (7, 31), (9, 46)],
+    },
+    Due {
+        name: "Hello in two fragments, and a ping between them",
+        engine: Engine::Normalise,
+        due: &[(7, 2), (11, 9)],
     },
     Due {
         name: "a character in three fragments with three keys, and a ping among them",
-        lines: &[6, 13, 19, 26],
-        normal: &[(13, 6), (27, 15)],
+        engine: Engine::List,
+        due: &[(6, 23), (13, 45), (19, 69), (26, 92)],
+    },
+    Due {
+        name: "a character in three fragments with three keys, and a ping among them",
+        engine: Engine::Normalise,
+        due: &[(13, 6), (27, 15)],
     },
 ];
 
 impl Due {
-    /// The lines that are due after `count` bytes.
-    fn lines_of<'a>(&self, rt: &impl Abort, stream: &'a Stream, count: usize) -> &'a [u8] {
-        let due = self.lines.iter().filter(|end| **end <= count).count();
-        let lines = stream.frames.split_inclusive('\n').take(due);
-        let size = lines.fold(0usize, |size, line| size.saturating_add(line.len()));
-        prefix_of(rt, stream.frames.as_bytes(), size)
+    /// The number of bytes of the output that are due after `count` bytes.
+    fn after(&self, count: usize) -> usize {
+        let ended = self.due.iter().filter(|(end, _)| *end <= count);
+        ended.last().map_or(0, |(_, size)| *size)
     }
 
-    /// The part of the normal form that is due after `count` bytes.
-    fn normal_of<'a>(&self, rt: &impl Abort, stream: &'a Stream, count: usize) -> &'a [u8] {
-        let ended = self.normal.iter().filter(|(end, _)| *end <= count);
-        let size = ended.last().map_or(0, |(_, size)| *size);
-        prefix_of(rt, stream.normal.as_slice(), size)
-    }
-}
-
-/// Fails unless `list` writes these lines, and then reports that its reader failed.
-fn expect_lines(rt: &impl Abort, alloc: Global, broken: &Broken, lines: &[u8]) {
-    let mut text = Vec::new(alloc);
-    let answer = listed(broken.stream, broken.reader(), &mut text);
-    let reading = broken.reading("listed");
-    reading.expect_bytes(rt, text.as_slice(), lines);
-    reading.expect_answer(rt, alloc, &answer, "read failed");
-}
-
-fn expect_due_lines(rt: &impl Abort, alloc: Global, due: &Due, stream: &Stream) {
-    for broken in breaks(rt, alloc, stream).iter() {
-        let lines = due.lines_of(rt, stream, broken.prefix.len());
-        expect_lines(rt, alloc, broken, lines);
+    /// Fails unless the output that is due after this prefix is written, and then the failed read is reported.
+    fn expect(&self, rt: &impl Abort, alloc: Global, broken: &Broken) {
+        let output = self.engine.output_before_verdict(broken.stream);
+        let due = prefix_of(rt, output, self.after(broken.prefix.len()));
+        for at_most in READS {
+            let written = broken.written(rt, alloc, at_most, "read failed");
+            expect_bytes_of(rt, written.as_slice(), due, &(self.name, self.engine, at_most));
+        }
     }
 }
 
 #[test]
-fn list_writes_the_lines_that_came_before_a_failed_read(rt: HostRuntime) {
+fn what_came_before_a_failed_read_is_written(rt: HostRuntime) {
+    let alloc = rt.alloc();
     for due in DUE.iter() {
-        let stream = stream_named(rt.alloc(), due.name).expect(&rt, "a vector of this name");
-        expect_due_lines(&rt, rt.alloc(), due, &stream);
-    }
-}
-
-/// Fails unless `normalise` writes these bytes, and then reports that its reader failed.
-fn expect_events(rt: &impl Abort, alloc: Global, broken: &Broken, normal: &[u8]) {
-    let mut out = Vec::new(alloc);
-    let answer = normalised(alloc, broken.stream, broken.reader(), &mut out);
-    let reading = broken.reading("normalised");
-    reading.expect_bytes(rt, out.as_slice(), normal);
-    reading.expect_answer(rt, alloc, &answer, "read failed");
-}
-
-fn expect_due_events(rt: &impl Abort, alloc: Global, due: &Due, stream: &Stream) {
-    for broken in breaks(rt, alloc, stream).iter() {
-        let normal = due.normal_of(rt, stream, broken.prefix.len());
-        expect_events(rt, alloc, broken, normal);
-    }
-}
-
-#[test]
-fn normalise_writes_the_events_that_came_before_a_failed_read(rt: HostRuntime) {
-    for due in DUE.iter() {
-        let stream = stream_named(rt.alloc(), due.name).expect(&rt, "a vector of this name");
-        expect_due_events(&rt, rt.alloc(), due, &stream);
+        let stream = stream_named(alloc, due.name).expect(&rt, "a vector of this name");
+        for prefix in stream.prefixes(alloc).expect(&rt, "memory").iter() {
+            let broken = Broken {
+                engine: due.engine,
+                stream: &stream,
+                prefix,
+            };
+            due.expect(&rt, alloc, &broken);
+        }
     }
 }

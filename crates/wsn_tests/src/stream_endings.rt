@@ -2,42 +2,31 @@
 
 use crate::every_way::expect_stream;
 use crate::expecting::{
-    Reading, expect, expect_answer, expect_bytes, expect_count, expect_of, prefix_of,
+    expect_answer, expect_bytes_of, expect_count, expect_line_of, expect_of, prefix_of,
 };
 use std::alloc::Global;
 use std::process::Abort;
-use wsn_canon::normalise;
-use wsn_doubles::answer_lines::{answer_line, frame_line};
-use wsn_doubles::engines::judged;
+use wsn_doubles::answer_lines::answer_line;
+use wsn_doubles::engines::Engine;
 use wsn_doubles::readers::{Chopped, Endless, READS};
 use wsn_doubles::vectors::{Stream, greatest, stream_named, streams};
-use wsn_list::list;
-use wsn_scan::{HeadInfo, Limits, MESSAGE_MAX, Stop, Verdict, judge};
-use wsn_wire::{Form, Input, Op, Output, Role};
+use wsn_scan::{Limits, MESSAGE_MAX, Stop, Verdict, judge};
+use wsn_wire::{Input, Role};
 
-/// Fails unless this is the line of the stream's verdict, or, where the bytes do not decide that, one of `accepted`
-/// or `cut`.
-fn expect_decided(rt: &impl Abort, stream: &Stream, line: &str, reading: &Reading) {
-    if stream.is_decided_by(reading.count) {
-        reading.expect_line(rt, line, stream.verdict);
-    } else {
-        let is_open = line.starts_with("accepted") || line.starts_with("cut");
-        reading.expect(rt, is_open, "neither accepted nor cut");
-    }
-}
-
-/// Checks the answer of `judge` for a prefix of a stream, with reads of each size.
+/// Fails unless this is the answer of `judge` for a prefix of a stream, with reads of each size: the stream's verdict, or,
+/// where the prefix doesn't decide that, one of `accepted` or `cut`.
 fn expect_prefix(rt: &impl Abort, alloc: Global, stream: &Stream, prefix: &[u8]) {
     for at_most in READS {
-        let answer = judged(stream, Chopped::new(prefix, at_most));
+        let mut input = Input::new(Chopped::new(prefix, at_most));
+        let answer = judge(&mut input, stream.role, stream.limits);
         let line = answer_line(alloc, &answer).expect(rt, "memory");
-        let reading = Reading {
-            name: stream.name,
-            how: "judged",
-            count: prefix.len(),
-            at_most,
-        };
-        expect_decided(rt, stream, line.as_str(), &reading);
+        let of = (stream.name, prefix.len(), at_most);
+        if stream.is_decided_by(prefix.len()) {
+            expect_line_of(rt, line.as_str(), stream.verdict, &of);
+        } else {
+            let is_open = line.starts_with("accepted") || line.starts_with("cut");
+            expect_of(rt, is_open, &of);
+        }
     }
 }
 
@@ -58,7 +47,8 @@ fn every_prefix_of_a_long_message_is_cut(rt: HostRuntime) {
         "a vector of this name",
     );
     for count in 1..stream.bytes.len() {
-        let answer = judged(&stream, Chopped::new(&stream.bytes[..count], usize::MAX));
+        let mut input = Input::new(Chopped::new(&stream.bytes[..count], usize::MAX));
+        let answer = judge(&mut input, stream.role, stream.limits);
         let is_cut = matches!(&answer, Ok(Verdict::Cut(prefix)) if prefix.used == count as u64);
         expect_of(&rt, is_cut, &count);
     }
@@ -137,118 +127,76 @@ fn bytes_after_a_refusal_change_nothing(rt: HostRuntime) {
     }
 }
 
-/// A server's stream that never ends: some bytes, and then others, repeated. At its input limit, `lines` are those of
-/// its frames, and `normal` is the normal form of its events.
+/// A stream that never ends: some bytes, and then others, repeated. At its input limit, `lines` are those of its frames, and
+/// `normal` is the normal form of its events.
 #[derive(Drop)]
 struct Unending {
     first: &'static [u8],
     again: &'static [u8],
-    limits: Limits,
+    stream: Stream,
     lines: Vec<u8>,
     normal: Vec<u8>,
 }
 
 impl Unending {
-    fn reader(&self) -> Endless {
-        Endless::new(self.first, self.again)
-    }
-
-    /// Fails unless an engine stops at the limit, with at most one byte more read.
-    fn expect_limit(&self, rt: &impl Abort, answer: &Result<Verdict, Stop>, reader: &Endless) {
-        expect(rt, matches!(answer, Err(Stop::InputLimit)));
-        expect(
-            rt,
-            reader.given as u64 <= self.limits.input().saturating_add(1),
-        );
-    }
-
-    fn expect_judged(&self, rt: &impl Abort) {
-        let mut reader = self.reader();
-        let answer = judge(&mut Input::new(&mut reader), Role::Server, self.limits);
-        self.expect_limit(rt, &answer, &reader);
-    }
-
-    fn expect_listed(&self, rt: &impl Abort, alloc: Global) {
-        let mut reader = self.reader();
-        let mut text = Vec::new(alloc);
-        let answer = list(
-            &mut Input::new(&mut reader),
-            &mut Output::new(&mut text),
-            Role::Server,
-            self.limits,
-        );
-        self.expect_limit(rt, &answer, &reader);
-        expect_bytes(rt, text.as_slice(), self.lines.as_slice());
-    }
-
-    fn expect_normalised(&self, rt: &impl Abort, alloc: Global) {
-        let mut reader = self.reader();
+    /// Fails unless an engine writes this, and stops at the limit with at most one byte more read.
+    fn expect_written(&self, rt: &impl Abort, alloc: Global, engine: Engine, written: &[u8]) {
+        let mut reader = Endless::new(self.first, self.again);
         let mut out = Vec::new(alloc);
-        let answer = normalise(
-            alloc,
-            &mut Input::new(&mut reader),
-            &mut Output::new(&mut out),
-            Role::Server,
-            self.limits,
-        );
-        self.expect_limit(rt, &answer, &reader);
-        expect_bytes(rt, out.as_slice(), self.normal.as_slice());
+        let answer = engine.run(alloc, &self.stream, &mut reader, &mut out);
+        expect_of(rt, matches!(&answer, Err(Stop::InputLimit)), &engine);
+        let most = self.stream.limits.input().saturating_add(1);
+        expect_of(rt, reader.given as u64 <= most, &(engine, reader.given));
+        expect_bytes_of(rt, out.as_slice(), written, &engine);
     }
 
     fn expect(&self, rt: &impl Abort, alloc: Global) {
-        self.expect_judged(rt);
-        self.expect_listed(rt, alloc);
-        self.expect_normalised(rt, alloc);
+        self.expect_written(rt, alloc, Engine::Judge, b"");
+        self.expect_written(rt, alloc, Engine::List, self.lines.as_slice());
+        self.expect_written(rt, alloc, Engine::Normalise, self.normal.as_slice());
     }
+}
+
+/// An empty stream of a server, with this input limit.
+fn limited(rt: &impl Abort, alloc: Global, input: u64) -> Stream {
+    let mut stream = stream_named(alloc, "nothing").expect(rt, "a vector of this name");
+    stream.limits = Limits::new(MESSAGE_MAX, input).expect(rt, "limits in range");
+    stream
 }
 
 /// The lines of 500 pings.
 fn lines_of_pings(rt: &impl Abort, alloc: Global) -> Vec<u8> {
     let mut lines = Vec::new(alloc);
-    for i in 0..500 {
-        let ping = HeadInfo {
-            place: 2 * i,
-            fin: true,
-            op: Op::Ping,
-            key: None,
-            len: 0,
-            form: Form::Shortest,
-        };
-        lines
-            .extend_from_slice(frame_line(alloc, &ping).expect(rt, "memory").as_bytes())
-            .expect(rt, "memory");
+    for ping in 0..500u32 {
+        let place = 2 * ping;
+        let line = format!(in alloc; "{place} fin ping - 0\n").expect(rt, "memory");
+        lines.extend_from_slice(line.as_bytes()).expect(rt, "memory");
     }
     lines
 }
 
 #[test]
 fn input_limit_ends_endless_pings(rt: HostRuntime) {
-    let limits = Limits::new(MESSAGE_MAX, 1_001).expect(&rt, "limits in range");
-    let normal = [0x89, 0x00].repeat(rt.alloc(), 500).expect(&rt, "memory");
-    let lines = lines_of_pings(&rt, rt.alloc());
+    let alloc = rt.alloc();
     let pings = Unending {
         first: &[],
         again: &[0x89, 0x00],
-        limits,
-        lines,
-        normal,
+        stream: limited(&rt, alloc, 1_001),
+        lines: lines_of_pings(&rt, alloc),
+        normal: [0x89, 0x00].repeat(alloc, 500).expect(&rt, "memory"),
     };
-    pings.expect(&rt, rt.alloc());
+    pings.expect(&rt, alloc);
 }
 
 #[test]
 fn input_limit_ends_an_endless_tail(rt: HostRuntime) {
-    let limits = Limits::new(MESSAGE_MAX, 9).expect(&rt, "limits in range");
-    let normal = [0x88, 0x00].to_vec(rt.alloc()).expect(&rt, "memory");
-    let lines = b"0 fin close - 0\n"
-        .to_vec(rt.alloc())
-        .expect(&rt, "memory");
+    let alloc = rt.alloc();
     let close = Unending {
         first: &[0x88, 0x00],
         again: &[0x00],
-        limits,
-        lines,
-        normal,
+        stream: limited(&rt, alloc, 9),
+        lines: b"0 fin close - 0\n".to_vec(alloc).expect(&rt, "memory"),
+        normal: [0x88, 0x00].to_vec(alloc).expect(&rt, "memory"),
     };
-    close.expect(&rt, rt.alloc());
+    close.expect(&rt, alloc);
 }

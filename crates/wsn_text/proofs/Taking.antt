@@ -4,9 +4,7 @@ use Rattle.std.proofs.Math.Seq.{take-append-add, take-add}
 use Rattle.std.proofs.lemmas.List.{take-append-drop, take_more, length-append, length-take-le}
 use Rattle.std.specs.Result.{MatchResult, IfErr, IsOk}
 use Rattle.wsn_text.specs.Utf8.{Range, IsText, BeginsText, IsFirstBad}
-use Rattle.wsn_text.specs.Rest.{Follows}
-use Rattle.wsn_text.specs.Validated.{HasValidated}
-use Rattle.wsn_text.specs.Chunk.{Validates, Breaks}
+use Rattle.wsn_text.specs.Validated.{Follows, HasValidated, Validates, Breaks}
 use Rattle.wsn_text.proofs.Boundaries.{text_after}
 use Rattle.wsn_text.proofs.Prefixes.{text-append, text_begins, begins_front, begins_shorter, first_bad-append}
 

@@ -1,8 +1,6 @@
 ghost use Rattle.std.specs.Prelude.{◌≡◌, ℕ, ◌+◌, ◌<◌, ◌≤◌, ◌⊎◌, ◌↔◌, List, [], ◌∷◌, ◌++◌, length, take, IsTrue, IsFalse, IsOk, IfSome, IfErr, MatchResult};
 ghost use Rattle.wsn_text.specs.Utf8.{IsText, BeginsText, IsFirstBad};
-ghost use Rattle.wsn_text.specs.Rest.{Follows};
-ghost use Rattle.wsn_text.specs.Validated.{HasValidated};
-ghost use Rattle.wsn_text.specs.Chunk.{Validates, Breaks};
+ghost use Rattle.wsn_text.specs.Validated.{Follows, HasValidated, Validates, Breaks};
 ghost use Rattle.wsn_text.specs.Expected.{awaited};
 
 use crate::ascii_blocks::is_ascii;

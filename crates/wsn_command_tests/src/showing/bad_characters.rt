@@ -3,7 +3,6 @@
 use crate::showing::expecting::{Expected, expect_job, formatted};
 use std::alloc::Global;
 use std::process::Abort;
-use wsn_doubles::readers::READS;
 use wsn_doubles::vectors::greatest;
 use wsn_job::Job;
 use wsn_print::Format;
@@ -124,15 +123,8 @@ fn expect_rows(rt: &impl Abort, alloc: Global, format: Format) {
             Format::Text => (row.lines, row.verdict),
             Format::Json => (row.objects, row.verdict_object),
         };
-        let expected = Expected {
-            status: 1,
-            shown,
-            last,
-            line: "",
-        };
-        for at_most in READS {
-            expect_job(rt, alloc, &job, row.bytes, at_most, expected);
-        }
+        let expected = Expected::with_status_1(shown, last);
+        expect_job(rt, alloc, &job, row.bytes, expected);
     }
 }
 

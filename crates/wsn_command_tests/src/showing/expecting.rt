@@ -5,7 +5,7 @@ use std::alloc::Global;
 use std::process::Abort;
 use std::str;
 use wsn_command_runs::{CommandRun, run_on};
-use wsn_doubles::readers::Chopped;
+use wsn_doubles::readers::{Chopped, READS};
 use wsn_doubles::writers::Narrow;
 use wsn_job::Job;
 use wsn_print::{Format, ViewLimit};
@@ -19,6 +19,18 @@ pub struct Expected<'a> {
     pub shown: &'a str,
     pub last: &'a str,
     pub line: &'a str,
+}
+
+impl<'a> Expected<'a> {
+    /// A run that prints this, and then a report or a verdict whose status is 1.
+    pub fn with_status_1(shown: &'a str, last: &'a str) -> Self {
+        Expected {
+            status: 1,
+            shown,
+            last,
+            line: "",
+        }
+    }
 }
 
 /// Events, with at most this many bytes of each payload.
@@ -57,23 +69,13 @@ pub fn expect_run(rt: &impl Abort, run: &CommandRun, text: &[u8], expected: Expe
     assert_eq!(rt; run.status, expected.status, "{text:?}");
 }
 
-/// Fails unless a job that allocates nothing has this result over the input, in reads of at most `at_most` bytes.
-pub fn expect_job(
-    rt: &impl Abort,
-    alloc: Global,
-    job: &Job,
-    text: &[u8],
-    at_most: usize,
-    expected: Expected,
-)
+/// Fails unless a job that allocates nothing has this result over the input, with reads of each size.
+pub fn expect_job(rt: &impl Abort, alloc: Global, job: &Job, text: &[u8], expected: Expected)
     requires { MayRun job.now }
 {
-    let run = run_on(
-        alloc,
-        alloc,
-        job,
-        Chopped::new(text, at_most),
-        Narrow::wide(alloc),
-    );
-    expect_run(rt, &run, text, expected);
+    for at_most in READS {
+        let reader = Chopped::new(text, at_most);
+        let run = run_on(alloc, alloc, job, reader, Narrow::wide(alloc));
+        expect_run(rt, &run, text, expected);
+    }
 }

@@ -1,7 +1,6 @@
 //! Commands that print JSON objects, one a line.
 
 use crate::showing::expecting::{Expected, expect_job, objects_of};
-use wsn_doubles::readers::READS;
 use wsn_doubles::vectors::greatest;
 use wsn_job::{Format, Job};
 use wsn_rules::Detail;
@@ -19,9 +18,8 @@ const REPORT: &str = "{\"type\":\"report\",\"client\":{\"state\":\"cut\"},\
 fn a_capture_is_shown(rt: HostRuntime) {
     let alloc = rt.alloc();
     let job = Job::Show(greatest(), objects_of(&rt, Detail::Events));
-    let expected = Expected {
-        status: 1,
-        shown: "{\"type\":\"comment\",\"line\":2,\"text\":\" both\"}\n\
+    let expected = Expected::with_status_1(
+        "{\"type\":\"comment\",\"line\":2,\"text\":\" both\"}\n\
 {\"type\":\"event\",\"line\":4,\"side\":\"client\",\"time\":0.5,\"offset\":0,\"event\":\"text\",\"bytes\":2,\"frames\":1,\"text\":\"Hi\"}\n\
 {\"type\":\"event\",\"line\":6,\"side\":\"server\",\"time\":0.5,\"offset\":0,\"event\":\"ping\",\"bytes\":1,\"frames\":1,\"text\":\"a\"}\n\
 {\"type\":\"refused\",\"line\":7,\"side\":\"server\",\"time\":0.5,\"offset\":3,\"place\":4,\"reason\":\"mask-present\",\"code\":1002,\"hex\":\"8180\"}\n\
@@ -30,12 +28,9 @@ fn a_capture_is_shown(rt: HostRuntime) {
 {\"type\":\"unfinished\",\"line\":10,\"side\":\"client\",\"time\":0.5,\"offset\":8,\"event\":\"head\",\"bytes\":0,\"frames\":0,\"lacks\":null,\"hex\":\"\"}\n\
 {\"type\":\"end\",\"line\":10,\"side\":\"client\",\"time\":0.5,\"offset\":10}\n\
 {\"type\":\"ended-by\",\"side\":\"server\",\"reset\":false}\n",
-        last: REPORT,
-        line: "",
-    };
-    for at_most in READS {
-        expect_job(&rt, alloc, &job, CAPTURE, at_most, expected);
-    }
+        REPORT,
+    );
+    expect_job(&rt, alloc, &job, CAPTURE, expected);
 }
 
 /// The bad character, which begins in line 2, is in the object of the refusal, which is of line 3.
@@ -43,45 +38,23 @@ fn a_capture_is_shown(rt: HostRuntime) {
 fn a_bad_character_is_shown(rt: HostRuntime) {
     let alloc = rt.alloc();
     let job = Job::Show(greatest(), objects_of(&rt, Detail::Events));
-    let expected = Expected {
-        status: 1,
-        shown: "{\"type\":\"refused\",\"line\":3,\"side\":\"server\",\"time\":1.5,\"offset\":0,\"place\":4,\"reason\":\"text-bad\",\"code\":1007,\"hex\":\"61e920\",\"character\":{\"offset\":3,\"in_payload\":1,\"hex\":\"e920\",\"before\":\"a\"}}\n",
-        last: "{\"type\":\"report\",\"client\":{\"state\":\"running\"},\"server\":{\"state\":\"refused\",\"offset\":4,\"reason\":\"text-bad\",\"code\":1007},\"first\":null,\"echo\":null,\"client_sees\":1006,\"server_sees\":null,\"outcome\":\"failed\"}\n",
-        line: "",
-    };
-    for at_most in READS {
-        expect_job(
-            &rt,
-            alloc,
-            &job,
-            b"# 1.5\nS 810361e9\nS 20\n",
-            at_most,
-            expected,
-        );
-    }
+    let expected = Expected::with_status_1(
+        "{\"type\":\"refused\",\"line\":3,\"side\":\"server\",\"time\":1.5,\"offset\":0,\"place\":4,\"reason\":\"text-bad\",\"code\":1007,\"hex\":\"61e920\",\"character\":{\"offset\":3,\"in_payload\":1,\"hex\":\"e920\",\"before\":\"a\"}}\n",
+        "{\"type\":\"report\",\"client\":{\"state\":\"running\"},\"server\":{\"state\":\"refused\",\"offset\":4,\"reason\":\"text-bad\",\"code\":1007},\"first\":null,\"echo\":null,\"client_sees\":1006,\"server_sees\":null,\"outcome\":\"failed\"}\n",
+    );
+    expect_job(&rt, alloc, &job, b"# 1.5\nS 810361e9\nS 20\n", expected);
 }
 
 #[test]
 fn what_is_left_over_has_a_time_and_no_line(rt: HostRuntime) {
     let alloc = rt.alloc();
     let job = Job::Show(greatest(), objects_of(&rt, Detail::Frames));
-    let expected = Expected {
-        status: 1,
-        shown: "{\"type\":\"frame\",\"line\":2,\"side\":\"server\",\"time\":1.5,\"offset\":0,\"fin\":true,\"opcode\":\"binary\",\"key\":null,\"length\":3,\"form\":\"shortest\"}\n\
+    let expected = Expected::with_status_1(
+        "{\"type\":\"frame\",\"line\":2,\"side\":\"server\",\"time\":1.5,\"offset\":0,\"fin\":true,\"opcode\":\"binary\",\"key\":null,\"length\":3,\"form\":\"shortest\"}\n\
 {\"type\":\"unfinished\",\"side\":\"server\",\"time\":1.5,\"offset\":0,\"event\":\"binary\",\"bytes\":2,\"frames\":1,\"lacks\":1,\"hex\":\"00ff\"}\n",
-        last: "{\"type\":\"report\",\"client\":{\"state\":\"running\"},\"server\":{\"state\":\"running\"},\"first\":null,\"echo\":null,\"client_sees\":null,\"server_sees\":null,\"outcome\":\"open\"}\n",
-        line: "",
-    };
-    for at_most in READS {
-        expect_job(
-            &rt,
-            alloc,
-            &job,
-            b"# 1.5\nS 820300ff\n# 2.5\n",
-            at_most,
-            expected,
-        );
-    }
+        "{\"type\":\"report\",\"client\":{\"state\":\"running\"},\"server\":{\"state\":\"running\"},\"first\":null,\"echo\":null,\"client_sees\":null,\"server_sees\":null,\"outcome\":\"open\"}\n",
+    );
+    expect_job(&rt, alloc, &job, b"# 1.5\nS 820300ff\n# 2.5\n", expected);
 }
 
 #[test]
@@ -95,16 +68,7 @@ fn a_stream_is_shown_with_its_verdict(rt: HostRuntime) {
         last: "{\"type\":\"verdict\",\"verdict\":\"accepted\",\"used\":7,\"tail\":1,\"unfinished\":null,\"frames\":1,\"messages\":0,\"pings\":0,\"pongs\":0,\"close\":{\"code\":1000}}\n",
         line: "",
     };
-    for at_most in READS {
-        expect_job(
-            &rt,
-            alloc,
-            &job,
-            b"\x88\x05\x03\xe8bye\xaa",
-            at_most,
-            expected,
-        );
-    }
+    expect_job(&rt, alloc, &job, b"\x88\x05\x03\xe8bye\xaa", expected);
 }
 
 #[test]
@@ -112,35 +76,22 @@ fn frames_are_listed_and_the_verdict(rt: HostRuntime) {
     let alloc = rt.alloc();
     let verdict =
         "{\"type\":\"verdict\",\"verdict\":\"cut\",\"used\":6,\"unfinished\":1,\"frames\":2,\"messages\":0,\"pings\":1,\"pongs\":0}\n";
-    let expected = Expected {
-        status: 1,
-        shown: "{\"type\":\"frame\",\"offset\":0,\"fin\":false,\"opcode\":\"text\",\"key\":null,\"length\":1,\"form\":\"shortest\"}\n\
+    let expected = Expected::with_status_1(
+        "{\"type\":\"frame\",\"offset\":0,\"fin\":false,\"opcode\":\"text\",\"key\":null,\"length\":1,\"form\":\"shortest\"}\n\
 {\"type\":\"frame\",\"offset\":3,\"fin\":true,\"opcode\":\"ping\",\"key\":null,\"length\":0,\"form\":\"shortest\"}\n",
-        last: verdict,
-        line: "",
-    };
+        verdict,
+    );
     let stream = b"\x01\x01H\x89\x00\x80";
     let frames = Job::Frames(Role::Server, greatest(), Format::Json);
+    expect_job(&rt, alloc, &frames, stream, expected);
     let judge = Job::Judge(Role::Server, greatest(), Format::Json);
-    for at_most in READS {
-        expect_job(&rt, alloc, &frames, stream, at_most, expected);
-        let expected = Expected {
-            shown: "",
-            ..expected
-        };
-        expect_job(&rt, alloc, &judge, stream, at_most, expected);
-    }
+    let expected = Expected::with_status_1("", verdict);
+    expect_job(&rt, alloc, &judge, stream, expected);
 }
 
 #[test]
 fn how_a_connection_closed(rt: HostRuntime) {
-    let alloc = rt.alloc();
     let job = Job::Closing(greatest(), Format::Json);
-    let expected = Expected {
-        status: 1,
-        shown: "",
-        last: REPORT,
-        line: "",
-    };
-    expect_job(&rt, alloc, &job, CAPTURE, 4_096, expected);
+    let expected = Expected::with_status_1("", REPORT);
+    expect_job(&rt, rt.alloc(), &job, CAPTURE, expected);
 }

@@ -10,10 +10,11 @@ use wsn_command_runs::run_on;
 use wsn_doubles::readers::Chopped;
 use wsn_doubles::vectors::greatest;
 use wsn_doubles::writers::{Full, Narrow};
+use wsn_io::Output;
 use wsn_job::{Format, Job};
 use wsn_rules::Detail;
 use wsn_show::Style;
-use wsn_wire::{Output, Role};
+use wsn_wire::Role;
 
 /// A text of 120 quotation marks, a text with hidden characters, a comment of 300 characters, of which some are hidden, a
 /// comment that isn't UTF-8, and a Close with a reason.

@@ -7,7 +7,7 @@ use std::alloc::Global;
 use std::io::ErrorKind;
 use std::process::Abort;
 use wsn_command_runs::run_on;
-use wsn_doubles::readers::{Chopped, READS};
+use wsn_doubles::readers::Chopped;
 use wsn_doubles::vectors::greatest;
 use wsn_doubles::writers::{FULL, Narrow};
 use wsn_job::Job;
@@ -33,16 +33,7 @@ fn a_line_that_is_not_accepted_ends_what_is_shown(rt: HostRuntime) {
         last: "",
         line: "line 2: bad-form",
     };
-    for at_most in READS {
-        expect_job(
-            &rt,
-            alloc,
-            &job,
-            b"S 810148\nX\nS 810149\n",
-            at_most,
-            expected,
-        );
-    }
+    expect_job(&rt, alloc, &job, b"S 810148\nX\nS 810149\n", expected);
 }
 
 /// The lines that are whole when a read fails are shown.

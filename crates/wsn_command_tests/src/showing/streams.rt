@@ -1,7 +1,6 @@
 //! `show --role`: of one stream.
 
 use crate::showing::expecting::{Expected, events_of, expect_job, style_of};
-use wsn_doubles::readers::READS;
 use wsn_doubles::vectors::greatest;
 use wsn_job::Job;
 use wsn_rules::{Detail, Limits};
@@ -87,9 +86,7 @@ fn a_stream_is_shown_with_its_verdict(rt: HostRuntime) {
             last: row.verdict,
             line: "",
         };
-        for at_most in READS {
-            expect_job(&rt, alloc, &job, row.bytes, at_most, expected);
-        }
+        expect_job(&rt, alloc, &job, row.bytes, expected);
     }
 }
 
@@ -98,22 +95,11 @@ fn a_stream_is_shown_by_its_frames(rt: HostRuntime) {
     let alloc = rt.alloc();
     let style = style_of(&rt, 48, Detail::Frames);
     let job = Job::ShowStream(Role::Server, greatest(), style);
-    let expected = Expected {
-        status: 1,
-        shown: "S - 0 more text - 3\nS - 5 fin ping - 0\nS - 7 fin cont - 2\nS - 0 unfinished text 4 2 lacks 1 \"Hell\"\n",
-        last: "cut 10\n",
-        line: "",
-    };
-    for at_most in READS {
-        expect_job(
-            &rt,
-            alloc,
-            &job,
-            b"\x01\x03Hel\x89\x00\x80\x02l",
-            at_most,
-            expected,
-        );
-    }
+    let expected = Expected::with_status_1(
+        "S - 0 more text - 3\nS - 5 fin ping - 0\nS - 7 fin cont - 2\nS - 0 unfinished text 4 2 lacks 1 \"Hell\"\n",
+        "cut 10\n",
+    );
+    expect_job(&rt, alloc, &job, b"\x01\x03Hel\x89\x00\x80\x02l", expected);
 }
 
 /// What is within the input limit is shown.
@@ -128,7 +114,5 @@ fn no_verdict_past_the_input_limit(rt: HostRuntime) {
         last: "",
         line: "input limit",
     };
-    for at_most in READS {
-        expect_job(&rt, alloc, &job, b"\x81\x01H\x89\x00", at_most, expected);
-    }
+    expect_job(&rt, alloc, &job, b"\x81\x01H\x89\x00", expected);
 }

@@ -6,7 +6,8 @@ use wsn_rules::Refusal;
 
 impl Scan {
     ghost use Rattle.std.specs.Prelude.{◌≤◌, length};
-    ghost use Rattle.wsn_scan.specs.Words.{room_of, IsRunning, HasFed};
+    ghost use Rattle.wsn_scan.specs.Scans.{room_of};
+    ghost use Rattle.wsn_scan.specs.Feeding.{IsRunning, HasFed};
 
     /// Consumes the chunk, all of it or the bytes up to a refusal, and returns the refusal, if there is one. `chunk` is
     /// at most [`room`](Scan::room) bytes long. Once a scan has refused, each call returns the same refusal. Payload is

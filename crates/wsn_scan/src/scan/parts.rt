@@ -24,7 +24,8 @@ use wsn_wire::{Op, Reason};
 
 impl Scan {
     ghost use Rattle.std.specs.Prelude.{◌≡◌, ◌≢◌, ◌+◌, ◌-◌, ◌<◌, ◌≤◌, ◌↔◌, true, None, length, take, drop, IfSome, IfNone, IsSome, IsTrue};
-    ghost use Rattle.wsn_scan.specs.Words.{AdvancesFrom, TakesPart, TakesFound, Unmasks, HasNoRest, ContinuesHead, BeginsAt, BeginsFrame, AddsPart, EndsFrame, IsCutAt, room_of, refusal_in, refusal_of, info_at};
+    ghost use Rattle.wsn_scan.specs.Scans.{AdvancesFrom, TakesPart, TakesFound, Unmasks, HasNoRest, ContinuesHead, BeginsAt, BeginsFrame, AddsPart, EndsFrame, IsCutAt, room_of, refusal_in, refusal_of};
+    ghost use Rattle.wsn_frame.specs.PartialHeads.{info_at};
 
     /// Takes what the chunk has of the frame at its start, if the scan is between frames, [`whole_head`] reads the frame's
     /// head, it is no Close, and no byte is evidence for a refusal. Otherwise nothing changes.

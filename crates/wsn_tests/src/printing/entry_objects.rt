@@ -1,15 +1,12 @@
 //! The objects of what is shown.
 
-use crate::printing::reading::{expect_none, expect_object};
-use std::alloc::Global;
-use std::process::Abort;
+use crate::printing::reading::expect_object;
 use wsn_io::Output;
-use wsn_print::{EntryFront, HeldBytes, Origin, Remainder, ShownCharacter, ShownEvent, ViewLimit};
-use wsn_rules::{HeadInfo, Refusal};
-use wsn_shown_text::{
-    put_comment_object, put_end_object, put_event_object, put_refused_object, put_remainder_object,
-    put_shown_frame_object, put_unfinished_head_object, put_unfinished_object,
+use wsn_print::{
+    EntryFront, Format, HeldBytes, Origin, Remainder, ShownCharacter, ShownEvent, ViewLimit,
 };
+use wsn_rules::{HeadInfo, Refusal};
+use wsn_shown_text::{ShownItem, put_comment_as, put_end_as, put_entry};
 use wsn_wire::{Form, Op, Reason, Role};
 
 /// In line 1 of a capture, with a time.
@@ -38,7 +35,7 @@ const IN_STREAM: EntryFront<'static> = EntryFront {
     offset: 7,
 };
 
-/// An event that is held whole.
+/// An event of two frames that is held whole.
 fn event_of(op: Op, held: &[u8]) -> ShownEvent<'_> {
     ShownEvent {
         op,
@@ -60,7 +57,14 @@ fn a_text(rt: HostRuntime) {
     let view = ViewLimit::new(48).expect(&rt, "a view");
     let mut line = Vec::new(rt.alloc());
     let event = event_of(Op::Text, b"a\"\\\n\xe2\x82\xac");
-    let put = put_event_object(&mut Output::new(&mut line), view, &IN_LINE, &event);
+    let item = ShownItem::Event(event);
+    let put = put_entry(
+        &mut Output::new(&mut line),
+        Format::Json,
+        view,
+        &IN_LINE,
+        &item,
+    );
     assert_eq!(rt; put, Ok(()));
     let members = [
         ("/type", "\"event\""),
@@ -81,7 +85,14 @@ fn a_text_that_is_cut_off(rt: HostRuntime) {
     let view = ViewLimit::new(2).expect(&rt, "a view");
     let mut line = Vec::new(rt.alloc());
     let event = event_of(Op::Text, b"Hello");
-    let put = put_event_object(&mut Output::new(&mut line), view, &IN_STREAM, &event);
+    let item = ShownItem::Event(event);
+    let put = put_entry(
+        &mut Output::new(&mut line),
+        Format::Json,
+        view,
+        &IN_STREAM,
+        &item,
+    );
     assert_eq!(rt; put, Ok(()));
     let members = [("/text", "\"He\""), ("/truncated", "true")];
     expect_object(&rt, rt.alloc(), line.as_slice(), 8, &members);
@@ -94,7 +105,14 @@ fn a_close(rt: HostRuntime) {
     let view = ViewLimit::new(48).expect(&rt, "a view");
     let mut line = Vec::new(rt.alloc());
     let event = event_of(Op::Close, b"\x03\xe8bye");
-    let put = put_event_object(&mut Output::new(&mut line), view, &IN_LINE, &event);
+    let item = ShownItem::Event(event);
+    let put = put_entry(
+        &mut Output::new(&mut line),
+        Format::Json,
+        view,
+        &IN_LINE,
+        &item,
+    );
     assert_eq!(rt; put, Ok(()));
     let members = [
         ("/event", "\"close\""),
@@ -109,101 +127,96 @@ fn an_unfinished_message(rt: HostRuntime) {
     let view = ViewLimit::new(4).expect(&rt, "a view");
     let mut line = Vec::new(rt.alloc());
     let event = event_of(Op::Binary, b"\x00\xff\x00");
-    let put = put_unfinished_object(
+    let item = ShownItem::Unfinished(event, Some(144));
+    let put = put_entry(
         &mut Output::new(&mut line),
+        Format::Json,
         view,
         &AT_END,
-        &event,
-        Some(144),
+        &item,
     );
     assert_eq!(rt; put, Ok(()));
-    let members = [
-        ("/type", "\"unfinished\""),
-        ("/time", "0.001356"),
-        ("/event", "\"binary\""),
-        ("/lacks", "144"),
-        ("/hex", "\"00ff\""),
-        ("/truncated", "true"),
-    ];
-    expect_object(&rt, rt.alloc(), line.as_slice(), 10, &members);
-    expect_none(&rt, rt.alloc(), line.as_slice(), "/line");
+    let expected = r#"{"type":"unfinished","side":"server","time":0.001356,"offset":17,"event":"binary","bytes":3,"frames":2,"lacks":144,"hex":"00ff","truncated":true}"#;
+    expect_object(&rt, rt.alloc(), line.as_slice(), expected);
 }
 
 #[test]
 fn an_unfinished_head(rt: HostRuntime) {
+    let view = ViewLimit::new(48).expect(&rt, "a view");
     let mut line = Vec::new(rt.alloc());
-    let put = put_unfinished_head_object(&mut Output::new(&mut line), &AT_END);
+    let item = ShownItem::UnfinishedHead;
+    let put = put_entry(
+        &mut Output::new(&mut line),
+        Format::Json,
+        view,
+        &AT_END,
+        &item,
+    );
     assert_eq!(rt; put, Ok(()));
-    let members = [
-        ("/type", "\"unfinished\""),
-        ("/event", "\"head\""),
-        ("/bytes", "0"),
-        ("/frames", "0"),
-        ("/lacks", "null"),
-        ("/hex", "\"\""),
-    ];
-    expect_object(&rt, rt.alloc(), line.as_slice(), 9, &members);
+    let expected = r#"{"type":"unfinished","side":"server","time":0.001356,"offset":17,"event":"head","bytes":0,"frames":0,"lacks":null,"hex":""}"#;
+    expect_object(&rt, rt.alloc(), line.as_slice(), expected);
 }
 
 #[test]
 fn a_refusal(rt: HostRuntime) {
     let view = ViewLimit::new(4).expect(&rt, "a view");
     let mut line = Vec::new(rt.alloc());
+    let mut output = Output::new(&mut line);
     let refusal = Refusal {
         place: 4,
         reason: Reason::MaskPresent,
     };
-    let evidence = whole(b"\x81\x80\xff");
-    let put = put_refused_object(
+    let item = ShownItem::Refused(refusal, whole(b"\x81\x80\xff"), None);
+    let put = put_entry(
         &mut Output::new(&mut line),
+        Format::Json,
         view,
         &IN_LINE,
-        &refusal,
-        &evidence,
-        &None,
+        &item,
     );
     assert_eq!(rt; put, Ok(()));
-    let members = [
-        ("/type", "\"refused\""),
-        ("/offset", "3"),
-        ("/place", "4"),
-        ("/reason", "\"mask-present\""),
-        ("/code", "1002"),
-        ("/hex", "\"80ff\""),
-        ("/truncated", "true"),
-    ];
-    expect_object(&rt, rt.alloc(), line.as_slice(), 10, &members);
-    expect_none(&rt, rt.alloc(), line.as_slice(), "/character");
+    let expected = r#"{"type":"refused","line":1,"side":"client","time":0.001356,"offset":3,"place":4,"reason":"mask-present","code":1002,"hex":"80ff","truncated":true}"#;
+    expect_object(&rt, rt.alloc(), line.as_slice(), expected);
 }
 
-/// Fails unless the refusal of a text, the payload of a frame up to the offending byte, has these members at a view of
-/// so many bytes. Its bad character, two bytes, is at offset 18.
-fn expect_bad_character(
-    rt: &impl Abort,
-    alloc: Global,
-    bytes: u16,
-    count: usize,
-    members: &[(&str, &str)],
-) {
-    let view = ViewLimit::new(bytes).expect(rt, "a view");
-    let mut line = Vec::new(alloc);
+/// The most bytes that are shown of a refused text, and the object: the evidence is the payload of the frame up to the
+/// offending byte, and the bad character, two bytes, is at offset 18.
+static BAD_CHARACTERS: [(u16, &str); 3] = [
+    (
+        48,
+        r#"{"type":"refused","side":"server","offset":7,"place":19,"reason":"text-bad","code":1007,"hex":"7b226e616d65223a2252656ee920","character":{"offset":18,"in_payload":12,"hex":"e920","before":"{\"name\":\"Ren"}}"#,
+    ),
+    (
+        10,
+        r#"{"type":"refused","side":"server","offset":7,"place":19,"reason":"text-bad","code":1007,"hex":"52656ee920","truncated":true,"character":{"offset":18,"in_payload":12,"hex":"e920","before":"Ren","truncated":true}}"#,
+    ),
+    (
+        0,
+        r#"{"type":"refused","side":"server","offset":7,"place":19,"reason":"text-bad","code":1007,"hex":"","truncated":true,"character":{"offset":18,"in_payload":12,"hex":"","before":"","truncated":true}}"#,
+    ),
+];
+
+#[test]
+fn a_refusal_for_a_bad_character(rt: HostRuntime) {
     let refusal = Refusal {
         place: 19,
         reason: Reason::TextBad,
     };
-    let character = ShownCharacter {
+    let evidence = whole(b"{\"name\":\"Ren\xe9 ");
+    let character = Some(ShownCharacter {
         offset: 18,
         in_payload: 12,
         bytes: b"\xe9 ",
         earlier: b"",
     };
-    let put = put_refused_object(
+    let evidence = whole(b"{\"name\":\"Ren\xe9 ");
+    let item = ShownItem::Refused(refusal, evidence, Some(character));
+    let put = put_entry(
         &mut Output::new(&mut line),
+        Format::Json,
         view,
         &IN_STREAM,
-        &refusal,
-        &whole(b"{\"name\":\"Ren\xe9 "),
-        &Some(character),
+        &item,
     );
     assert_eq!(rt; put, Ok(()));
     expect_object(rt, alloc, line.as_slice(), count, members);
@@ -247,37 +260,57 @@ fn a_refusal_of_whose_text_a_part_is_shown(rt: HostRuntime) {
 #[test]
 fn bytes_in_no_frame(rt: HostRuntime) {
     let view = ViewLimit::new(48).expect(&rt, "a view");
-    for (which, kind) in [
-        (Remainder::Unread, "\"unread\""),
-        (Remainder::Tail, "\"tail\""),
+    for (which, expected) in [
+        (
+            Remainder::Unread,
+            r#"{"type":"unread","side":"server","time":0.001356,"offset":17,"bytes":2,"hex":"df65"}"#,
+        ),
+        (
+            Remainder::Tail,
+            r#"{"type":"tail","side":"server","time":0.001356,"offset":17,"bytes":2,"hex":"df65"}"#,
+        ),
     ] {
         let mut line = Vec::new(rt.alloc());
-        let bytes = whole(b"\xdf\x65");
-        let put = put_remainder_object(&mut Output::new(&mut line), view, &AT_END, which, &bytes);
+        let item = ShownItem::Remainder(which, whole(b"\xdf\x65"));
+        let put = put_entry(
+            &mut Output::new(&mut line),
+            Format::Json,
+            view,
+            &AT_END,
+            &item,
+        );
         assert_eq!(rt; put, Ok(()));
-        let members = [("/type", kind), ("/bytes", "2"), ("/hex", "\"df65\"")];
-        expect_object(&rt, rt.alloc(), line.as_slice(), 6, &members);
+        expect_object(&rt, rt.alloc(), line.as_slice(), expected);
     }
 }
 
 #[test]
-fn an_end_mark_and_a_comment(rt: HostRuntime) {
+fn an_end_mark(rt: HostRuntime) {
     let mut line = Vec::new(rt.alloc());
-    let put = put_end_object(&mut Output::new(&mut line), &IN_LINE);
+    let put = put_end_as(&mut Output::new(&mut line), Format::Json, &IN_LINE);
     assert_eq!(rt; put, Ok(()));
-    let members = [("/type", "\"end\""), ("/offset", "3")];
-    expect_object(&rt, rt.alloc(), line.as_slice(), 5, &members);
-    for (text, key, shown) in [
-        (b"# \"reset\"".as_slice(), "/text", "\" \\\"reset\\\"\""),
-        (b"#\\xe9".as_slice(), "/text", "\"\\\\xe9\""),
-        (b"#\xe9\\".as_slice(), "/hex", "\"e95c\""),
-        (b"# \xfe".as_slice(), "/hex", "\"20fe\""),
-    ] {
+    let expected = r#"{"type":"end","line":1,"side":"client","time":0.001356,"offset":3}"#;
+    expect_object(&rt, rt.alloc(), line.as_slice(), expected);
+}
+
+/// Comments, and their objects.
+static COMMENTS: [(&[u8], &str); 4] = [
+    (
+        b"# \"reset\"",
+        r#"{"type":"comment","line":2,"text":" \"reset\""}"#,
+    ),
+    (b"#\\xe9", r#"{"type":"comment","line":2,"text":"\\xe9"}"#),
+    (b"#\xe9\\", r#"{"type":"comment","line":2,"hex":"e95c"}"#),
+    (b"# \xfe", r#"{"type":"comment","line":2,"hex":"20fe"}"#),
+];
+
+#[test]
+fn objects_of_comments(rt: HostRuntime) {
+    for (text, expected) in COMMENTS.iter() {
         let mut line = Vec::new(rt.alloc());
-        let put = put_comment_object(&mut Output::new(&mut line), 2, text);
+        let put = put_comment_as(&mut Output::new(&mut line), Format::Json, 2, text);
         assert_eq!(rt; put, Ok(()));
-        let members = [("/type", "\"comment\""), ("/line", "2"), (key, shown)];
-        expect_object(&rt, rt.alloc(), line.as_slice(), 3, &members);
+        expect_object(&rt, rt.alloc(), line.as_slice(), expected);
     }
 }
 
@@ -291,16 +324,17 @@ fn a_frame(rt: HostRuntime) {
         form: Form::Shortest,
         len: 0,
     };
+    let view = ViewLimit::new(48).expect(&rt, "a view");
     let mut line = Vec::new(rt.alloc());
-    let mut output = Output::new(&mut line);
-    let put = put_shown_frame_object(&mut output, Role::Client, &IN_LINE.origin, &head);
+    let item = ShownItem::Frame(head);
+    let put = put_entry(
+        &mut Output::new(&mut line),
+        Format::Json,
+        view,
+        &IN_LINE,
+        &item,
+    );
     assert_eq!(rt; put, Ok(()));
-    let members = [
-        ("/type", "\"frame\""),
-        ("/line", "1"),
-        ("/time", "0.001356"),
-        ("/offset", "3"),
-        ("/opcode", "\"pong\""),
-    ];
-    expect_object(&rt, rt.alloc(), line.as_slice(), 10, &members);
+    let expected = r#"{"type":"frame","line":1,"side":"client","time":0.001356,"offset":3,"fin":true,"opcode":"pong","key":null,"length":0,"form":"shortest"}"#;
+    expect_object(&rt, rt.alloc(), line.as_slice(), expected);
 }

@@ -5,117 +5,21 @@ use std::alloc::{AllocError, Global};
 use std::process::Abort;
 use std::str;
 use wsn_io::Output;
-use wsn_print::{EntryFront, Front, Origin, ShownEvent, ViewLimit, put_comment};
-use wsn_shown_text::{
-    put_comment_object, put_event, put_event_object, put_unfinished, put_unfinished_object,
-};
+use wsn_print::{EntryFront, Format, Origin, ShownEvent, ViewLimit, put_comment};
+use wsn_shown_text::{ShownItem, put_comment_as, put_entry};
 use wsn_wire::{Op, Role};
 
-/// Characters that are escaped, and others whose bytes are like theirs.
-const CHARACTERS: [char; 102] = [
-    '\0',
-    '\n',
-    '\u{1f}',
-    ' ',
-    '!',
-    '"',
-    '#',
-    '[',
-    '\\',
-    ']',
-    '~',
-    '\u{7f}',
-    '\u{80}',
-    '\u{85}',
-    '\u{9b}',
-    '\u{9f}',
-    '\u{a0}',
-    '\u{ac}',
-    '\u{ad}',
-    '\u{ae}',
-    '\u{bf}',
-    '\u{c0}',
-    '\u{34e}',
-    '\u{34f}',
-    '\u{350}',
-    '\u{600}',
-    '\u{61b}',
-    '\u{61c}',
-    '\u{61d}',
-    '\u{63f}',
-    '\u{640}',
-    '\u{115e}',
-    '\u{115f}',
-    '\u{1160}',
-    '\u{1161}',
-    '\u{17b3}',
-    '\u{17b4}',
-    '\u{17b5}',
-    '\u{17b6}',
-    '\u{180b}',
-    '\u{180d}',
-    '\u{180e}',
-    '\u{180f}',
-    '\u{2000}',
-    '\u{200a}',
-    '\u{200b}',
-    '\u{200c}',
-    '\u{200d}',
-    '\u{200e}',
-    '\u{200f}',
-    '\u{2010}',
-    '\u{2027}',
-    '\u{2028}',
-    '\u{202a}',
-    '\u{202e}',
-    '\u{202f}',
-    '\u{205f}',
-    '\u{2060}',
-    '\u{2065}',
-    '\u{2066}',
-    '\u{2069}',
-    '\u{206a}',
-    '\u{206f}',
-    '\u{2070}',
-    '\u{20ac}',
-    '\u{3042}',
-    '\u{3163}',
-    '\u{3164}',
-    '\u{3165}',
-    '\u{4e2d}',
-    '\u{fe00}',
-    '\u{fe0f}',
-    '\u{fefe}',
-    '\u{feff}',
-    '\u{ff01}',
-    '\u{ff9f}',
-    '\u{ffa0}',
-    '\u{ffa1}',
-    '\u{ffef}',
-    '\u{fff0}',
-    '\u{fff8}',
-    '\u{fff9}',
-    '\u{fffd}',
-    '\u{1bc9f}',
-    '\u{1bca0}',
-    '\u{1bca3}',
-    '\u{1bca4}',
-    '\u{1d172}',
-    '\u{1d173}',
-    '\u{1d17a}',
-    '\u{1d17b}',
-    '\u{1f600}',
-    '\u{dffff}',
-    '\u{e0000}',
-    '\u{e0001}',
-    '\u{e00ff}',
-    '\u{e0100}',
-    '\u{e01ef}',
-    '\u{e01f0}',
-    '\u{e0fff}',
-    '\u{e1000}',
-    '\u{10ffff}',
-];
+/// A hundred and two characters: those that are escaped, and others whose bytes are like theirs.
+const CHARACTERS: &str = "\
+    \0\n\u{1f} !\"#[\\]~\u{7f}\u{80}\u{85}\u{9b}\u{9f}\u{a0}\u{ac}\u{ad}\u{ae}\u{bf}\u{c0}\u{34e}\
+    \u{34f}\u{350}\u{600}\u{61b}\u{61c}\u{61d}\u{63f}\u{640}\u{115e}\u{115f}\u{1160}\u{1161}\
+    \u{17b3}\u{17b4}\u{17b5}\u{17b6}\u{180b}\u{180d}\u{180e}\u{180f}\u{2000}\u{200a}\u{200b}\
+    \u{200c}\u{200d}\u{200e}\u{200f}\u{2010}\u{2027}\u{2028}\u{202a}\u{202e}\u{202f}\u{205f}\
+    \u{2060}\u{2065}\u{2066}\u{2069}\u{206a}\u{206f}\u{2070}\u{20ac}\u{3042}\u{3163}\u{3164}\
+    \u{3165}\u{4e2d}\u{fe00}\u{fe0f}\u{fefe}\u{feff}\u{ff01}\u{ff9f}\u{ffa0}\u{ffa1}\u{ffef}\
+    \u{fff0}\u{fff8}\u{fff9}\u{fffd}\u{1bc9f}\u{1bca0}\u{1bca3}\u{1bca4}\u{1d172}\u{1d173}\
+    \u{1d17a}\u{1d17b}\u{1f600}\u{dffff}\u{e0000}\u{e0001}\u{e00ff}\u{e0100}\u{e01ef}\u{e01f0}\
+    \u{e0fff}\u{e1000}\u{10ffff}";
 
 /// Adds a character as it is written: a hidden one as `\u` and four digits, or as two surrogates, and a backslash, or a
 /// quotation mark of a quoted text, after a backslash.
@@ -191,10 +95,8 @@ fn whole(bytes: &[u8]) -> &str {
 /// Fails unless a comment is written as it should be, in words and as an object, which is read as JSON with this text.
 fn expect_comment(rt: &impl Abort, alloc: Global, text: &str) {
     let mut line = Vec::new(alloc);
-    assert_eq!(rt;
-        put_comment(&mut Output::new(&mut line), text.as_bytes()),
-        Ok(())
-    );
+    let put = put_comment(&mut Output::new(&mut line), text.as_bytes());
+    assert_eq!(rt; put, Ok(()));
     let expected = written(alloc, b"", text, false, b"\n").expect(rt, "memory");
     assert_eq!(rt; line.as_slice(), expected.as_slice());
     let mut object = Vec::new(alloc);
@@ -203,13 +105,50 @@ fn expect_comment(rt: &impl Abort, alloc: Global, text: &str) {
         .extend_from_slice(text.as_bytes())
         .expect(rt, "memory");
     assert_eq!(rt;
-        put_comment_object(&mut Output::new(&mut object), 7, comment.as_slice()),
+        put_comment_as(
+            &mut Output::new(&mut object),
+            Format::Json,
+            7,
+            comment.as_slice()
+        ),
         Ok(())
     );
     let front = b"{\"type\":\"comment\",\"line\":7,\"text\":\"";
     let expected = written(alloc, front, text, true, b"\"}\n").expect(rt, "memory");
     assert_eq!(rt; object.as_slice(), expected.as_slice(), "{text}");
     expect_text(rt, alloc, object.as_slice(), "/text", text);
+}
+
+/// In a stream of a server, at its first byte.
+const FRONT: EntryFront<'static> = EntryFront {
+    role: Role::Server,
+    origin: Origin::Stream,
+    offset: 0,
+};
+
+/// A text of which these bytes have come, in one frame.
+fn event_of(bytes: &[u8]) -> ShownEvent<'_> {
+    ShownEvent {
+        op: Op::Text,
+        bytes: bytes.len() as u64,
+        frames: 1,
+        held: bytes,
+    }
+}
+
+/// What follows a quoted text in its line, and in its object.
+fn ends(is_cut: bool) -> (&'static [u8], &'static [u8]) {
+    if is_cut {
+        (b"\" ..\n", b"\",\"truncated\":true}\n")
+    } else {
+        (b"\"\n", b"\"}\n")
+    }
+}
+
+/// Fails unless a line ends with a text, as it is quoted, between these two others.
+fn expect_quoted(rt: &impl Abort, alloc: Global, line: &[u8], text: &str, around: (&[u8], &[u8])) {
+    let expected = written(alloc, around.0, text, true, around.1).expect(rt, "memory");
+    assert!(rt; line.ends_with(expected.as_slice()), "{text}");
 }
 
 /// Fails unless at most this many bytes of a message's text are written as they should be, in words and as an object.
@@ -224,14 +163,21 @@ fn expect_view(rt: &impl Abort, alloc: Global, text: &str, most: u16) {
         held: bytes,
     };
     let is_cut = shown.len() < bytes.len();
-    let front = Front {
+    let front = EntryFront {
         role: Role::Server,
-        time: None,
+        origin: Origin::Stream,
         offset: 0,
     };
+    let item = ShownItem::Event(event);
     let mut line = Vec::new(alloc);
     assert_eq!(rt;
-        put_event(&mut Output::new(&mut line), view, &front, &event),
+        put_entry(
+            &mut Output::new(&mut line),
+            Format::Text,
+            view,
+            &front,
+            &item
+        ),
         Ok(())
     );
     let end: &[u8] = if is_cut { b"\" ..\n" } else { b"\"\n" };
@@ -241,14 +187,15 @@ fn expect_view(rt: &impl Abort, alloc: Global, text: &str, most: u16) {
         is_dash || line.as_slice().ends_with(expected.as_slice()),
         "{text} {most}"
     );
-    let front = EntryFront {
-        role: Role::Server,
-        origin: Origin::Stream,
-        offset: 0,
-    };
     let mut object = Vec::new(alloc);
     assert_eq!(rt;
-        put_event_object(&mut Output::new(&mut object), view, &front, &event),
+        put_entry(
+            &mut Output::new(&mut object),
+            Format::Json,
+            view,
+            &front,
+            &item
+        ),
         Ok(())
     );
     let end: &[u8] = if is_cut {
@@ -267,7 +214,7 @@ fn expect_view(rt: &impl Abort, alloc: Global, text: &str, most: u16) {
 /// as an object.
 fn expect_unfinished(rt: &impl Abort, alloc: Global, text: &str, count: usize) {
     let view = ViewLimit::new(4_096).expect(rt, "a view of at most 4096 bytes");
-    let bytes = text.as_bytes().get(..count).expect(rt, "so many bytes");
+    let bytes = text.as_bytes().get(..count).expect(rt, "enough bytes");
     let shown = whole(bytes);
     let event = ShownEvent {
         op: Op::Text,
@@ -281,14 +228,15 @@ fn expect_unfinished(rt: &impl Abort, alloc: Global, text: &str, count: usize) {
         origin: Origin::Stream,
         offset: 0,
     };
+    let item = ShownItem::Unfinished(event, Some(7));
     let mut line = Vec::new(alloc);
     assert_eq!(rt;
-        put_unfinished(
+        put_entry(
             &mut Output::new(&mut line),
+            Format::Text,
             view,
-            &front.of_line(),
-            &event,
-            Some(7)
+            &front,
+            &item
         ),
         Ok(())
     );
@@ -300,7 +248,13 @@ fn expect_unfinished(rt: &impl Abort, alloc: Global, text: &str, count: usize) {
     );
     let mut object = Vec::new(alloc);
     assert_eq!(rt;
-        put_unfinished_object(&mut Output::new(&mut object), view, &front, &event, Some(7)),
+        put_entry(
+            &mut Output::new(&mut object),
+            Format::Json,
+            view,
+            &front,
+            &item
+        ),
         Ok(())
     );
     let end: &[u8] = if is_cut {
@@ -334,7 +288,7 @@ fn text_with(alloc: Global, before: usize, c: char) -> Result<String, AllocError
 #[test]
 fn each_character_at_each_place(rt: HostRuntime) {
     let alloc = rt.alloc();
-    for c in CHARACTERS {
+    for c in CHARACTERS.chars() {
         for before in 0..=40usize {
             let text = text_with(alloc, before, c).expect(&rt, "memory");
             expect_comment(&rt, alloc, text.as_str());
@@ -346,17 +300,29 @@ fn each_character_at_each_place(rt: HostRuntime) {
 /// All characters, cut after each byte.
 #[test]
 fn all_characters_cut_at_each_byte(rt: HostRuntime) {
-    let alloc = rt.alloc();
-    let mut text = String::new(alloc);
-    for c in CHARACTERS {
-        text.push(c).expect(&rt, "memory");
-    }
     for most in 0..=316u16 {
-        expect_view(&rt, alloc, text.as_str(), most);
+        expect_view(&rt, rt.alloc(), CHARACTERS, most);
     }
-    for count in 0..=text.len() {
-        expect_unfinished(&rt, alloc, text.as_str(), count);
+    for count in 0..=CHARACTERS.len() {
+        expect_unfinished(&rt, rt.alloc(), CHARACTERS, count);
     }
+}
+
+/// A text of `count` random characters, of which `letters` in `102 + letters` are the letter a. The state is that of a
+/// generator (Numerical Recipes' constants).
+fn random_text(
+    alloc: Global,
+    state: &mut u32,
+    count: usize,
+    letters: u8,
+) -> Result<String, AllocError> {
+    let mut text = String::new(alloc);
+    for _ in 0..count {
+        *state = state.wrapping_mul(1_664_525).wrapping_add(1_013_904_223);
+        let which = (*state >> 16) as usize % (102 + usize::from(letters));
+        text.push(CHARACTERS.chars().nth(which).unwrap_or('a'))?;
+    }
+    Ok(text)
 }
 
 /// Random texts of up to 99 characters, of which half are letters.
@@ -365,13 +331,7 @@ fn random_texts(rt: HostRuntime) {
     let alloc = rt.alloc();
     let mut state = 1u32;
     for round in 0..1_000usize {
-        let mut text = String::new(alloc);
-        for _ in 0..round % 100 {
-            state = state.wrapping_mul(1_664_525).wrapping_add(1_013_904_223);
-            let which = (state >> 16) as usize % 204;
-            text.push(CHARACTERS.get(which).copied().unwrap_or('a'))
-                .expect(&rt, "memory");
-        }
+        let text = random_text(alloc, &mut state, round % 100, 102).expect(&rt, "memory");
         expect_comment(&rt, alloc, text.as_str());
         expect_view(&rt, alloc, text.as_str(), 4_096);
         expect_view(&rt, alloc, text.as_str(), 48);
@@ -384,13 +344,7 @@ fn random_texts_cut_at_each_byte(rt: HostRuntime) {
     let alloc = rt.alloc();
     let mut state = 2u32;
     for round in 0..400usize {
-        let mut text = String::new(alloc);
-        for _ in 0..round % 20 {
-            state = state.wrapping_mul(1_664_525).wrapping_add(1_013_904_223);
-            let which = (state >> 16) as usize % 127;
-            text.push(CHARACTERS.get(which).copied().unwrap_or('a'))
-                .expect(&rt, "memory");
-        }
+        let text = random_text(alloc, &mut state, round % 20, 25).expect(&rt, "memory");
         for count in 0..=text.len() {
             let most = u16::try_from(count).expect(&rt, "a short text");
             expect_view(&rt, alloc, text.as_str(), most);

@@ -5,7 +5,7 @@ use Rattle.std.proofs.lemmas.Result.{err_from_is_err_and}
 use Rattle.wsn_io.specs.Transfer.{Outgoing}
 use Rattle.wsn_rules.specs.Limits.{Limits}
 use Rattle.wsn_capture.proofs.ChunkPrefixes.{taken_more, room_for_line}
-use Rattle.wsn_capture.specs.SplitLines.{EndsLine}
+use Rattle.wsn_capture.specs.LineSplitters.{EndsLine}
 use Rattle.wsn_redact.specs.declared.capture_redacting.RedactStop.{RedactStop}
 use Rattle.wsn_redact.specs.PassedRedactions.{HasWritten, StopsWithin}
 use Rattle.wsn_redact.proofs.PassedRedactions.{rest_is, written_on, stops_in, written_in, stops_in_rest}

@@ -9,7 +9,7 @@ use Rattle.wsn_capture.proofs.ChunkPrefixes.{taken_more, room_for_line}
 use Rattle.wsn_print.specs.declared.style.Style.{Style}
 use Rattle.wsn_show.specs.declared.showing.ShowStop.{ShowStop}
 use Rattle.wsn_show.specs.PassedLines.{HasPrinted, StopsWithin}
-use Rattle.wsn_capture.specs.SplitLines.{EndsLine}
+use Rattle.wsn_capture.specs.LineSplitters.{EndsLine}
 use Rattle.wsn_show.proofs.PassedChunks.{printed_on, stops_in, printed_in, stops_in_rest}
 use Rattle.wsn_show.proofs.showing.show_lines.Goals as goal
 

@@ -1,7 +1,7 @@
 use Rattle.std.proofs.Common.{◌∷◌, [], ◌++◌, sym, subst}
 use Rattle.wsn_wire.specs.declared.endpoint.Role.{Role}
 use Rattle.wsn_rules.specs.Entries.Entry.{Bytes}
-use Rattle.wsn_redact.specs.CaptureRedactors.{AreStreams}
+use Rattle.wsn_redact.specs.PassedRedactions.{AreStreams}
 use Rattle.wsn_redact.proofs.RedactedLines.{client_bytes, server_bytes}
 use Rattle.wsn_redact.proofs.capture_redactor.CaptureRedactor.redact_bytes.Goals as goal
 

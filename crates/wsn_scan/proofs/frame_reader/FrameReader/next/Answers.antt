@@ -6,8 +6,7 @@ use Rattle.wsn_rules.specs.declared.verdict.Verdict.{Verdict}
 use Rattle.wsn_io.specs.declared.stop.Stop.{Stop}
 use Rattle.wsn_scan.specs.Positions.{Position}
 use Rattle.wsn_scan.specs.FrameReaders.{HasTaken}
-use Rattle.wsn_scan.specs.ReadParts.{ReadsOn}
-use Rattle.wsn_scan.specs.ReaderSteps.{IsFilled}
+use Rattle.wsn_scan.specs.ReadParts.{ReadsOn, IsFilled}
 use Rattle.wsn_scan.specs.Scans.{room_of}
 use Rattle.wsn_scan.specs.ChunkReaders.{chunks_ahead}
 use Rattle.wsn_scan.specs.declared.chunk_reader.ChunkReader.{ChunkReader}

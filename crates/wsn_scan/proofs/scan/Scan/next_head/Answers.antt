@@ -2,8 +2,7 @@
 use Rattle.std.proofs.Common.{◌≡◌, ◌≢◌, ◌-◌, ◌≤◌, ℕ, List, [], ◌++◌, length, take, inl, inr, refl, sym, ap, ◌∙◌, subst, length-append, arith, rules}
 use Rattle.std.proofs.lemmas.List.{length-take-le}
 use Rattle.wsn_frame.specs.declared.parsing.Parsed.{Parsed}
-use Rattle.wsn_frame.specs.EvidentLast.{IsEvidentLast}
-use Rattle.wsn_frame.specs.PartialHeads.{IsHeadSoFar, IsHead, IsParsed, IsWithin}
+use Rattle.wsn_frame.specs.PartialHeads.{IsEvidentLast, IsHeadSoFar, IsHead, IsParsed, IsWithin}
 use Rattle.wsn_rules.specs.Group.{unfinished}
 use Rattle.wsn_rules.specs.Heads.{BeginsWithHead}
 use Rattle.wsn_rules.specs.declared.head_info.HeadInfo.{HeadInfo}

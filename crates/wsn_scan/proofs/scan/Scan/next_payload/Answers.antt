@@ -5,11 +5,10 @@ use Rattle.std.proofs.lemmas.List.{length-take-le, take-take}
 use Rattle.wsn_wire.specs.Frame.{first_byte, stream}
 use Rattle.wsn_wire.proofs.FrameLemmas.{first_byte_fields}
 use Rattle.wsn_rules.specs.Group.{unfinished}
-use Rattle.wsn_rules.specs.NoEvidence.{HasNoEvidence}
-use Rattle.wsn_frame.specs.EvidentLast.{IsEvidentLast}
+use Rattle.wsn_rules.specs.Evidence.{HasNoEvidence}
+use Rattle.wsn_frame.specs.PartialHeads.{IsEvidentLast, info_at}
 use Rattle.wsn_frame.specs.PayloadChecks.{IsChecked}
 use Rattle.wsn_frame.specs.Payloads.{unmasked_by}
-use Rattle.wsn_frame.specs.PartialHeads.{info_at}
 use Rattle.wsn_rules.specs.Heads.{IsBegun}
 use Rattle.wsn_scan.specs.Positions.{Position, begun_at}
 use Rattle.wsn_scan.specs.Parts.{IsPart}

@@ -5,9 +5,9 @@ use Rattle.wsn_io.specs.Transfer.{IsWrittenUpToFailure}
 use Rattle.wsn_rules.specs.Sides.{has_ended, sent}
 use Rattle.wsn_print.specs.ShownParts.{EntryPosition}
 use Rattle.wsn_print.specs.ShownParts.EntryPosition.{AtEnd}
-use Rattle.wsn_show.specs.LastTimes.{last_time}
+use Rattle.wsn_show.specs.EndNotes.{last_time}
 use Rattle.wsn_show.specs.Styles.{styled_items}
-use Rattle.wsn_show.specs.StreamViews.{HasViewed}
+use Rattle.wsn_show.specs.ShownSoFar.{HasViewed}
 use Rattle.wsn_show.proofs.capture_view.CaptureView.put_left_at_end.Goals as goal
 
 pub returns-then-has_ended : goal.returns-then-has_ended

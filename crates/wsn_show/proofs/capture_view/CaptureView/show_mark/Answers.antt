@@ -3,7 +3,7 @@ use Rattle.wsn_wire.specs.declared.endpoint.Role.{Role}
 use Rattle.wsn_wire.specs.declared.endpoint.Role.TheVariants.{Client, Server}
 use Rattle.wsn_rules.specs.Sides.{sent}
 use Rattle.wsn_print.specs.ShownParts.{EntryPosition}
-use Rattle.wsn_show.specs.StreamViews.{HasViewed}
+use Rattle.wsn_show.specs.ShownSoFar.{HasViewed}
 use Rattle.wsn_show.specs.CaptureViews.{IsAcceptedText, line_position, ShowsText, ShowsMark}
 use Rattle.wsn_show.proofs.ShownEntries.{shows_mark}
 use Rattle.wsn_rules.specs.Entries.{end_mark}

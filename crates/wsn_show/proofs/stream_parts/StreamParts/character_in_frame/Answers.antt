@@ -2,9 +2,8 @@ use Rattle.std.proofs.Common.{rules, ◌≡◌, ℕ, ◌+◌, ◌-◌, ◌<◌, 
 use Rattle.std.specs.Prelude.{is_some}
 use Rattle.std.proofs.lemmas.List.{length-map}
 use Rattle.wsn_wire.specs.declared.refusal.Reason.TheVariants.{TextBad}
-use Rattle.wsn_rules.specs.BadCharacter.{payload_offset, last_of, open_payload, message_payload, earlier_end, bad_character}
+use Rattle.wsn_rules.specs.BadCharacter.{payload_offset, last_of, open_payload, message_payload, earlier_end, bad_character, PlacedByte, placed}
 use Rattle.wsn_rules.specs.Group.{unfinished, payload_of}
-use Rattle.wsn_rules.specs.PlacedByte.{PlacedByte, placed}
 use Rattle.wsn_rules.proofs.OpenPayloads.{payload_so_far}
 use Rattle.wsn_text.specs.Utf8.{IsFirstBad}
 use Rattle.wsn_scan.specs.Positions.{Position, BetweenFrames, InFrame}

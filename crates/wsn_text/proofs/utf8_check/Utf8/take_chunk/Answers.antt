@@ -3,8 +3,7 @@ use Rattle.std.proofs.Math.Seq.{take-length}
 use Rattle.std.proofs.lemmas.List.{take-append-drop}
 use Rattle.std.proofs.lemmas.Result.{err_from_is_err_and}
 use Rattle.std.specs.Result.{MatchResult}
-use Rattle.wsn_text.specs.Chunk.{Validates, Breaks}
-use Rattle.wsn_text.specs.Rest.{Follows}
+use Rattle.wsn_text.specs.Validated.{Validates, Breaks, Follows}
 use Rattle.wsn_text.proofs.Taking.{Shifted, answers_part, answers_before, takes_nothing}
 use Rattle.wsn_text.proofs.utf8_check.Utf8.take_chunk.Goals as goal
 

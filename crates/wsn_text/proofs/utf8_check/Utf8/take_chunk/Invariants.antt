@@ -1,6 +1,5 @@
 use Rattle.std.proofs.Common.{ℕ, ◌-◌, ◌<◌, List, length, take}
-use Rattle.wsn_text.specs.Rest.{Follows}
-use Rattle.wsn_text.specs.Chunk.{Validates}
+use Rattle.wsn_text.specs.Validated.{Follows, Validates}
 use Rattle.wsn_text.proofs.utf8_check.Utf8.take_chunk.Given as goal
 
 -- The bytes before `at` are validated, and more follow.

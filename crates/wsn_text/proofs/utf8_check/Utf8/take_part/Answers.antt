@@ -1,8 +1,7 @@
 use Rattle.std.proofs.Common.{◌≡◌, ℕ, ◌↔◌, List, [], ◌∷◌, ◌++◌, Option, Some, length, sym, ◌∙◌, subst, ap, append-nil, eqb-true, arith, rules}
 use Rattle.std.proofs.lemmas.List.{drop_all}
-use Rattle.wsn_text.specs.Chunk.{Validates}
+use Rattle.wsn_text.specs.Validated.{Validates, Follows}
 use Rattle.wsn_text.specs.Utf8.{Range, IsText}
-use Rattle.wsn_text.specs.Rest.{Follows}
 use Rattle.wsn_text.proofs.Rests.{text-nil}
 use Rattle.wsn_text.proofs.Taking.{Shifted, answers_after, takes_end}
 use Rattle.wsn_text.proofs.utf8_check.Utf8.take_part.Goals as goal
