@@ -1,13 +1,9 @@
 -- The numbers by which options name roles, formats, encodings of a length, what is shown, and flags.
 use Rattle.std.specs.Prelude.{ℕ, Bool, false, true}
-use Rattle.wsn_wire.specs.declared.endpoint.Role.{Role}
-use Rattle.wsn_wire.specs.declared.endpoint.Role.TheVariants.{Client, Server}
-use Rattle.wsn_wire.specs.declared.length_forms.Lengths.{Lengths}
-use Rattle.wsn_wire.specs.declared.length_forms.Lengths.TheVariants.{Shortest, Any}
-use Rattle.wsn_rules.specs.declared.detail.Detail.{Detail}
-use Rattle.wsn_rules.specs.declared.detail.Detail.TheVariants.{Events, Frames}
-use Rattle.wsn_print.specs.declared.format.Format.{Format}
-use Rattle.wsn_print.specs.declared.format.Format.TheVariants.{Text, Json}
+use Rattle.wsn_wire.specs.declared.endpoint.Role.{Role, TheVariants.{Client, Server}}
+use Rattle.wsn_wire.specs.declared.length_forms.Lengths.{Lengths, TheVariants.{Shortest, Any}}
+use Rattle.wsn_rules.specs.declared.detail.Detail.{Detail, TheVariants.{Events, Frames}}
+use Rattle.wsn_print.specs.declared.format.Format.{Format, TheVariants.{Text, Json}}
 
 abbrev pub role_number : Role → ℕ
 role_number Client = 0

@@ -2,15 +2,13 @@
 use Rattle.std.specs.Prelude.{◌≡◌, ◌≤◌, ◌⊎◌, ◌++◌, ℕ, Bool, List, [], Option, None, Some, Result, Ok, Err, length, codes, decimal}
 use Rattle.std.specs.declared.alloc.Global.{Global}
 use Rattle.wsn_rules.specs.declared.step.Step.{Step}
-use Rattle.wsn_command.specs.declared.job.Job.{Job}
-use Rattle.wsn_command.specs.declared.job.Job.TheVariants.{Recut}
+use Rattle.wsn_command.specs.declared.job.Job.{Job, TheVariants.{Recut}}
 use Rattle.wsn_command.specs.declared.job.How.TheVariants.{ByPlan, BySize}
 use Rattle.wsn_command.specs.Jobs.{key_by_size}
 use Rattle.wsn_plan_text.specs.PlanText.{IsReadPlan}
 use Rattle.wsn_plan_text.specs.declared.plan_fault.PlanFault.{PlanFault}
 use Rattle.wsn_plan_text.specs.declared.plan_fault.PlanFault.TheVariants as fault
-use Rattle.wsn_plan_text.specs.declared.plan_fault.LineWhy.{LineWhy}
-use Rattle.wsn_plan_text.specs.declared.plan_fault.LineWhy.TheVariants.{BadForm, BadNumber, BadKey, BadLength}
+use Rattle.wsn_plan_text.specs.declared.plan_fault.LineWhy.{LineWhy, TheVariants.{BadForm, BadNumber, BadKey, BadLength}}
 use Rattle.wsn_c.specs.declared.options.Options.{Options}
 use Rattle.wsn_c.specs.declared.options.Asked.{Asked}
 use Rattle.wsn_c.specs.Asking.{AreInRange, IsAsked}

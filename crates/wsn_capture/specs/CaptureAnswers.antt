@@ -8,8 +8,7 @@ use Rattle.wsn_rules.specs.Limits.{Limits}
 use Rattle.wsn_capture.specs.declared.line_fault.LineFault.{LineFault}
 use Rattle.wsn_rules.specs.declared.report.Report.{Report}
 use Rattle.wsn_capture.specs.declared.capture_report.CaptureReport.{CaptureReport}
-use Rattle.wsn_capture.specs.declared.capture_stop.CaptureStop.{CaptureStop}
-use Rattle.wsn_capture.specs.declared.capture_stop.CaptureStop.TheVariants.{Read, Line}
+use Rattle.wsn_capture.specs.declared.capture_stop.CaptureStop.{CaptureStop, TheVariants.{Read, Line}}
 use Rattle.wsn_rules.specs.TextLines.{IsLine, ended, AreLines}
 use Rattle.wsn_rules.specs.Entries.{Entry}
 use Rattle.wsn_capture.specs.LineFaults.{AreAcceptedLines, IsFaultAfter}

@@ -1,10 +1,8 @@
 -- What the state of a capture's lines says of the lines that were accepted.
 use Rattle.std.specs.Prelude.{◌≡◌, ℕ, ◌+◌, ◌-◌, ◌<◌, ◌≤◌, ⊤, Option, None, IsSome, Ok, List, ◌∷◌, [], ◌++◌, length}
-use Rattle.wsn_wire.specs.declared.endpoint.Role.{Role}
-use Rattle.wsn_wire.specs.declared.endpoint.Role.TheVariants.{Client, Server}
+use Rattle.wsn_wire.specs.declared.endpoint.Role.{Role, TheVariants.{Client, Server}}
 use Rattle.wsn_wire.specs.Frame.{Frame}
-use Rattle.wsn_rules.specs.declared.verdict.Verdict.{Verdict}
-use Rattle.wsn_rules.specs.declared.verdict.Verdict.TheVariants.{Refused}
+use Rattle.wsn_rules.specs.declared.verdict.Verdict.{Verdict, TheVariants.{Refused}}
 use Rattle.wsn_rules.specs.Limits.{Limits}
 use Rattle.wsn_rules.specs.Verdict.{IsVerdict}
 use Rattle.wsn_rules.specs.Entries.{Entry, without_cr}

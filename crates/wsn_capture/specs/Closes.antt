@@ -1,7 +1,6 @@
 -- Whether a stream has a Close, and in which line it ends.
 use Rattle.std.specs.Prelude.{ℕ, nat_lt, Bool, true, false, Option, None, Some, if◌then◌else◌, List}
-use Rattle.wsn_wire.specs.declared.endpoint.Role.{Role}
-use Rattle.wsn_wire.specs.declared.endpoint.Role.TheVariants.{Client, Server}
+use Rattle.wsn_wire.specs.declared.endpoint.Role.{Role, TheVariants.{Client, Server}}
 use Rattle.wsn_wire.specs.Frame.{Frame}
 use Rattle.wsn_rules.specs.Limits.{Limits}
 use Rattle.wsn_rules.specs.Accepted.{IsAccepted, EndsWithClose}

@@ -2,8 +2,7 @@
 use Rattle.std.specs.Prelude.{◌≡◌, ℕ, ◌+◌, ◌<◌, ◌≤◌, ◌⊎◌, true, List, [], ◌∷◌, ◌++◌, length, codes}
 use Rattle.wsn_wire.specs.declared.endpoint.Role.{Role}
 use Rattle.wsn_rules.specs.Limits.{Limits}
-use Rattle.wsn_capture.specs.declared.line_fault.LineFault.{LineFault}
-use Rattle.wsn_capture.specs.declared.line_fault.LineFault.TheVariants.{TooManyLines, TooLong, BadForm, BadHex, AfterEnd, InputLimit}
+use Rattle.wsn_capture.specs.declared.line_fault.LineFault.{LineFault, TheVariants.{TooManyLines, TooLong, BadForm, BadHex, AfterEnd, InputLimit}}
 use Rattle.wsn_rules.specs.Entries.{without_cr, Entry, IsHex, GivesEntry, bytes_prefix, end_mark}
 use Rattle.wsn_rules.specs.Entries.Entry.{Nothing, Bytes}
 use Rattle.wsn_rules.specs.Sides.{sent, has_ended}

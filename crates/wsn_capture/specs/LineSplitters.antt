@@ -2,8 +2,7 @@
 use Rattle.std.specs.Prelude.{◌≡◌, ℕ, suc, ◌+◌, ◌-◌, ◌*◌, ◌<◌, ◌≤◌, ◌⊎◌, List, [], ◌∷◌, ◌++◌, length, take}
 use Rattle.std.specs.List.{AllByRecursion}
 use Rattle.wsn_rules.specs.Limits.{Limits}
-use Rattle.wsn_capture.specs.declared.capture_stop.CaptureStop.{CaptureStop}
-use Rattle.wsn_capture.specs.declared.capture_stop.CaptureStop.TheVariants.{Read, Line}
+use Rattle.wsn_capture.specs.declared.capture_stop.CaptureStop.{CaptureStop, TheVariants.{Read, Line}}
 use Rattle.wsn_capture.specs.declared.capture_lines.CaptureLines.{CaptureLines}
 use Rattle.wsn_capture.specs.declared.line_splitter.LineSplitter.{LineSplitter}
 use Rattle.wsn_rules.specs.TextLines.{IsLine, ended}

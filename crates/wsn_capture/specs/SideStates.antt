@@ -2,8 +2,7 @@
 use Rattle.std.specs.Prelude.{◌≡◌, ℕ, ◌+◌, ◌-◌, ◌*◌, Bool, if◌then◌else◌, nat_lt, Option, None, Some, List, [], ◌∷◌, ◌++◌, length, slice_range}
 use Rattle.std.specs.Option.{option_map}
 use Rattle.wsn_rules.specs.TextLines.{lines_of}
-use Rattle.wsn_capture.specs.declared.capture_stop.CaptureStop.{CaptureStop}
-use Rattle.wsn_capture.specs.declared.capture_stop.CaptureStop.TheVariants.{Read, Line}
+use Rattle.wsn_capture.specs.declared.capture_stop.CaptureStop.{CaptureStop, TheVariants.{Read, Line}}
 use Rattle.wsn_capture.specs.declared.side_bytes.FaultyLine.{FaultyLine}
 use Rattle.wsn_capture.specs.declared.side_bytes.SideBytes.{SideBytes}
 use Rattle.wsn_capture.specs.declared.side_lines.SideLines.{SideLines}

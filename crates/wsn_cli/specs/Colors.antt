@@ -3,8 +3,7 @@ use Rattle.std.specs.Prelude.{◌≡◌, ◌↔◌, Option, None, Some, codes, o
 use Rattle.clap.specs.Words.{first_value}
 use Rattle.clap.specs.declared.parser.matches.Found.{Found}
 use Rattle.wsn_color.specs.Choices.{paints}
-use Rattle.wsn_color.specs.declared.choice.ColorChoice.{ColorChoice}
-use Rattle.wsn_color.specs.declared.choice.ColorChoice.TheVariants.{Always, Never}
+use Rattle.wsn_color.specs.declared.choice.ColorChoice.{ColorChoice, TheVariants.{Always, Never}}
 use Rattle.wsn_color.specs.declared.choice.Terminal.{Terminal}
 use Rattle.wsn_color.specs.declared.layout.Layout.{Layout}
 use Rattle.wsn_color.specs.declared.layout.Layout.TheVariants as layouts
@@ -13,8 +12,7 @@ use Rattle.wsn_print.specs.declared.format.Format.TheVariants as formats
 use Rattle.wsn_command.specs.declared.job.Job.{Job}
 use Rattle.wsn_cli.specs.Requests.{job_format}
 use Rattle.wsn_cli.specs.declared.request.Asked.{Asked}
-use Rattle.wsn_cli.specs.declared.request.Request.{Request}
-use Rattle.wsn_cli.specs.declared.request.Request.TheVariants.{Run, Closings, Help}
+use Rattle.wsn_cli.specs.declared.request.Request.{Request, TheVariants.{Run, Closings, Help}}
 
 -- The choice of --color; without it, colours on a terminal.
 pub record IsReadColor (found : Found) (color : ColorChoice) : Type 0 where

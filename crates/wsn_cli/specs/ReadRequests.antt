@@ -3,8 +3,7 @@ use Rattle.std.specs.Prelude.{◌≡◌, ◌≢◌, ◌↔◌, ℕ, Bool, true, 
 use Rattle.hex.specs.Hex.{decode_sized}
 use Rattle.clap.specs.Words.{first_value, matched_of, one_text}
 use Rattle.clap.specs.declared.parser.matches.Found.{Found}
-use Rattle.wsn_wire.specs.declared.endpoint.Role.{Role}
-use Rattle.wsn_wire.specs.declared.endpoint.Role.TheVariants.{Server}
+use Rattle.wsn_wire.specs.declared.endpoint.Role.{Role, TheVariants.{Server}}
 use Rattle.wsn_wire.specs.declared.length_forms.Lengths.TheVariants.{Any}
 use Rattle.wsn_rules.specs.Limits.{Limits}
 use Rattle.wsn_rules.specs.declared.detail.Detail.TheVariants as details
@@ -13,15 +12,12 @@ use Rattle.wsn_print.specs.declared.format.Format.TheVariants as formats
 use Rattle.wsn_print.specs.declared.style.Style.{Style}
 use Rattle.wsn_command.specs.Jobs.{job_role, key_by_size}
 use Rattle.wsn_command.specs.declared.comparison.Comparison.{Comparison}
-use Rattle.wsn_command.specs.declared.job.How.{How}
-use Rattle.wsn_command.specs.declared.job.How.TheVariants.{ByPlan, BySize}
-use Rattle.wsn_command.specs.declared.job.Job.{Job}
-use Rattle.wsn_command.specs.declared.job.Job.TheVariants.{ShowStream, Show, Redact, RedactCapture}
+use Rattle.wsn_command.specs.declared.job.How.{How, TheVariants.{ByPlan, BySize}}
+use Rattle.wsn_command.specs.declared.job.Job.{Job, TheVariants.{ShowStream, Show, Redact, RedactCapture}}
 use Rattle.wsn_cli.specs.Inputs.{AreInputsNamed, IsInputNamed}
 use Rattle.wsn_cli.specs.Options.{AreLeftOut, IsAsked, IsAskedMaximum, words_of}
 use Rattle.wsn_cli.specs.Requests.{job_at, job_format, job_how, job_limits, job_name, job_style}
-use Rattle.wsn_cli.specs.declared.request.Request.{Request}
-use Rattle.wsn_cli.specs.declared.request.Request.TheVariants.{Run, RecutBy, Same, Closings, Help}
+use Rattle.wsn_cli.specs.declared.request.Request.{Request, TheVariants.{Run, RecutBy, Same, Closings, Help}}
 
 -- A flag is set exactly if it was given.
 pub record IsReadFlag (text : Option (List ℕ)) (flag : Bool) : Type 0 where

@@ -6,11 +6,9 @@ use Rattle.wsn_print.specs.declared.format.Format.{Format}
 use Rattle.wsn_print.specs.declared.style.Style.{Style}
 use Rattle.wsn_command.specs.Jobs.{MayRun, job_role}
 use Rattle.wsn_command.specs.declared.job.How.{How}
-use Rattle.wsn_command.specs.declared.job.Job.{Job}
-use Rattle.wsn_command.specs.declared.job.Job.TheVariants.{Judge, Frames, Normal, Redact, Plan, Recut, Payload, ShowStream, Closing, Show, RedactCapture}
+use Rattle.wsn_command.specs.declared.job.Job.{Job, TheVariants.{Judge, Frames, Normal, Redact, Plan, Recut, Payload, ShowStream, Closing, Show, RedactCapture}}
 use Rattle.wsn_cli.specs.Inputs.{AreApart, dashes}
-use Rattle.wsn_cli.specs.declared.request.Request.{Request}
-use Rattle.wsn_cli.specs.declared.request.Request.TheVariants.{Run, RecutBy, Same, Closings, Help}
+use Rattle.wsn_cli.specs.declared.request.Request.{Request, TheVariants.{Run, RecutBy, Same, Closings, Help}}
 
 -- The limits are in range, and the input limit is the greatest: no option changes it.
 pub record AreAskedLimits (limits : Limits) : Type 0 where

@@ -1,18 +1,14 @@
 -- Which hint a run over a capture has, by its answer.
 use Rattle.std.specs.Prelude.{◌≡◌, ◌≢◌, ◌⊎◌, ℕ, Option, None, Some, List, ◌∷◌, [], take}
-use Rattle.wsn_wire.specs.declared.endpoint.Role.{Role}
-use Rattle.wsn_wire.specs.declared.endpoint.Role.TheVariants.{Client, Server}
+use Rattle.wsn_wire.specs.declared.endpoint.Role.{Role, TheVariants.{Client, Server}}
 use Rattle.wsn_rules.specs.declared.verdict.Refusal.{Refusal}
 use Rattle.wsn_rules.specs.declared.verdict.Verdict.TheVariants.{Refused}
 use Rattle.wsn_rules.specs.declared.report.Side.{Side}
 use Rattle.wsn_rules.specs.declared.report.Side.TheVariants as sides
 use Rattle.wsn_capture.specs.declared.refused_line.RefusedLines.{RefusedLines}
-use Rattle.wsn_command.specs.declared.job.Job.{Job}
-use Rattle.wsn_command.specs.declared.job.Job.TheVariants.{Closing, Show}
-use Rattle.wsn_command.specs.declared.answered.Answer.{Answer}
-use Rattle.wsn_command.specs.declared.answered.Answer.TheVariants.{Verdict, Report, FaultyLine, Stopped}
-use Rattle.wsn_hint.specs.declared.hint.Hint.{Hint}
-use Rattle.wsn_hint.specs.declared.hint.Hint.TheVariants.{WrongHandshake}
+use Rattle.wsn_command.specs.declared.job.Job.{Job, TheVariants.{Closing, Show}}
+use Rattle.wsn_command.specs.declared.answered.Answer.{Answer, TheVariants.{Verdict, Report, FaultyLine, Stopped}}
+use Rattle.wsn_hint.specs.declared.hint.Hint.{Hint, TheVariants.{WrongHandshake}}
 use Rattle.wsn_hint.specs.declared.refused_sides.RefusedSides.{RefusedSides}
 use Rattle.wsn_hint.specs.Hints.{HintFits, IsFirstFit, capture_hints}
 use Rattle.wsn_hint.specs.Accusations.{IsAccusingHint}

@@ -2,8 +2,7 @@
 use Rattle.std.specs.Prelude.{ℕ, ◌==◌, ◌&&◌, Bool, true, false, not, List, ◌∷◌, length, codes}
 use Rattle.std.specs.Char.{is_ascii_digit}
 use Rattle.std.specs.Str.{bytes_eq}
-use Rattle.wsn_color.specs.declared.choice.ColorChoice.{ColorChoice}
-use Rattle.wsn_color.specs.declared.choice.ColorChoice.TheVariants.{Auto, Always, Never}
+use Rattle.wsn_color.specs.declared.choice.ColorChoice.{ColorChoice, TheVariants.{Auto, Always, Never}}
 use Rattle.wsn_color.specs.declared.choice.Terminal.{Terminal}
 
 -- Unless it is asked for or not, an answer is painted on a terminal that has colours, without NO_COLOR.

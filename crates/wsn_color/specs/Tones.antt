@@ -1,12 +1,10 @@
 -- Which word of a line begins which tone, how far the tone goes, and how it looks.
 use Rattle.std.specs.Prelude.{ℕ, ◌==◌, nat_lt, ◌||◌, Bool, true, false, Option, None, Some, List, [], ◌∷◌, ◌++◌, codes, if◌then◌else◌}
 use Rattle.std.specs.Str.{bytes_eq}
-use Rattle.wsn_color.specs.declared.layout.Layout.{Layout}
-use Rattle.wsn_color.specs.declared.layout.Layout.TheVariants.{Answer, Table, Explanation}
+use Rattle.wsn_color.specs.declared.layout.Layout.{Layout, TheVariants.{Answer, Table, Explanation}}
 use Rattle.wsn_color.specs.declared.opening.Opening.{Opening}
 use Rattle.wsn_color.specs.declared.opening.Opening.TheVariants as openings
-use Rattle.wsn_color.specs.declared.tone.Tone.{Tone}
-use Rattle.wsn_color.specs.declared.tone.Tone.TheVariants.{Client, Server, Alarm, Warning, Minor, Label}
+use Rattle.wsn_color.specs.declared.tone.Tone.{Tone, TheVariants.{Client, Server, Alarm, Warning, Minor, Label}}
 
 -- ---- how tones look
 

@@ -1,11 +1,8 @@
 -- What a command may be asked to do.
 use Rattle.std.specs.Prelude.{◌≡◌, ◌↔◌, ◌≤◌, ℕ, Option, None, Some, IsSome, replicate, List}
-use Rattle.wsn_wire.specs.declared.endpoint.Role.{Role}
-use Rattle.wsn_wire.specs.declared.endpoint.Role.TheVariants.{Client, Server}
-use Rattle.wsn_command.specs.declared.job.How.{How}
-use Rattle.wsn_command.specs.declared.job.How.TheVariants.{ByPlan, BySize}
-use Rattle.wsn_command.specs.declared.job.Job.{Job}
-use Rattle.wsn_command.specs.declared.job.Job.TheVariants.{Judge, Frames, Normal, Redact, Plan, Recut, Payload, ShowStream, Closing, Show, RedactCapture}
+use Rattle.wsn_wire.specs.declared.endpoint.Role.{Role, TheVariants.{Client, Server}}
+use Rattle.wsn_command.specs.declared.job.How.{How, TheVariants.{ByPlan, BySize}}
+use Rattle.wsn_command.specs.declared.job.Job.{Job, TheVariants.{Judge, Frames, Normal, Redact, Plan, Recut, Payload, ShowStream, Closing, Show, RedactCapture}}
 
 -- The recut is by plan; or by size, with frames of at least one byte, and with a key exactly for a client.
 abbrev pub MayRecut : {A : Type 0} → Role → How A → Type 0

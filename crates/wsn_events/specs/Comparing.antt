@@ -6,17 +6,14 @@ use Rattle.wsn_wire.specs.declared.opcode.Kind.{Kind}
 use Rattle.wsn_wire.specs.Frame.{Frame}
 use Rattle.wsn_io.specs.Transfer.{Incoming, IsReceived}
 use Rattle.wsn_rules.specs.declared.verdict.Summary.{Summary}
-use Rattle.wsn_rules.specs.declared.verdict.Verdict.{Verdict}
-use Rattle.wsn_rules.specs.declared.verdict.Verdict.TheVariants.{Accepted}
+use Rattle.wsn_rules.specs.declared.verdict.Verdict.{Verdict, TheVariants.{Accepted}}
 use Rattle.wsn_io.specs.declared.stop.Stop.{Stop}
 use Rattle.wsn_rules.specs.Limits.{Limits}
 use Rattle.wsn_rules.specs.Accepted.{IsAccepted}
 use Rattle.wsn_rules.specs.Meaning.{MeantEvent, meaning}
 use Rattle.wsn_rules.specs.Verdict.{IsVerdict}
-use Rattle.wsn_rules.specs.declared.compared.Compared.{Compared}
-use Rattle.wsn_rules.specs.declared.compared.Compared.TheVariants.{Equal, Different, NotAccepted}
-use Rattle.wsn_events.specs.declared.comparing.Round.{Round}
-use Rattle.wsn_events.specs.declared.comparing.Round.TheVariants.{Alike, Unlike, Over}
+use Rattle.wsn_rules.specs.declared.compared.Compared.{Compared, TheVariants.{Equal, Different, NotAccepted}}
+use Rattle.wsn_events.specs.declared.comparing.Round.{Round, TheVariants.{Alike, Unlike, Over}}
 use Rattle.wsn_events.specs.declared.event_reader.EventReader.{EventReader}
 use Rattle.wsn_events.specs.Sources.{IsLast, IsHalted}
 use Rattle.wsn_events.specs.LentMessages.{held_bytes}

@@ -4,8 +4,7 @@ use Rattle.wsn_wire.specs.declared.endpoint.Role.{Role}
 use Rattle.wsn_wire.specs.declared.opcode.Op.{Op}
 use Rattle.wsn_io.specs.Transfer.{Incoming}
 use Rattle.wsn_io.specs.declared.stop.Stop.{Stop}
-use Rattle.wsn_rules.specs.declared.compared.Compared.{Compared}
-use Rattle.wsn_rules.specs.declared.compared.Compared.TheVariants.{Different}
+use Rattle.wsn_rules.specs.declared.compared.Compared.{Compared, TheVariants.{Different}}
 use Rattle.wsn_rules.specs.declared.without.Without.{Without}
 use Rattle.wsn_rules.specs.LawfulEvents.{IsLawfulEvent}
 use Rattle.wsn_rules.specs.LeftOut.{events_without}
@@ -16,8 +15,7 @@ use Rattle.wsn_rules.specs.ShownStream.Item.{Event}
 use Rattle.wsn_rules.specs.ShownEvents.{IsShownAt}
 use Rattle.wsn_print.specs.DifferingPayloads.{event_in}
 use Rattle.wsn_print.specs.ShownParts.{event_of}
-use Rattle.wsn_events.specs.declared.comparing.Round.{Round}
-use Rattle.wsn_events.specs.declared.comparing.Round.TheVariants.{Unlike}
+use Rattle.wsn_events.specs.declared.comparing.Round.{Round, TheVariants.{Unlike}}
 use Rattle.wsn_events.specs.declared.event_reader.EventReader.{EventReader}
 use Rattle.wsn_events.specs.declared.excerpt.Excerpt.{Excerpt}
 use Rattle.wsn_events.specs.declared.first_difference.FirstDifference.{FirstDifference}

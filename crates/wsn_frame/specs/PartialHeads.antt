@@ -1,7 +1,6 @@
 -- What a frame's first bytes are of its head. RFC 6455 sections 5.1 and 5.2.
 use Rattle.std.specs.Prelude.{◌≡◌, ℕ, ◌+◌, ◌-◌, ◌<◌, ◌≤◌, ◌↔◌, ⊤, nat_lt, if◌then◌else◌, Option, Result, Ok, Err, List, [], ◌∷◌, ◌++◌, length, take, IsSome, IfSome, is_some, ◌≢◌}
-use Rattle.wsn_wire.specs.declared.endpoint.Role.{Role}
-use Rattle.wsn_wire.specs.declared.endpoint.Role.TheVariants.{Client}
+use Rattle.wsn_wire.specs.declared.endpoint.Role.{Role, TheVariants.{Client}}
 use Rattle.wsn_wire.specs.declared.heads.FirstByte.{FirstByte}
 use Rattle.wsn_wire.specs.declared.refusal.Reason.{Reason}
 use Rattle.wsn_wire.specs.declared.length_forms.Form.{Form}
@@ -17,8 +16,7 @@ use Rattle.wsn_rules.specs.declared.head_info.HeadInfo.{HeadInfo}
 use Rattle.wsn_rules.specs.Limits.{Limits}
 use Rattle.wsn_rules.specs.Evidence.{Evidence, EvidentByFirst, EvidentByPayload, HasNoEvidence}
 use Rattle.wsn_frame.specs.declared.heads.Head.{Head}
-use Rattle.wsn_frame.specs.declared.parsing.Parsed.{Parsed}
-use Rattle.wsn_frame.specs.declared.parsing.Parsed.TheVariants.{Incomplete, Whole, Refused}
+use Rattle.wsn_frame.specs.declared.parsing.Parsed.{Parsed, TheVariants.{Incomplete, Whole, Refused}}
 use Rattle.wsn_frame.specs.declared.open_message.OpenMessage.{OpenMessage}
 use Rattle.wsn_frame.specs.OpenMessages.{IsOpenMessage}
 

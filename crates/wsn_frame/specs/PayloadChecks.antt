@@ -8,10 +8,8 @@ use Rattle.wsn_wire.specs.Refusal.{number_of}
 use Rattle.wsn_text.specs.Utf8.{Range, IsText, BeginsText, IsFirstBad}
 use Rattle.wsn_text.specs.Validated.{HasValidated}
 use Rattle.wsn_text.specs.CloseBody.{IsAcceptedCode}
-use Rattle.wsn_frame.specs.declared.payload_check.PayloadCheck.{PayloadCheck}
-use Rattle.wsn_frame.specs.declared.payload_check.PayloadCheck.TheVariants.{Free, Text, Close}
-use Rattle.wsn_frame.specs.declared.payload_check.CloseBody.{CloseBody}
-use Rattle.wsn_frame.specs.declared.payload_check.CloseBody.TheVariants.{Empty, HalfCode, Code}
+use Rattle.wsn_frame.specs.declared.payload_check.PayloadCheck.{PayloadCheck, TheVariants.{Free, Text, Close}}
+use Rattle.wsn_frame.specs.declared.payload_check.CloseBody.{CloseBody, TheVariants.{Empty, HalfCode, Code}}
 use Rattle.wsn_frame.specs.declared.payload_check.BadByte.{BadByte}
 use Rattle.wsn_rules.specs.Group.{payload_of}
 use Rattle.wsn_rules.specs.Evidence.{EndsInside, IsOfText, EvidentByPayload}

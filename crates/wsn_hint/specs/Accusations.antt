@@ -1,15 +1,11 @@
 -- Whom a Close accuses, by the report on a capture. RFC 6455 section 7.4.1.
 use Rattle.std.specs.Prelude.{◌≡◌, ◌≢◌, ◌⊎◌, ℕ, true, Option, None, Some}
-use Rattle.wsn_wire.specs.declared.endpoint.Role.{Role}
-use Rattle.wsn_wire.specs.declared.endpoint.Role.TheVariants.{Client, Server}
+use Rattle.wsn_wire.specs.declared.endpoint.Role.{Role, TheVariants.{Client, Server}}
 use Rattle.wsn_rules.specs.declared.report.Report.{Report}
-use Rattle.wsn_rules.specs.declared.report.Side.{Side}
-use Rattle.wsn_rules.specs.declared.report.Side.TheVariants.{Closed}
+use Rattle.wsn_rules.specs.declared.report.Side.{Side, TheVariants.{Closed}}
 use Rattle.wsn_rules.specs.Reports.{IsRefusedSide, other_endpoint}
-use Rattle.wsn_hint.specs.declared.charge.Charge.{Charge}
-use Rattle.wsn_hint.specs.declared.charge.Charge.TheVariants.{Protocol, Content, Size}
-use Rattle.wsn_hint.specs.declared.hint.Hint.{Hint}
-use Rattle.wsn_hint.specs.declared.hint.Hint.TheVariants.{Accuses}
+use Rattle.wsn_hint.specs.declared.charge.Charge.{Charge, TheVariants.{Protocol, Content, Size}}
+use Rattle.wsn_hint.specs.declared.hint.Hint.{Hint, TheVariants.{Accuses}}
 
 -- The code of a Close that says so: a protocol error, data that doesn't fit a message's kind, a message that is too big.
 abbrev pub charge_code : Charge → ℕ

@@ -4,8 +4,7 @@ use Rattle.memchr.specs.Find.{OccursAt}
 use Rattle.wsn_rules.specs.TextLines.{lines_of}
 use Rattle.wsn_rules.specs.Entries.{without_cr}
 use Rattle.wsn_hint.specs.Hints.{Begins}
-use Rattle.wsn_hint.specs.declared.comments.Said.{Said}
-use Rattle.wsn_hint.specs.declared.comments.Said.TheVariants.{Answer, Compression, WrongAnswer}
+use Rattle.wsn_hint.specs.declared.comments.Said.{Said, TheVariants.{Answer, Compression, WrongAnswer}}
 
 -- The word is in the line.
 abbrev pub HasWord : List ℕ → List ℕ → Type 0

@@ -2,18 +2,15 @@
 use Rattle.std.specs.Prelude.{◌≡◌, ℕ, ◌+◌, ◌%◌, ◌<◌, ◌≤◌, ◌⊎◌, true, Option, None, Some, List, [], ◌∷◌, ◌++◌, length, take, drop, codes}
 use Rattle.std.specs.Char.{is_ascii_hexdigit}
 use Rattle.std.specs.List.{AllByRecursion, Contains, take_while}
-use Rattle.wsn_wire.specs.declared.endpoint.Role.{Role}
-use Rattle.wsn_wire.specs.declared.endpoint.Role.TheVariants.{Client, Server}
-use Rattle.wsn_wire.specs.declared.refusal.Reason.{Reason}
-use Rattle.wsn_wire.specs.declared.refusal.Reason.TheVariants.{ReservedBits, MaskMissing, MaskPresent}
+use Rattle.wsn_wire.specs.declared.endpoint.Role.{Role, TheVariants.{Client, Server}}
+use Rattle.wsn_wire.specs.declared.refusal.Reason.{Reason, TheVariants.{ReservedBits, MaskMissing, MaskPresent}}
 use Rattle.wsn_wire.specs.Frame.{Frame}
 use Rattle.wsn_rules.specs.declared.verdict.Verdict.{Verdict}
 use Rattle.wsn_rules.specs.Limits.{Limits}
 use Rattle.wsn_rules.specs.Examples.{greatest}
 use Rattle.wsn_rules.specs.Verdict.{IsRefused, IsVerdict}
 use Rattle.wsn_scan.specs.Judging.{IsUnrefused}
-use Rattle.wsn_hint.specs.declared.hint.Hint.{Hint}
-use Rattle.wsn_hint.specs.declared.hint.Hint.TheVariants.{Empty, HttpHead, Capture, CaptureToShow, Hexadecimal, HexDump, OffsetDump, Compressed, Text, Pcap, PcapNg, Gzip, Tls, ByteOrderMark, OtherRole, Stream, Json, SmallLetters, Blanks, OtherText, Binary}
+use Rattle.wsn_hint.specs.declared.hint.Hint.{Hint, TheVariants.{Empty, HttpHead, Capture, CaptureToShow, Hexadecimal, HexDump, OffsetDump, Compressed, Text, Pcap, PcapNg, Gzip, Tls, ByteOrderMark, OtherRole, Stream, Json, SmallLetters, Blanks, OtherText, Binary}}
 
 -- This is the verdict on the bytes.
 abbrev pub HasVerdict : Role → Limits → List ℕ → Verdict → Type 0

@@ -2,10 +2,8 @@
 -- refused, and, where both were, in which lines the offending bytes are.
 use Rattle.std.specs.Prelude.{◌≡◌, ◌≢◌, ◌+◌, ◌-◌, ◌<◌, ◌≤◌, ◌⊎◌, ℕ, Bool, IsTrue, Option, None, Some, IfSome, IsSome, List, [], ◌∷◌, ◌++◌, length, drop}
 use Rattle.std.specs.List.{AllByRecursion}
-use Rattle.wsn_wire.specs.declared.endpoint.Role.{Role}
-use Rattle.wsn_wire.specs.declared.endpoint.Role.TheVariants.{Client, Server}
-use Rattle.wsn_wire.specs.declared.refusal.Reason.{Reason}
-use Rattle.wsn_wire.specs.declared.refusal.Reason.TheVariants.{ReservedBits, MaskMissing, MaskPresent, TextBad}
+use Rattle.wsn_wire.specs.declared.endpoint.Role.{Role, TheVariants.{Client, Server}}
+use Rattle.wsn_wire.specs.declared.refusal.Reason.{Reason, TheVariants.{ReservedBits, MaskMissing, MaskPresent, TextBad}}
 use Rattle.wsn_wire.specs.Frame.{Frame, stream}
 use Rattle.wsn_rules.specs.declared.head_info.HeadInfo.{HeadInfo}
 use Rattle.wsn_rules.specs.declared.verdict.Refusal.{Refusal}
@@ -22,8 +20,7 @@ use Rattle.wsn_hint.specs.Hints.{IsDataHead, IsFirstFit, IsTextByte}
 use Rattle.wsn_hint.specs.Comments.{IsSaid}
 use Rattle.wsn_hint.specs.declared.comments.Said.TheVariants.{Answer, Compression, WrongAnswer}
 use Rattle.wsn_hint.specs.declared.refused_sides.RefusedSides.{RefusedSides}
-use Rattle.wsn_hint.specs.declared.hint.Hint.{Hint}
-use Rattle.wsn_hint.specs.declared.hint.Hint.TheVariants.{Empty, Compressed, MaybeCompressed, NotAgreed, Exchanged, NeverMasked, NotUtf8, AfterClose, WrongHandshake}
+use Rattle.wsn_hint.specs.declared.hint.Hint.{Hint, TheVariants.{Empty, Compressed, MaybeCompressed, NotAgreed, Exchanged, NeverMasked, NotUtf8, AfterClose, WrongHandshake}}
 
 -- By the text's lines, this is the byte that the endpoint sent at this offset.
 abbrev pub IsSentAt : Role → List ℕ → ℕ → ℕ → Type 0

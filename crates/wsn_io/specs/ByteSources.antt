@@ -1,7 +1,6 @@
 -- Where an input's bytes come from, as its model has it.
 use Rattle.std.specs.Prelude.{⊤, ℕ, ◌+◌, ◌^◌, ◌<◌, Bool, true, false, List, Option, Some, length}
-use Rattle.wsn_io.specs.declared.byte_source.ByteSource.{ByteSource}
-use Rattle.wsn_io.specs.declared.byte_source.ByteSource.TheVariants.{Reader, Lent}
+use Rattle.wsn_io.specs.declared.byte_source.ByteSource.{ByteSource, TheVariants.{Reader, Lent}}
 
 -- the bytes that are left, if they are known
 abbrev pub bytes_left : {R : Type 0} → (R → Option (List ℕ)) → ByteSource R → Option (List ℕ)

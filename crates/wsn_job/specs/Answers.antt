@@ -2,8 +2,7 @@
 use Rattle.std.specs.Prelude.{ℕ, Result, Ok, Err}
 use Rattle.wsn_io.specs.declared.stop.Stop.{Stop}
 use Rattle.wsn_rules.specs.declared.verdict.Verdict.{Verdict as GivenVerdict}
-use Rattle.wsn_command.specs.declared.answered.Answer.{Answer}
-use Rattle.wsn_command.specs.declared.answered.Answer.TheVariants.{Verdict, Stopped, Report, Other, FaultyLine}
+use Rattle.wsn_command.specs.declared.answered.Answer.{Answer, TheVariants.{Verdict, Stopped, Report, Other, FaultyLine}}
 use Rattle.wsn_command.specs.declared.answered.Ran.{Ran}
 use Rattle.wsn_rules.specs.declared.compared.Compared.{Compared}
 use Rattle.wsn_rules.specs.declared.compared.Compared.TheVariants as compared
@@ -15,8 +14,7 @@ use Rattle.wsn_payload.specs.declared.answer.Payload.{Payload}
 use Rattle.wsn_payload.specs.declared.answer.Payload.TheVariants as payloads
 use Rattle.wsn_capture.specs.declared.capture_report.CaptureReport.{CaptureReport}
 use Rattle.wsn_capture.specs.declared.capture_stop.CaptureStop.TheVariants as capture
-use Rattle.wsn_show.specs.declared.showing.ShowStop.{ShowStop}
-use Rattle.wsn_show.specs.declared.showing.ShowStop.TheVariants.{Capture}
+use Rattle.wsn_show.specs.declared.showing.ShowStop.{ShowStop, TheVariants.{Capture}}
 use Rattle.wsn_redact.specs.declared.capture_redacting.RedactStop.{RedactStop}
 use Rattle.wsn_redact.specs.declared.capture_redacting.RedactStop.TheVariants as redacting
 

@@ -11,8 +11,7 @@ use Rattle.wsn_print.specs.Formats.{report_text}
 use Rattle.wsn_print.specs.NamedReportText.{named_report_text}
 use Rattle.wsn_print.specs.Statuses.{outcome_status}
 use Rattle.wsn_print.specs.FaultText.{stop_line}
-use Rattle.wsn_show.specs.declared.showing.ShowStop.{ShowStop}
-use Rattle.wsn_show.specs.declared.showing.ShowStop.TheVariants.{Capture, Write}
+use Rattle.wsn_show.specs.declared.showing.ShowStop.{ShowStop, TheVariants.{Capture, Write}}
 use Rattle.wsn_job.specs.Channels.{Channels}
 use Rattle.wsn_job.specs.Diagnostics.{IsDiagnosed, capture_stop_line}
 

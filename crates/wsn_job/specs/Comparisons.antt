@@ -8,8 +8,7 @@ use Rattle.wsn_shown_text.specs.DifferenceText.{difference_text}
 use Rattle.wsn_rules.specs.LeftOut.{events_without}
 use Rattle.wsn_rules.specs.ShownStream.{Item}
 use Rattle.wsn_rules.specs.ShownEvents.{IsShownAt}
-use Rattle.wsn_rules.specs.declared.compared.Compared.{Compared}
-use Rattle.wsn_rules.specs.declared.compared.Compared.TheVariants.{Different}
+use Rattle.wsn_rules.specs.declared.compared.Compared.{Compared, TheVariants.{Different}}
 use Rattle.wsn_events.specs.Comparing.{IsComparedBy}
 use Rattle.wsn_command.specs.declared.comparison.Comparison.{Comparison}
 use Rattle.wsn_job.specs.Channels.{ComparedChannels}

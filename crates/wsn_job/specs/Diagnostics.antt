@@ -7,8 +7,7 @@ use Rattle.wsn_print.specs.FaultText.{stop_line, line_fault_line}
 use Rattle.wsn_capture.specs.LineFaults.{fault_word}
 use Rattle.wsn_capture.specs.declared.capture_stop.CaptureStop.{CaptureStop}
 use Rattle.wsn_capture.specs.declared.capture_stop.CaptureStop.TheVariants as capture
-use Rattle.wsn_rules.specs.declared.verdict.Verdict.{Verdict}
-use Rattle.wsn_rules.specs.declared.verdict.Verdict.TheVariants.{Accepted}
+use Rattle.wsn_rules.specs.declared.verdict.Verdict.{Verdict, TheVariants.{Accepted}}
 use Rattle.wsn_print.specs.VerdictText.{verdict_line}
 
 -- The line was written, or a prefix of it if a write failed; nothing was, if a write had failed before.

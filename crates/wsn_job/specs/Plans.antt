@@ -8,8 +8,7 @@ use Rattle.wsn_print.specs.FaultText.{unfinished_line, stop_line}
 use Rattle.wsn_print.specs.VerdictText.{verdict_line}
 use Rattle.wsn_io.specs.declared.stop.Stop.{Stop}
 use Rattle.wsn_io.specs.declared.stop.Stop.TheVariants as stop
-use Rattle.wsn_plan.specs.declared.planning.PlanAnswer.{PlanAnswer}
-use Rattle.wsn_plan.specs.declared.planning.PlanAnswer.TheVariants.{Plan, NotAccepted, Unfinished}
+use Rattle.wsn_plan.specs.declared.planning.PlanAnswer.{PlanAnswer, TheVariants.{Plan, NotAccepted, Unfinished}}
 use Rattle.wsn_plan.specs.Planning.{IsPlanned}
 use Rattle.wsn_plan_text.specs.PlanText.{plan_text}
 use Rattle.wsn_job.specs.Diagnostics.{IsDiagnosed}

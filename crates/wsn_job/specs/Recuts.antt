@@ -5,11 +5,9 @@ use Rattle.wsn_print.specs.FaultText.{recut_fault_line, stop_line}
 use Rattle.wsn_print.specs.VerdictText.{verdict_line}
 use Rattle.wsn_rules.specs.UniformPlan.{uniform_plan}
 use Rattle.wsn_io.specs.declared.stop.Stop.{Stop}
-use Rattle.wsn_plan.specs.declared.recutting.RecutAnswer.{RecutAnswer}
-use Rattle.wsn_plan.specs.declared.recutting.RecutAnswer.TheVariants.{Done, NotAccepted, Fault}
+use Rattle.wsn_plan.specs.declared.recutting.RecutAnswer.{RecutAnswer, TheVariants.{Done, NotAccepted, Fault}}
 use Rattle.wsn_plan.specs.Recutting.{Planner}
-use Rattle.wsn_command.specs.declared.job.How.{How}
-use Rattle.wsn_command.specs.declared.job.How.TheVariants.{ByPlan, BySize}
+use Rattle.wsn_command.specs.declared.job.How.{How, TheVariants.{ByPlan, BySize}}
 use Rattle.wsn_job.specs.Diagnostics.{IsDiagnosed}
 
 -- the plan by which a stream of the given events is recut

@@ -3,8 +3,7 @@ use Rattle.std.specs.Prelude.{◌≡◌, ℕ, Result, Ok, Err, List}
 use Rattle.wsn_io.specs.declared.stop.Stop.TheVariants as stop
 use Rattle.wsn_io.specs.Transfer.{Outgoing}
 use Rattle.wsn_print.specs.FaultText.{stop_line}
-use Rattle.wsn_redact.specs.declared.capture_redacting.RedactStop.{RedactStop}
-use Rattle.wsn_redact.specs.declared.capture_redacting.RedactStop.TheVariants.{Capture, Write}
+use Rattle.wsn_redact.specs.declared.capture_redacting.RedactStop.{RedactStop, TheVariants.{Capture, Write}}
 use Rattle.wsn_job.specs.Diagnostics.{IsDiagnosed, capture_stop_line}
 
 -- the exit status: 0 once all is written, of a refused stream too, 2 for a stop

@@ -6,8 +6,7 @@ use Rattle.wsn_list.specs.Listing.{IsListedAs}
 use Rattle.wsn_events.specs.Normalised.{IsNormalised}
 use Rattle.wsn_redact.specs.Redacting.{IsRedactedInput}
 use Rattle.wsn_redact.specs.RedactingCaptures.{IsRedactedCaptureInput}
-use Rattle.wsn_command.specs.declared.job.Job.{Job}
-use Rattle.wsn_command.specs.declared.job.Job.TheVariants.{Judge, Frames, Normal, Redact, Plan, Recut, Payload, ShowStream, Closing, Show, RedactCapture}
+use Rattle.wsn_command.specs.declared.job.Job.{Job, TheVariants.{Judge, Frames, Normal, Redact, Plan, Recut, Payload, ShowStream, Closing, Show, RedactCapture}}
 use Rattle.wsn_command.specs.declared.answered.Answer.{Answer}
 use Rattle.wsn_command.specs.declared.answered.Ran.{Ran}
 use Rattle.wsn_job.specs.declared.done.Done.{Done}

@@ -12,8 +12,7 @@ use Rattle.wsn_rules.specs.declared.verdict.Refusal.{Refusal}
 use Rattle.wsn_scan.specs.declared.scan.Scan.{Scan}
 use Rattle.wsn_rules.specs.Limits.{Limits}
 use Rattle.wsn_rules.specs.Verdict.{IsRefused}
-use Rattle.wsn_print.specs.declared.format.Format.{Format}
-use Rattle.wsn_print.specs.declared.format.Format.TheVariants.{Text}
+use Rattle.wsn_print.specs.declared.format.Format.{Format, TheVariants.{Text}}
 use Rattle.wsn_print.specs.Formats.{heads_text, verdict_text}
 use Rattle.wsn_scan.specs.Feeding.{HasFed}
 use Rattle.wsn_scan.specs.Judging.{HasVerdictAndHeads, IsJudgeAnswer, IsUnrefused, IsWithinLimit, chunk_size}

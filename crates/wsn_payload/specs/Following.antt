@@ -8,8 +8,7 @@ use Rattle.wsn_wire.specs.declared.opcode.Op.TheVariants.{Continue, Text, Binary
 use Rattle.wsn_wire.specs.Frame.{Frame, IsKey, is_control, stream}
 use Rattle.wsn_rules.specs.declared.head_info.HeadInfo.{HeadInfo}
 use Rattle.wsn_rules.specs.declared.verdict.Refusal.{Refusal}
-use Rattle.wsn_rules.specs.declared.verdict.Verdict.{Verdict}
-use Rattle.wsn_rules.specs.declared.verdict.Verdict.TheVariants.{Accepted, Cut, Refused}
+use Rattle.wsn_rules.specs.declared.verdict.Verdict.{Verdict, TheVariants.{Accepted, Cut, Refused}}
 use Rattle.wsn_rules.specs.Limits.{Limits}
 use Rattle.wsn_rules.specs.Group.{unfinished, IsOpen, first_op}
 use Rattle.wsn_rules.specs.ShownStream.{open_offset, event_offset, frame_so_far}
@@ -18,8 +17,7 @@ use Rattle.wsn_scan.specs.declared.scan.Scan.{Scan}
 use Rattle.wsn_scan.specs.Positions.{Position, BetweenFrames, InFrame}
 use Rattle.wsn_scan.specs.FollowedScans.{HasFollowed}
 use Rattle.wsn_payload.specs.declared.answer.EventStart.{EventStart}
-use Rattle.wsn_payload.specs.declared.answer.Payload.{Payload}
-use Rattle.wsn_payload.specs.declared.answer.Payload.TheVariants.{Whole, Unfinished, Inside, Head, Nothing}
+use Rattle.wsn_payload.specs.declared.answer.Payload.{Payload, TheVariants.{Whole, Unfinished, Inside, Head, Nothing}}
 use Rattle.wsn_payload.specs.declared.event_at.EventAt.{EventAt}
 use Rattle.wsn_payload.specs.EventsAt.{IsWholeAt, IsBegunAt, EndBefore, IsUnfinishedAt, IsInHeadAt, IsAfterAll, IsInsideAt, EndsEvent, IsElsewhere}
 use Rattle.wsn_payload.specs.Payloads.{IsPayloadInFront, IsPartOf}

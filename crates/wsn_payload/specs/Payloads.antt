@@ -7,8 +7,7 @@ use Rattle.wsn_wire.specs.declared.endpoint.Role.{Role}
 use Rattle.wsn_rules.specs.declared.verdict.Verdict.{Verdict}
 use Rattle.wsn_rules.specs.Limits.{Limits}
 use Rattle.wsn_scan.specs.Judging.{IsReached, IsStopped, IsUnrefused, IsWithinLimit, chunk_size}
-use Rattle.wsn_payload.specs.declared.answer.Payload.{Payload}
-use Rattle.wsn_payload.specs.declared.answer.Payload.TheVariants.{Whole, Unfinished, Inside, Head, Nothing}
+use Rattle.wsn_payload.specs.declared.answer.Payload.{Payload, TheVariants.{Whole, Unfinished, Inside, Head, Nothing}}
 use Rattle.wsn_payload.specs.EventsAt.{IsWholeAt, IsUnfinishedAt, EndsBefore, IsInHeadAt, IsAfterAll, IsInsideAt}
 
 -- What has come in these bytes of the payload of an event that isn't complete: of the one that begins at the offset; or

@@ -12,8 +12,7 @@ use Rattle.wsn_events.specs.Sources.{HasDataPayload, IsLast}
 use Rattle.wsn_plan.specs.declared.gathering.Gathered.{Gathered}
 use Rattle.wsn_rules.specs.Meaning.{MeantEvent}
 use Rattle.wsn_rules.specs.Meaning as meant_event
-use Rattle.wsn_plan.specs.declared.kept.Kept.{Kept}
-use Rattle.wsn_plan.specs.declared.kept.Kept.TheVariants.{Message, Control}
+use Rattle.wsn_plan.specs.declared.kept.Kept.{Kept, TheVariants.{Message, Control}}
 
 -- a message, or a control with its body
 abbrev pub kept_meant : {A : Type 0} → Kept A → MeantEvent

@@ -18,8 +18,7 @@ use Rattle.wsn_scan.specs.Judging.{IsUnrefused}
 use Rattle.wsn_events.specs.Comparing.{IsAnAccepted}
 use Rattle.wsn_events.specs.Normalised.{IsWithinLimit}
 use Rattle.wsn_events.specs.Sources.{IsLast}
-use Rattle.wsn_plan.specs.declared.recutting.RecutAnswer.{RecutAnswer}
-use Rattle.wsn_plan.specs.declared.recutting.RecutAnswer.TheVariants.{Done, NotAccepted, Fault}
+use Rattle.wsn_plan.specs.declared.recutting.RecutAnswer.{RecutAnswer, TheVariants.{Done, NotAccepted, Fault}}
 use Rattle.wsn_plan.specs.Gathering.{IsStoppedAfter}
 
 -- The answer to a plan for a stream with this verdict and these events: the stream isn't accepted; or it is, and the

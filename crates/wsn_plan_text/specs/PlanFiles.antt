@@ -5,8 +5,7 @@ use Rattle.wsn_io.specs.Transfer.{Incoming, IsReceived}
 use Rattle.wsn_rules.specs.declared.step.Step.{Step}
 use Rattle.wsn_plan_text.specs.declared.plan_fault.PlanFault.TheVariants.{Line, Memory}
 use Rattle.wsn_plan_text.specs.PlanText.{EncodesPlan, IsFirstPlanFault}
-use Rattle.wsn_plan_text.specs.declared.plan_files.PlanFileFault.{PlanFileFault}
-use Rattle.wsn_plan_text.specs.declared.plan_files.PlanFileFault.TheVariants.{Unread, TooLong, Faulty}
+use Rattle.wsn_plan_text.specs.declared.plan_files.PlanFileFault.{PlanFileFault, TheVariants.{Unread, TooLong, Faulty}}
 
 -- These bytes are the whole file, which has at most 2^26 bytes.
 abbrev pub IsWholeFile : Incoming → List ℕ → Type 0

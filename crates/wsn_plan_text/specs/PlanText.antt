@@ -8,8 +8,7 @@ use Rattle.wsn_rules.specs.declared.step.Step.{Step}
 use Rattle.wsn_rules.specs.declared.step.Step.TheVariants as step
 use Rattle.wsn_print.specs.Fields.{key_text, form_text}
 use Rattle.wsn_rules.specs.TextLines.{AreLines}
-use Rattle.wsn_plan_text.specs.declared.plan_fault.LineWhy.{LineWhy}
-use Rattle.wsn_plan_text.specs.declared.plan_fault.LineWhy.TheVariants.{BadForm, BadNumber, BadKey, BadLength}
+use Rattle.wsn_plan_text.specs.declared.plan_fault.LineWhy.{LineWhy, TheVariants.{BadForm, BadNumber, BadKey, BadLength}}
 use Rattle.wsn_plan_text.specs.declared.plan_fault.PlanFault.{PlanFault}
 use Rattle.wsn_plan_text.specs.declared.plan_fault.PlanFault.TheVariants as fault
 

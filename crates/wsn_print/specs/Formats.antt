@@ -4,8 +4,7 @@ use Rattle.wsn_rules.specs.declared.compared.Compared.{Compared}
 use Rattle.wsn_rules.specs.declared.head_info.HeadInfo.{HeadInfo}
 use Rattle.wsn_rules.specs.declared.report.Report.{Report}
 use Rattle.wsn_rules.specs.declared.verdict.Verdict.{Verdict}
-use Rattle.wsn_print.specs.declared.format.Format.{Format}
-use Rattle.wsn_print.specs.declared.format.Format.TheVariants.{Text, Json}
+use Rattle.wsn_print.specs.declared.format.Format.{Format, TheVariants.{Text, Json}}
 use Rattle.wsn_print.specs.VerdictText.{verdict_line, comparison_line}
 use Rattle.wsn_print.specs.HeadText.{head_line}
 use Rattle.wsn_print.specs.ReportText.{report_lines}

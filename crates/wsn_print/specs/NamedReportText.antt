@@ -1,8 +1,7 @@
 -- The report on one of several captures, in one line, with the name of its file.
 use Rattle.std.specs.Prelude.{ℕ, List, ◌++◌, drop, codes}
 use Rattle.wsn_rules.specs.declared.report.Report.{Report}
-use Rattle.wsn_print.specs.declared.format.Format.{Format}
-use Rattle.wsn_print.specs.declared.format.Format.TheVariants.{Text, Json}
+use Rattle.wsn_print.specs.declared.format.Format.{Format, TheVariants.{Text, Json}}
 use Rattle.wsn_print.specs.Objects.{report_object}
 use Rattle.wsn_print.specs.ReportText.{side_text, outcome_word}
 use Rattle.wsn_print.specs.EscapedText.{comment_text, quoted}

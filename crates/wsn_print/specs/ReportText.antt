@@ -1,11 +1,8 @@
 -- The lines of a report, each with its LF.
 use Rattle.std.specs.Prelude.{ℕ, Bool, true, false, Option, None, Some, List, ◌++◌, codes}
-use Rattle.wsn_wire.specs.declared.endpoint.Role.{Role}
-use Rattle.wsn_wire.specs.declared.endpoint.Role.TheVariants.{Client, Server}
-use Rattle.wsn_rules.specs.declared.report.Side.{Side}
-use Rattle.wsn_rules.specs.declared.report.Side.TheVariants.{Closed, Refused, Ended, Cut, Running}
-use Rattle.wsn_rules.specs.declared.report.Outcome.{Outcome}
-use Rattle.wsn_rules.specs.declared.report.Outcome.TheVariants.{Failed, Clean, Complete, Abnormal, Half, Live}
+use Rattle.wsn_wire.specs.declared.endpoint.Role.{Role, TheVariants.{Client, Server}}
+use Rattle.wsn_rules.specs.declared.report.Side.{Side, TheVariants.{Closed, Refused, Ended, Cut, Running}}
+use Rattle.wsn_rules.specs.declared.report.Outcome.{Outcome, TheVariants.{Failed, Clean, Complete, Abnormal, Half, Live}}
 use Rattle.wsn_rules.specs.declared.report.Report.{Report}
 use Rattle.wsn_print.specs.Fields.{number_text, refusal_text}
 

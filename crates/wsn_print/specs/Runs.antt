@@ -1,7 +1,6 @@
 -- Texts of which most bytes are copied as they are, and a few characters are escaped.
 use Rattle.std.specs.Prelude.{◌≡◌, ℕ, zero, suc, ◌+◌, ◌*◌, ◌/◌, ◌%◌, ◌<◌, ◌==◌, ◌&&◌, ◌||◌, nat_le, nat_lt, Bool, not, if◌then◌else◌, Option, None, Some, List, [], ◌∷◌, ◌++◌, get_or, bit_and}
-use Rattle.wsn_print.specs.declared.escapes.Escapes.{Escapes}
-use Rattle.wsn_print.specs.declared.escapes.Escapes.TheVariants.{Comment, Quoted}
+use Rattle.wsn_print.specs.declared.escapes.Escapes.{Escapes, TheVariants.{Comment, Quoted}}
 use Rattle.wsn_print.specs.declared.escapes.TheConstants.{FIRST_HIGH, FIRST_LOW, SECOND_LOW}
 use Rattle.wsn_print.specs.EscapedText.{is_continuation, is_from, is_hidden, ascii_escape, comment_character, quoted_character}
 

@@ -1,12 +1,9 @@
 -- Exit statuses: 0 for a positive answer, 1 for any other answer, 2 for a stop.
 use Rattle.std.specs.Prelude.{ℕ, Result, Ok, Err}
 use Rattle.wsn_io.specs.declared.stop.Stop.{Stop}
-use Rattle.wsn_rules.specs.declared.verdict.Verdict.{Verdict}
-use Rattle.wsn_rules.specs.declared.verdict.Verdict.TheVariants.{Accepted}
-use Rattle.wsn_rules.specs.declared.compared.Compared.{Compared}
-use Rattle.wsn_rules.specs.declared.compared.Compared.TheVariants.{Equal}
-use Rattle.wsn_rules.specs.declared.report.Outcome.{Outcome}
-use Rattle.wsn_rules.specs.declared.report.Outcome.TheVariants.{Clean, Complete}
+use Rattle.wsn_rules.specs.declared.verdict.Verdict.{Verdict, TheVariants.{Accepted}}
+use Rattle.wsn_rules.specs.declared.compared.Compared.{Compared, TheVariants.{Equal}}
+use Rattle.wsn_rules.specs.declared.report.Outcome.{Outcome, TheVariants.{Clean, Complete}}
 
 -- 0 if the stream is accepted.
 abbrev pub verdict_status : Result Verdict Stop → ℕ

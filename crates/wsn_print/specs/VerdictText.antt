@@ -1,10 +1,8 @@
 -- The line of a verdict, with its LF.
 use Rattle.std.specs.Prelude.{List, ℕ, ◌++◌, codes, decimal, true, false}
-use Rattle.wsn_rules.specs.declared.verdict.Verdict.{Verdict}
-use Rattle.wsn_rules.specs.declared.verdict.Verdict.TheVariants.{Accepted, Cut, Refused}
+use Rattle.wsn_rules.specs.declared.verdict.Verdict.{Verdict, TheVariants.{Accepted, Cut, Refused}}
 use Rattle.wsn_print.specs.Fields.{number_text, refusal_text}
-use Rattle.wsn_rules.specs.declared.compared.Compared.{Compared}
-use Rattle.wsn_rules.specs.declared.compared.Compared.TheVariants.{Equal, Different, NotAccepted}
+use Rattle.wsn_rules.specs.declared.compared.Compared.{Compared, TheVariants.{Equal, Different, NotAccepted}}
 
 -- `accepted` with the bytes used, the tail and the open message; `cut` with the bytes used; or the refusal.
 abbrev pub verdict_line : Verdict → List ℕ

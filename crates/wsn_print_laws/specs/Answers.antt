@@ -1,15 +1,13 @@
 -- Which answers the laws are about: those whose numbers have the range of their fields' types.
 use Rattle.std.specs.Prelude.{◌≡◌, ℕ, ◌<◌, ◌^◌, Option, None, Some, IfSome, List, ⊤}
 use Rattle.wsn_wire.specs.Frame.{IsBytes}
-use Rattle.wsn_rules.specs.declared.compared.Compared.{Compared}
-use Rattle.wsn_rules.specs.declared.compared.Compared.TheVariants.{Equal, Different, NotAccepted}
+use Rattle.wsn_rules.specs.declared.compared.Compared.{Compared, TheVariants.{Equal, Different, NotAccepted}}
 use Rattle.wsn_rules.specs.declared.head_info.HeadInfo.{HeadInfo}
 use Rattle.wsn_rules.specs.declared.report.Report.{Report}
 use Rattle.wsn_rules.specs.declared.report.Side.{Side}
 use Rattle.wsn_rules.specs.declared.report.Side.TheVariants as side
 use Rattle.wsn_rules.specs.declared.verdict.Summary.{Summary}
-use Rattle.wsn_rules.specs.declared.verdict.Verdict.{Verdict}
-use Rattle.wsn_rules.specs.declared.verdict.Verdict.TheVariants.{Accepted, Cut, Refused}
+use Rattle.wsn_rules.specs.declared.verdict.Verdict.{Verdict, TheVariants.{Accepted, Cut, Refused}}
 use Rattle.wsn_print.specs.Objects.{verdict_object, frame_object, report_object, comparison_object}
 
 -- The number fits in 64 bits. No field of an answer has a wider type.

@@ -4,8 +4,7 @@
 use Rattle.std.specs.Prelude.{◌≡◌, ℕ, ◌≤◌, ◌⊎◌, ⊤, Bool, true, false, List, [], ◌∷◌, ◌++◌, length, take, drop}
 use Rattle.std.specs.List.{concat}
 use Rattle.wsn_wire.specs.declared.endpoint.Role.{Role}
-use Rattle.wsn_wire.specs.declared.opcode.Op.{Op}
-use Rattle.wsn_wire.specs.declared.opcode.Op.TheVariants.{Close}
+use Rattle.wsn_wire.specs.declared.opcode.Op.{Op, TheVariants.{Close}}
 use Rattle.wsn_wire.specs.Frame.{Frame, stream, wire_payload}
 use Rattle.wsn_text.specs.Utf8.{Range, ◌–◌, IsCharacter, BeginsText}
 use Rattle.wsn_rules.specs.declared.head_info.HeadInfo.{HeadInfo}

@@ -9,11 +9,9 @@ use Rattle.wsn_capture.specs.LineFaults.{IsFaultAfter}
 use Rattle.wsn_capture.specs.LineSplitters.{HasPassedOn, IsStopWithin}
 use Rattle.wsn_capture.specs.CaptureAnswers.{IsFaulty, IsUnfaulted}
 use Rattle.wsn_redact.specs.declared.capture_redactor.CaptureRedactor.{CaptureRedactor}
-use Rattle.wsn_redact.specs.declared.capture_redacting.RedactStop.{RedactStop}
-use Rattle.wsn_redact.specs.declared.capture_redacting.RedactStop.TheVariants.{Capture, Write}
+use Rattle.wsn_redact.specs.declared.capture_redacting.RedactStop.{RedactStop, TheVariants.{Capture, Write}}
 use Rattle.wsn_redact.specs.RedactingCaptures.{IsTextOf, IsWholeText, IsWrittenBefore, IsTextOfWhole}
-use Rattle.wsn_wire.specs.declared.endpoint.Role.{Role}
-use Rattle.wsn_wire.specs.declared.endpoint.Role.TheVariants.{Client, Server}
+use Rattle.wsn_wire.specs.declared.endpoint.Role.{Role, TheVariants.{Client, Server}}
 use Rattle.wsn_rules.specs.Sides.{sent}
 use Rattle.wsn_capture.specs.declared.line_form.LineEntry.{LineEntry}
 use Rattle.wsn_capture.specs.declared.line_form.LineEntry.TheVariants as entries

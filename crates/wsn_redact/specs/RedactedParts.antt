@@ -1,10 +1,8 @@
 -- What a part of a frame becomes, and what is kept between the parts.
 use Rattle.std.specs.Prelude.{◌≡◌, ◌≢◌, ℕ, ◌+◌, ◌-◌, ◌≤◌, ◌⊎◌, ◌↔◌, Bool, true, false, not, Option, Some, List, [], ◌∷◌, ◌++◌, length, take, drop, if◌then◌else◌}
 use Rattle.wsn_wire.specs.declared.endpoint.Role.{Role}
-use Rattle.wsn_wire.specs.declared.opcode.Op.{Op}
-use Rattle.wsn_wire.specs.declared.opcode.Op.TheVariants.{Text, Binary, Close, Ping, Pong}
-use Rattle.wsn_wire.specs.declared.refusal.Reason.{Reason}
-use Rattle.wsn_wire.specs.declared.refusal.Reason.TheVariants.{TextBad}
+use Rattle.wsn_wire.specs.declared.opcode.Op.{Op, TheVariants.{Text, Binary, Close, Ping, Pong}}
+use Rattle.wsn_wire.specs.declared.refusal.Reason.{Reason, TheVariants.{TextBad}}
 use Rattle.wsn_wire.specs.Frame.{Frame, head_bytes, stream, wire_payload}
 use Rattle.wsn_text.specs.Utf8.{BeginsText}
 use Rattle.wsn_text.specs.Validated.{HasValidated}

@@ -8,8 +8,7 @@ use Rattle.wsn_rules.specs.TextLines.{IsLine, ended, AreLines}
 use Rattle.wsn_scan.specs.Judging.{chunk_size}
 use Rattle.wsn_capture.specs.declared.capture_stop.CaptureStop.TheVariants as capture
 use Rattle.wsn_capture.specs.CaptureAnswers.{begun_most, IsUnfaulted, IsFaultReported}
-use Rattle.wsn_redact.specs.declared.capture_redacting.RedactStop.{RedactStop}
-use Rattle.wsn_redact.specs.declared.capture_redacting.RedactStop.TheVariants.{Capture, Write}
+use Rattle.wsn_redact.specs.declared.capture_redacting.RedactStop.{RedactStop, TheVariants.{Capture, Write}}
 use Rattle.wsn_redact.specs.RedactedCaptures.{IsRedactedCapture}
 
 -- ---- texts

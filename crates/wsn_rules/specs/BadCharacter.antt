@@ -3,8 +3,7 @@
 use Rattle.std.specs.Prelude.{◌≡◌, ◌≢◌, ℕ, ◌+◌, ◌-◌, ◌<◌, ◌≤◌, true, false, Option, None, Some, List, [], ◌∷◌, ◌++◌, length, drop, map, if◌then◌else◌}
 use Rattle.std.specs.List.{AllByRecursion}
 use Rattle.std.specs.Str.Lossy.{utf8_valid_len}
-use Rattle.wsn_wire.specs.declared.refusal.Reason.{Reason}
-use Rattle.wsn_wire.specs.declared.refusal.Reason.TheVariants.{TextBad}
+use Rattle.wsn_wire.specs.declared.refusal.Reason.{Reason, TheVariants.{TextBad}}
 use Rattle.wsn_wire.specs.Frame.{Frame, head_bytes, frame_bytes, stream}
 use Rattle.wsn_text.specs.Utf8.{IsText, BeginsText}
 use Rattle.wsn_rules.specs.declared.head_info.HeadInfo.{HeadInfo}

@@ -1,8 +1,7 @@
 -- The entries of a capture's lines.
 use Rattle.std.specs.Prelude.{◌≡◌, ◌≢◌, ℕ, ◌⊎◌, ◌==◌, Ok, List, [], ◌∷◌, ◌++◌, codes, if◌then◌else◌}
 use Rattle.hex.specs.Hex.{decode_of}
-use Rattle.wsn_wire.specs.declared.endpoint.Role.{Role}
-use Rattle.wsn_wire.specs.declared.endpoint.Role.TheVariants.{Client, Server}
+use Rattle.wsn_wire.specs.declared.endpoint.Role.{Role, TheVariants.{Client, Server}}
 use Rattle.std.specs.List.{AllZip}
 
 -- A line without the CR at its end, if there is one.

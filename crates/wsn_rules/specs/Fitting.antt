@@ -1,16 +1,14 @@
 -- Which plans fit events within the limits. RFC 6455 sections 5.1, 5.2, 5.4 and 10.4.
 use Rattle.std.specs.Prelude.{◌≡◌, ◌≢◌, ℕ, ◌+◌, ◌-◌, ◌≤◌, ◌↔◌, ⊤, true, Some, List, [], ◌∷◌, ◌++◌, length, IsSome}
 use Rattle.std.specs.Option.{ForSome}
-use Rattle.wsn_wire.specs.declared.endpoint.Role.{Role}
-use Rattle.wsn_wire.specs.declared.endpoint.Role.TheVariants.{Client}
+use Rattle.wsn_wire.specs.declared.endpoint.Role.{Role, TheVariants.{Client}}
 use Rattle.wsn_wire.specs.declared.opcode.Kind.{Kind}
 use Rattle.wsn_wire.specs.declared.length_forms.Form.{Form}
 use Rattle.wsn_wire.specs.declared.length_forms.Form.TheVariants as form
 use Rattle.wsn_wire.specs.declared.length_forms.Lengths.{Lengths}
 use Rattle.wsn_wire.specs.declared.length_forms.Lengths.TheVariants as encodings
 use Rattle.wsn_wire.specs.Frame.{FormFits}
-use Rattle.wsn_rules.specs.declared.step.Step.{Step}
-use Rattle.wsn_rules.specs.declared.step.Step.TheVariants.{Piece, Last, Control}
+use Rattle.wsn_rules.specs.declared.step.Step.{Step, TheVariants.{Piece, Last, Control}}
 use Rattle.wsn_rules.specs.Limits.{Limits}
 use Rattle.wsn_rules.specs.Meaning.{MeantEvent}
 use Rattle.wsn_rules.specs.Meaning as meant

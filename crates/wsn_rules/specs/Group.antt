@@ -1,8 +1,7 @@
 -- Messages as groups of data frames. RFC 6455 section 5.4.
 use Rattle.std.specs.Prelude.{◌≢◌, ℕ, Bool, not, List, [], ◌∷◌, ◌++◌, if◌then◌else◌}
 use Rattle.std.specs.List.{fold, flat_map}
-use Rattle.wsn_wire.specs.declared.opcode.Op.{Op}
-use Rattle.wsn_wire.specs.declared.opcode.Op.TheVariants.{Continue, Text}
+use Rattle.wsn_wire.specs.declared.opcode.Op.{Op, TheVariants.{Continue, Text}}
 use Rattle.wsn_wire.specs.declared.opcode.Kind.{Kind}
 use Rattle.wsn_wire.specs.declared.opcode.Kind.TheVariants as kind
 use Rattle.wsn_wire.specs.Frame.{Frame, is_control}

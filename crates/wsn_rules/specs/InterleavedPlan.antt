@@ -1,7 +1,6 @@
 -- Interleaving: controls that come before a message move between its frames. RFC 6455 section 5.4.
 use Rattle.std.specs.Prelude.{◌≡◌, ℕ, Bool, true, false, Option, List, [], ◌∷◌, ◌++◌, filter, take}
-use Rattle.wsn_rules.specs.declared.step.Step.{Step}
-use Rattle.wsn_rules.specs.declared.step.Step.TheVariants.{Piece, Last, Control}
+use Rattle.wsn_rules.specs.declared.step.Step.{Step, TheVariants.{Piece, Last, Control}}
 use Rattle.wsn_rules.specs.Plan.{ends, pending}
 
 -- The step is a Piece or a Last, not a Control.

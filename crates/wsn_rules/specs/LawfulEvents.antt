@@ -1,9 +1,7 @@
 -- Lawful events: those that lawful frames can mean. RFC 6455 sections 5.5, 5.6, 7.4 and 8.1.
 use Rattle.std.specs.Prelude.{◌≡◌, ℕ, ◌^◌, ◌<◌, ◌≤◌, true, List, [], ◌∷◌, length}
-use Rattle.wsn_wire.specs.declared.opcode.Op.{Op}
-use Rattle.wsn_wire.specs.declared.opcode.Op.TheVariants.{Close}
-use Rattle.wsn_wire.specs.declared.opcode.Kind.{Kind}
-use Rattle.wsn_wire.specs.declared.opcode.Kind.TheVariants.{Text}
+use Rattle.wsn_wire.specs.declared.opcode.Op.{Op, TheVariants.{Close}}
+use Rattle.wsn_wire.specs.declared.opcode.Kind.{Kind, TheVariants.{Text}}
 use Rattle.wsn_wire.specs.Frame.{is_control, IsBytes}
 use Rattle.wsn_text.specs.Utf8.{IsText}
 use Rattle.wsn_text.specs.CloseBody.{IsCloseBody}

@@ -1,13 +1,11 @@
 -- The form of the examples of plans and recuts, and the plans and events in them.
 use Rattle.std.specs.Prelude.{◌≡◌, ℕ, Option, None, Some, List, [], ◌∷◌, Bool}
 use Rattle.wsn_wire.specs.declared.endpoint.Role.{Role}
-use Rattle.wsn_wire.specs.declared.opcode.Op.TheVariants.{Ping}
 use Rattle.wsn_wire.specs.declared.opcode.Kind.TheVariants.{Text}
 use Rattle.wsn_wire.specs.declared.length_forms.Form.TheVariants.{Shortest}
 use Rattle.wsn_wire.specs.declared.length_forms.Lengths.TheVariants.{Any}
 use Rattle.wsn_wire.specs.Frame.{Frame}
-use Rattle.wsn_rules.specs.declared.step.Step.{Step}
-use Rattle.wsn_rules.specs.declared.step.Step.TheVariants.{Piece, Last, Control}
+use Rattle.wsn_rules.specs.declared.step.Step.{Step, TheVariants.{Piece, Last, Control}}
 use Rattle.wsn_rules.specs.Limits.{Limits}
 use Rattle.wsn_rules.specs.Group.{unfinished}
 use Rattle.wsn_rules.specs.Accepted.{IsAccepted}
@@ -16,7 +14,7 @@ use Rattle.wsn_rules.specs.Meaning as meant
 use Rattle.wsn_rules.specs.Fitting.{Fits}
 use Rattle.wsn_rules.specs.Recut.{recut_bytes, plan_of}
 use Rattle.wsn_rules.specs.Examples.{greatest}
-use Rattle.wsn_wire.specs.declared.opcode.Op.{Op}
+use Rattle.wsn_wire.specs.declared.opcode.Op.{Op, TheVariants.{Ping}}
 
 -- A Piece without a key, with the shortest encoding of its length.
 abbrev pub bare_piece : ℕ → Step

@@ -7,8 +7,7 @@ use Rattle.wsn_wire.specs.declared.opcode.Kind.{Kind}
 use Rattle.wsn_wire.specs.declared.opcode.Kind.TheVariants as kind
 use Rattle.wsn_wire.specs.declared.length_forms.Form.TheVariants.{Shortest}
 use Rattle.wsn_wire.specs.Frame.{Frame, is_control, stream}
-use Rattle.wsn_rules.specs.declared.step.Step.{Step}
-use Rattle.wsn_rules.specs.declared.step.Step.TheVariants.{Piece, Last, Control}
+use Rattle.wsn_rules.specs.declared.step.Step.{Step, TheVariants.{Piece, Last, Control}}
 use Rattle.wsn_rules.specs.Meaning.{MeantEvent}
 use Rattle.wsn_rules.specs.Meaning as meant
 use Rattle.wsn_rules.specs.NormalForm.{op_of, normal_key}

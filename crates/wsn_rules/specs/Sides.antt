@@ -1,15 +1,13 @@
 -- The stream that each endpoint sent, and what became of it. RFC 6455 sections 7.1.4 to 7.1.7.
 use Rattle.std.specs.Prelude.{◌≡◌, ℕ, Bool, true, false, Option, None, Some, List, [], if◌then◌else◌}
 use Rattle.std.specs.List.{list_any, flat_map}
-use Rattle.wsn_wire.specs.declared.endpoint.Role.{Role}
-use Rattle.wsn_wire.specs.declared.endpoint.Role.TheVariants.{Client, Server}
+use Rattle.wsn_wire.specs.declared.endpoint.Role.{Role, TheVariants.{Client, Server}}
 use Rattle.wsn_wire.specs.Frame.{Frame}
 use Rattle.wsn_rules.specs.declared.verdict.Verdict.{Verdict}
 use Rattle.wsn_rules.specs.declared.verdict.Verdict.TheVariants as verdicts
 use Rattle.wsn_rules.specs.Limits.{Limits}
 use Rattle.wsn_rules.specs.Verdict.{IsVerdict}
-use Rattle.wsn_rules.specs.declared.report.Side.{Side}
-use Rattle.wsn_rules.specs.declared.report.Side.TheVariants.{Closed, Refused, Ended, Cut, Running}
+use Rattle.wsn_rules.specs.declared.report.Side.{Side, TheVariants.{Closed, Refused, Ended, Cut, Running}}
 use Rattle.wsn_rules.specs.Entries.{Entry}
 use Rattle.wsn_rules.specs.Entries.Entry.{Bytes, Mark}
 

@@ -1,8 +1,7 @@
 -- The counts of a stream that isn't refused. RFC 6455 sections 5.4 to 5.6 and 7.1.5.
 use Rattle.std.specs.Prelude.{ℕ, Bool, true, false, ◌&&◌, Option, Some, None, List, [], ◌∷◌, length, filter, if◌then◌else◌}
 use Rattle.std.specs.Int.{from_be_bytes, w16}
-use Rattle.wsn_wire.specs.declared.opcode.Op.{Op}
-use Rattle.wsn_wire.specs.declared.opcode.Op.TheVariants.{Close, Ping, Pong}
+use Rattle.wsn_wire.specs.declared.opcode.Op.{Op, TheVariants.{Close, Ping, Pong}}
 use Rattle.wsn_wire.specs.Frame.{Frame}
 use Rattle.wsn_rules.specs.declared.verdict.Summary.{Summary}
 use Rattle.wsn_rules.specs.Group.{is_data, unfinished, payload_of}

@@ -1,7 +1,6 @@
 -- What is noted of the end of a capture and of the times of both endpoints' last bytes, and what it says of the lines.
 use Rattle.std.specs.Prelude.{◌≡◌, ℕ, ◌↔◌, Bool, IsTrue, Option, List, slice_get}
-use Rattle.wsn_wire.specs.declared.endpoint.Role.{Role}
-use Rattle.wsn_wire.specs.declared.endpoint.Role.TheVariants.{Client, Server}
+use Rattle.wsn_wire.specs.declared.endpoint.Role.{Role, TheVariants.{Client, Server}}
 use Rattle.wsn_rules.specs.Entries.{Entry}
 use Rattle.wsn_show.specs.EndedBy.{end_marks, SayReset}
 use Rattle.wsn_show.specs.declared.end_notes.EndNotes.{EndNotes}

@@ -1,7 +1,6 @@
 -- The last payload bytes of the open message, with their offsets, and the bad character that they end with.
 use Rattle.std.specs.Prelude.{◌≡◌, ℕ, ◌+◌, ◌<◌, ◌^◌, ⊤, false, Option, None, Some, List, ◌++◌, length, map}
-use Rattle.wsn_wire.specs.declared.refusal.Reason.{Reason}
-use Rattle.wsn_wire.specs.declared.refusal.Reason.TheVariants.{TextBad}
+use Rattle.wsn_wire.specs.declared.refusal.Reason.{Reason, TheVariants.{TextBad}}
 use Rattle.wsn_wire.specs.Frame.{Frame, is_control, stream}
 use Rattle.wsn_rules.specs.declared.head_info.HeadInfo.{HeadInfo}
 use Rattle.wsn_rules.specs.BadCharacter.{BadCharacter, payload_offset, last_of, character_of, PlacedByte}

@@ -14,8 +14,7 @@ use Rattle.wsn_capture.specs.Tails.{AreTails}
 use Rattle.wsn_capture.specs.RefusedLines.{AreRefusedLines}
 use Rattle.wsn_capture.specs.CaptureAnswers.{IsFaulty, IsUnfaulted}
 use Rattle.wsn_show.specs.declared.capture_view.CaptureView.{CaptureView}
-use Rattle.wsn_show.specs.declared.showing.ShowStop.{ShowStop}
-use Rattle.wsn_show.specs.declared.showing.ShowStop.TheVariants.{Capture, Write}
+use Rattle.wsn_show.specs.declared.showing.ShowStop.{ShowStop, TheVariants.{Capture, Write}}
 use Rattle.wsn_show.specs.CaptureViews.{HasShownLines, ShowsLine}
 use Rattle.wsn_show.specs.Showing.{IsTextOfLines, BeginWithLines, IsTextOf, IsWholeText, IsPrintedBefore, IsTextSoFar}
 

@@ -19,8 +19,7 @@ use Rattle.wsn_capture.specs.LineFaults.{AreAcceptedLines}
 use Rattle.wsn_capture.specs.Tails.{AreTails}
 use Rattle.wsn_capture.specs.RefusedLines.{AreRefusedLines}
 use Rattle.wsn_capture.specs.CaptureAnswers.{begun_most, IsUnfaulted, IsFaultReported}
-use Rattle.wsn_show.specs.declared.showing.ShowStop.{ShowStop}
-use Rattle.wsn_show.specs.declared.showing.ShowStop.TheVariants.{Capture, Write}
+use Rattle.wsn_show.specs.declared.showing.ShowStop.{ShowStop, TheVariants.{Capture, Write}}
 
 -- ---- lines
 

@@ -4,8 +4,7 @@ use Rattle.std.specs.Prelude.{ℕ, Option, None, Some, List, ◌++◌, codes}
 use Rattle.wsn_wire.specs.declared.endpoint.Role.{Role}
 use Rattle.wsn_rules.specs.declared.compared.Compared.TheVariants.{Different}
 use Rattle.wsn_rules.specs.ShownStream.{Item}
-use Rattle.wsn_print.specs.declared.format.Format.{Format}
-use Rattle.wsn_print.specs.declared.format.Format.TheVariants.{Text, Json}
+use Rattle.wsn_print.specs.declared.format.Format.{Format, TheVariants.{Text, Json}}
 use Rattle.wsn_print.specs.VerdictText.{comparison_line}
 use Rattle.wsn_shown_text.specs.DifferingText.{differ_line, differ_field}
 use Rattle.wsn_print.specs.Json.{field, string_field, number_field}

@@ -4,8 +4,7 @@ use Rattle.wsn_wire.specs.declared.endpoint.Role.{Role}
 use Rattle.wsn_rules.specs.ShownStream.{Item}
 use Rattle.wsn_rules.specs.ShownCapture.{LineItem, ShownLine}
 use Rattle.wsn_rules.specs.ShownCapture.LineItem.{OfStream, End, Comment}
-use Rattle.wsn_print.specs.declared.format.Format.{Format}
-use Rattle.wsn_print.specs.declared.format.Format.TheVariants.{Text, Json}
+use Rattle.wsn_print.specs.declared.format.Format.{Format, TheVariants.{Text, Json}}
 use Rattle.wsn_print.specs.EscapedText.{comment_line}
 use Rattle.wsn_print.specs.ShownParts.{EntryPosition, time_at, number_at}
 use Rattle.wsn_print.specs.ShownParts.EntryPosition.{InLine}

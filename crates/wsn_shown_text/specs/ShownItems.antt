@@ -5,8 +5,7 @@ use Rattle.wsn_rules.specs.BadCharacter.{BadCharacter}
 use Rattle.wsn_rules.specs.Meaning.{MeantEvent}
 use Rattle.wsn_rules.specs.ShownStream.{Item}
 use Rattle.wsn_rules.specs.ShownStream.Item.{Event, Head, Unfinished, UnfinishedHead, RefusedFrame}
-use Rattle.wsn_print.specs.declared.format.Format.{Format}
-use Rattle.wsn_print.specs.declared.format.Format.TheVariants.{Text, Json}
+use Rattle.wsn_print.specs.declared.format.Format.{Format, TheVariants.{Text, Json}}
 use Rattle.wsn_print.specs.ShownParts.{EntryPosition, time_at, Represents, HasText, HasTextPayload, IsFrontOf, IsEndOf, character_in, item_of_remainder}
 use Rattle.wsn_shown_text.specs.declared.items.ShownItem.{ShownItem}
 use Rattle.wsn_shown_text.specs.declared.items.ShownItem.TheVariants as shown

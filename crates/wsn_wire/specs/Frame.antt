@@ -2,10 +2,8 @@
 use Rattle.std.specs.Prelude.{◌≡◌, ℕ, ◌+◌, ◌%◌, ◌^◌, ◌<◌, ◌≤◌, Bool, true, false, List, [], ◌∷◌, ◌++◌, length, slice_index, bit_xor, Option, None, Some, IfSome, IsSome, ◌↔◌, is_some, nat_lt, if◌then◌else◌, ⊤}
 use Rattle.std.specs.List.{AllByRecursion, flat_map}
 use Rattle.std.specs.Int.{to_be_bytes, w16, w64}
-use Rattle.wsn_wire.specs.declared.endpoint.Role.{Role}
-use Rattle.wsn_wire.specs.declared.endpoint.Role.TheVariants.{Client}
-use Rattle.wsn_wire.specs.declared.opcode.Op.{Op}
-use Rattle.wsn_wire.specs.declared.opcode.Op.TheVariants.{Continue, Text, Binary, Close, Ping, Pong}
+use Rattle.wsn_wire.specs.declared.endpoint.Role.{Role, TheVariants.{Client}}
+use Rattle.wsn_wire.specs.declared.opcode.Op.{Op, TheVariants.{Continue, Text, Binary, Close, Ping, Pong}}
 use Rattle.wsn_wire.specs.declared.length_forms.Form.{Form}
 use Rattle.wsn_wire.specs.declared.length_forms.Form.TheVariants as form
 use Rattle.wsn_wire.specs.declared.length_forms.LenForm.{LenForm}

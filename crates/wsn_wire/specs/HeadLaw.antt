@@ -1,7 +1,6 @@
 -- The rules for the head of a frame that an endpoint sends. RFC 6455 sections 5.1, 5.2 and 5.5.
 use Rattle.std.specs.Prelude.{◌≡◌, ℕ, ◌≤◌, ◌↔◌, true, List, length, IsSome}
-use Rattle.wsn_wire.specs.declared.endpoint.Role.{Role}
-use Rattle.wsn_wire.specs.declared.endpoint.Role.TheVariants.{Client}
+use Rattle.wsn_wire.specs.declared.endpoint.Role.{Role, TheVariants.{Client}}
 use Rattle.wsn_wire.specs.declared.length_forms.Form.TheVariants as form
 use Rattle.wsn_wire.specs.declared.length_forms.Lengths.{Lengths}
 use Rattle.wsn_wire.specs.declared.length_forms.Lengths.TheVariants as encodings

@@ -1,8 +1,7 @@
 -- How bytes are read as a frame, whether or not such a frame may be sent. RFC 6455 section 5.2.
 use Rattle.std.specs.Prelude.{◌≡◌, ℕ, ◌%◌, ◌/◌, Bool, List, ◌∷◌, ◌++◌, length, nat_lt, nat_le, ◌==◌, if◌then◌else◌}
 use Rattle.std.specs.Int.{from_be_bytes, w16, w64}
-use Rattle.wsn_wire.specs.declared.length_forms.LenForm.{LenForm}
-use Rattle.wsn_wire.specs.declared.length_forms.LenForm.TheVariants.{Short, Two, Eight}
+use Rattle.wsn_wire.specs.declared.length_forms.LenForm.{LenForm, TheVariants.{Short, Two, Eight}}
 use Rattle.wsn_wire.specs.Frame.{IsBytes}
 
 -- ---- the fields of the first two bytes
