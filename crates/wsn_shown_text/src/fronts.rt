@@ -37,12 +37,7 @@ pub(crate) fn push_front(
 }
 
 #[inline(always)]
-fn push_untimed(
-    line: &mut Line<ENTRY_MAX>,
-    format: Format,
-    kind: &str,
-    front: &EntryFront<'_>,
-)
+fn push_untimed(line: &mut Line<ENTRY_MAX>, format: Format, kind: &str, front: &EntryFront<'_>)
     requires empty { line.old ≡ [] }
     requires short { length kind.now ≤ 10 }
     requires untimed { time_at (position_of front.now.origin) ≡ None }

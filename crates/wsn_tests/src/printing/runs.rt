@@ -104,15 +104,9 @@ fn expect_comment(rt: &impl Abort, alloc: Global, text: &str) {
     comment
         .extend_from_slice(text.as_bytes())
         .expect(rt, "memory");
-    assert_eq!(rt;
-        put_comment_as(
-            &mut Output::new(&mut object),
-            Format::Json,
-            7,
-            comment.as_slice()
-        ),
-        Ok(())
-    );
+    let mut output = Output::new(&mut object);
+    let put = put_comment_as(&mut output, Format::Json, 7, comment.as_slice());
+    assert_eq!(rt; put, Ok(()));
     let front = b"{\"type\":\"comment\",\"line\":7,\"text\":\"";
     let expected = written(alloc, front, text, true, b"\"}\n").expect(rt, "memory");
     assert_eq!(rt; object.as_slice(), expected.as_slice(), "{text}");
@@ -156,58 +150,21 @@ fn expect_view(rt: &impl Abort, alloc: Global, text: &str, most: u16) {
     let view = ViewLimit::new(most).expect(rt, "a view of at most 4096 bytes");
     let bytes = text.as_bytes();
     let shown = whole(bytes.get(..usize::from(most)).unwrap_or(bytes));
-    let event = ShownEvent {
-        op: Op::Text,
-        bytes: bytes.len() as u64,
-        frames: 1,
-        held: bytes,
-    };
-    let is_cut = shown.len() < bytes.len();
-    let front = EntryFront {
-        role: Role::Server,
-        origin: Origin::Stream,
-        offset: 0,
-    };
-    let item = ShownItem::Event(event);
+    let item = ShownItem::Event(event_of(bytes));
+    let (line_end, object_end) = ends(shown.len() < bytes.len());
     let mut line = Vec::new(alloc);
-    assert_eq!(rt;
-        put_entry(
-            &mut Output::new(&mut line),
-            Format::Text,
-            view,
-            &front,
-            &item
-        ),
-        Ok(())
-    );
-    let end: &[u8] = if is_cut { b"\" ..\n" } else { b"\"\n" };
-    let expected = written(alloc, b" 1 \"", shown, true, end).expect(rt, "memory");
-    let is_dash = most == 0 && !bytes.is_empty();
-    assert!(rt;
-        is_dash || line.as_slice().ends_with(expected.as_slice()),
-        "{text} {most}"
-    );
+    let mut output = Output::new(&mut line);
+    let put = put_entry(&mut output, Format::Text, view, &FRONT, &item);
+    assert_eq!(rt; put, Ok(()));
+    if most > 0 || bytes.is_empty() {
+        expect_quoted(rt, alloc, line.as_slice(), shown, (b" 1 \"", line_end));
+    }
     let mut object = Vec::new(alloc);
-    assert_eq!(rt;
-        put_entry(
-            &mut Output::new(&mut object),
-            Format::Json,
-            view,
-            &front,
-            &item
-        ),
-        Ok(())
-    );
-    let end: &[u8] = if is_cut {
-        b"\",\"truncated\":true}\n"
-    } else {
-        b"\"}\n"
-    };
-    let expected = written(alloc, b",\"text\":\"", shown, true, end).expect(rt, "memory");
-    assert!(rt;
-        object.as_slice().ends_with(expected.as_slice()),
-        "{text} {most}"
-    );
+    let mut output = Output::new(&mut object);
+    let put = put_entry(&mut output, Format::Json, view, &FRONT, &item);
+    assert_eq!(rt; put, Ok(()));
+    let around = (b",\"text\":\"".as_slice(), object_end);
+    expect_quoted(rt, alloc, object.as_slice(), shown, around);
 }
 
 /// Fails unless the first bytes of a message's text are written as they should be while no more have come, in words and
@@ -216,59 +173,20 @@ fn expect_unfinished(rt: &impl Abort, alloc: Global, text: &str, count: usize) {
     let view = ViewLimit::new(4_096).expect(rt, "a view of at most 4096 bytes");
     let bytes = text.as_bytes().get(..count).expect(rt, "enough bytes");
     let shown = whole(bytes);
-    let event = ShownEvent {
-        op: Op::Text,
-        bytes: bytes.len() as u64,
-        frames: 1,
-        held: bytes,
-    };
-    let is_cut = shown.len() < bytes.len();
-    let front = EntryFront {
-        role: Role::Server,
-        origin: Origin::Stream,
-        offset: 0,
-    };
-    let item = ShownItem::Unfinished(event, Some(7));
+    let item = ShownItem::Unfinished(event_of(bytes), Some(7));
+    let (line_end, object_end) = ends(shown.len() < bytes.len());
     let mut line = Vec::new(alloc);
-    assert_eq!(rt;
-        put_entry(
-            &mut Output::new(&mut line),
-            Format::Text,
-            view,
-            &front,
-            &item
-        ),
-        Ok(())
-    );
-    let end: &[u8] = if is_cut { b"\" ..\n" } else { b"\"\n" };
-    let expected = written(alloc, b" lacks 7 \"", shown, true, end).expect(rt, "memory");
-    assert!(rt;
-        line.as_slice().ends_with(expected.as_slice()),
-        "{text} {count}"
-    );
+    let mut output = Output::new(&mut line);
+    let put = put_entry(&mut output, Format::Text, view, &FRONT, &item);
+    assert_eq!(rt; put, Ok(()));
+    let around = (b" lacks 7 \"".as_slice(), line_end);
+    expect_quoted(rt, alloc, line.as_slice(), shown, around);
     let mut object = Vec::new(alloc);
-    assert_eq!(rt;
-        put_entry(
-            &mut Output::new(&mut object),
-            Format::Json,
-            view,
-            &front,
-            &item
-        ),
-        Ok(())
-    );
-    let end: &[u8] = if is_cut {
-        b"\",\"truncated\":true}\n"
-    } else {
-        b"\"}\n"
-    };
-    let expected = written(alloc, b",\"lacks\":7,\"text\":\"", shown, true, end).expect(
-        rt, "memory",
-    );
-    assert!(rt;
-        object.as_slice().ends_with(expected.as_slice()),
-        "{text} {count}"
-    );
+    let mut output = Output::new(&mut object);
+    let put = put_entry(&mut output, Format::Json, view, &FRONT, &item);
+    assert_eq!(rt; put, Ok(()));
+    let around = (b",\"lacks\":7,\"text\":\"".as_slice(), object_end);
+    expect_quoted(rt, alloc, object.as_slice(), shown, around);
 }
 
 /// A text of `before` letters, a character, and 40 letters less.
