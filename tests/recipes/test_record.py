@@ -82,10 +82,10 @@ def until(connection, mark):
     """What comes up to a mark."""
     data = b""
     while not data.endswith(mark):
-        piece = connection.recv(1)
-        if not piece:
+        chunk = connection.recv(1)
+        if not chunk:
             raise Failed(f"the connection ended after {data!r}")
-        data += piece
+        data += chunk
     return data
 
 
@@ -93,10 +93,10 @@ def exactly(connection, count):
     """So many bytes that come."""
     data = bytearray()
     while len(data) < count:
-        piece = connection.recv(min(65536, count - len(data)))
-        if not piece:
+        chunk = connection.recv(min(65536, count - len(data)))
+        if not chunk:
             raise Failed(f"the connection ended after {len(data)} of {count} bytes")
-        data += piece
+        data += chunk
     return bytes(data)
 
 

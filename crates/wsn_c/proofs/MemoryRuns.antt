@@ -6,24 +6,24 @@ use Rattle.std.proofs.Common.{rules, refl, subst}
 use Rattle.wsn_io.specs.Transfer.{Incoming, Outgoing}
 use Rattle.wsn_command.specs.declared.answered.Ran.{Ran}
 use Rattle.wsn_command.specs.declared.job.Job.{Job}
-use Rattle.wsn_job.specs.Jobs.{IsRun}
+use Rattle.wsn_job.specs.Work.{IsRun}
 use Rattle.wsn_io.specs.declared.stop.Stop.{Stop}
 use Rattle.wsn_rules.specs.declared.compared.Compared.{Compared}
 use Rattle.wsn_print.specs.Statuses.{comparison_status}
-use Rattle.wsn_job.specs.Channels.{channels}
-use Rattle.wsn_job.specs.ComparedChannels.{compared_channels}
+use Rattle.wsn_job.specs.Channels.{channels, compared_channels}
 use Rattle.wsn_job.specs.Comparisons.{IsComparisonPrinted}
 use Rattle.wsn_job.specs.Diagnostics.{IsStopDiagnosed}
 use Rattle.wsn_command.specs.declared.comparison.Comparison.{Comparison}
 use Rattle.wsn_c.specs.declared.options.Options.{Options}
 use Rattle.wsn_c.specs.declared.options.Asked.{Asked}
 use Rattle.wsn_c.specs.Asking.{AreInRange, IsAsked}
-use Rattle.wsn_c.specs.Calls.{Call, IsRunOver, IsComparedOver, GivesRun, IsCalled, input_of, output_of}
+use Rattle.wsn_job.specs.Calls.{Call, IsRunOver, input_of, output_of}
+use Rattle.wsn_c.specs.Calls.{IsComparedOver, GivesRun, IsCalled}
 
 pub runs_over : (job : Job Global) (bytes text said : List ℕ) (ran : Ran) (left first : Incoming) (o o' e e' : Outgoing)
     → first ≡ input_of bytes → o ≡ output_of [] false → e ≡ output_of [] false
     → o' ≡ output_of text o'.failed → e' ≡ output_of said e'.failed
-    → IsRun job (channels first o e) (channels left o' e') ran → IsRunOver job bytes text said ran.status
+    → IsRun job (channels first o e) (channels left o' e') ran → IsRunOver job bytes text said e'.failed ran.status
 runs_over job bytes text said ran left first o o' e e' is_input is_output is_errors printed told run =
     let i : Incoming = input_of bytes in let none : Outgoing = output_of [] false in
     let run1 = subst (λ (x : Incoming). IsRun job (channels x o e) (channels left o' e') ran) is_input run in
@@ -33,7 +33,6 @@ runs_over job bytes text said ran left first o o' e e' is_input is_output is_err
     record {
       left = left;
       printing_failed = o'.failed;
-      saying_failed = e'.failed;
       ran = ran;
       status = refl;
       run = subst (λ (x : Outgoing). IsRun job (channels i none none) (channels left (output_of text o'.failed) x) ran) told run4;

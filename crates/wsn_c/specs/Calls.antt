@@ -1,12 +1,10 @@
 -- What the calls answer.
-use Rattle.std.specs.Prelude.{◌≡◌, ◌++◌, ℕ, Bool, true, false, Option, Result, List, [], None, Some, length, take, drop, codes}
+use Rattle.std.specs.Prelude.{◌≡◌, ℕ, Bool, false, Option, Result, List, [], codes}
 use Rattle.std.specs.declared.alloc.Global.{Global}
-use Rattle.wsn_io.specs.Transfer.{Incoming, Outgoing}
-use Rattle.wsn_command.specs.declared.answered.Ran.{Ran}
+use Rattle.wsn_io.specs.Transfer.{Incoming}
 use Rattle.wsn_command.specs.declared.job.Job.{Job}
-use Rattle.wsn_job.specs.Jobs.{IsRun}
-use Rattle.wsn_job.specs.Channels.{channels}
-use Rattle.wsn_job.specs.ComparedChannels.{compared_channels}
+use Rattle.wsn_job.specs.Calls.{Call, Gives, IsRunOver, input_of, output_of}
+use Rattle.wsn_job.specs.Channels.{compared_channels}
 use Rattle.wsn_job.specs.Comparisons.{IsComparisonPrinted}
 use Rattle.wsn_job.specs.Diagnostics.{IsStopDiagnosed}
 use Rattle.wsn_command.specs.declared.comparison.Comparison.{Comparison}
@@ -18,16 +16,6 @@ use Rattle.wsn_c.specs.declared.options.Options.{Options}
 use Rattle.wsn_c.specs.declared.options.Asked.{Asked}
 use Rattle.wsn_c.specs.Asking.{AreInRange, IsAsked}
 
--- ---- rooms
-
--- A call's rooms, as it found them and as it leaves them, and its answer.
-pub record Call : Type 0 where
-  pub output_before : List ℕ
-  pub output_after : List ℕ
-  pub message_before : List ℕ
-  pub message_after : List ℕ
-  pub answer : Answer
-
 -- a call, from each by itself
 abbrev pub call : List ℕ → List ℕ → List ℕ → List ℕ → Answer → Call
 call output_before output_after message_before message_after answer = record {
@@ -35,45 +23,15 @@ call output_before output_after message_before message_after answer = record {
   output_after = output_after;
   message_before = message_before;
   message_after = message_after;
-  answer = answer;
+  output_size = answer.output;
+  message_size = answer.message;
+  status = answer.status;
 }
-
--- a room with as much of a text at its front as fits
-abbrev pub fitted : List ℕ → List ℕ → List ℕ
-fitted text room = take (length room) text ++ drop (length text) room
-
--- The call gives this text, this message and this exit status.
-pub record Gives (done : Call) (text said : List ℕ) (exit : ℕ) : Type 0 where
-  pub output : done.output_after ≡ fitted text done.output_before
-  pub output_size : done.answer.output ≡ length text
-  pub message : done.message_after ≡ fitted said done.message_before
-  pub message_size : done.answer.message ≡ length said
-  pub status : done.answer.status ≡ exit
-
--- ---- runs
-
--- an input of these bytes, which are in memory; none has come
-abbrev pub input_of : List ℕ → Incoming
-input_of bytes = record { remaining = Some bytes; count = 0; failed = false; lent = true }
-
--- an output that holds these bytes
-abbrev pub output_of : List ℕ → Bool → Outgoing
-output_of bytes failed = record { written = Some bytes; failed = failed }
-
--- The command's run over these bytes prints this text on standard output, this message on standard error, and has this
--- exit status. A write fails only if memory is refused.
-pub record IsRunOver (job : Job Global) (bytes text said : List ℕ) (exit : ℕ) : Type 0 where
-  pub left : Incoming
-  pub printing_failed : Bool
-  pub saying_failed : Bool
-  pub ran : Ran
-  pub run : IsRun job (channels (input_of bytes) (output_of [] false) (output_of [] false))
-      (channels left (output_of text printing_failed) (output_of said saying_failed)) ran
-  pub status : exit ≡ ran.status
 
 -- The call gives what the command's run over these bytes prints.
 abbrev pub GivesRun : Job Global → List ℕ → Call → Type 0
-GivesRun job bytes done = (text said : List ℕ) × (exit : ℕ) × IsRunOver job bytes text said exit × Gives done text said exit
+GivesRun job bytes done = (text said : List ℕ) × (saying_failed : Bool) × (exit : ℕ)
+    × IsRunOver job bytes text said saying_failed exit × Gives done text said exit
 
 -- The call tells that what it was asked is out of range.
 abbrev pub GivesUsage : Call → Type 0
@@ -92,26 +50,15 @@ pub record IsComparedOver (comparison : Comparison) (first second text said : Li
   pub status : exit ≡ comparison_status answer
   pub diagnosed : IsStopDiagnosed answer (output_of [] false) (output_of said saying_failed)
 
--- The view of events that differ: that of the options, or none, where no event is shown.
-abbrev pub view_shown : Asked → Option ℕ
-view_shown asked = Some asked.style.view
-
-abbrev pub view_unshown : Asked → Option ℕ
-view_unshown asked = None
-
--- The comparison that is asked for, with this view of events that differ.
-pub record IsComparisonAsked (asked : Asked) (wanted : Option ℕ) (comparison : Comparison) : Type 0 where
-  pub role : comparison.role ≡ asked.role
-  pub limits : comparison.limits ≡ asked.limits
-  pub without : comparison.without ≡ asked.without
-  pub format : comparison.format ≡ asked.style.format
-  pub view : comparison.view ≡ wanted
+-- the comparison that is asked for, with this view of events that differ
+abbrev pub comparison_asked : Asked → Option ℕ → Comparison
+comparison_asked asked view =
+    record { role = asked.role; limits = asked.limits; without = asked.without; format = asked.style.format; view = view }
 
 -- The call gives what the comparison of these bytes prints that is asked for.
 abbrev pub GivesComparison : Asked → Option ℕ → List ℕ → List ℕ → Call → Type 0
-GivesComparison asked view first second done = (comparison : Comparison) × IsComparisonAsked asked view comparison
-    × (text : List ℕ) × (said : List ℕ) × (exit : ℕ) × IsComparedOver comparison first second text said exit
-    × Gives done text said exit
+GivesComparison asked view first second done = (text said : List ℕ) × (exit : ℕ)
+    × IsComparedOver (comparison_asked asked view) first second text said exit × Gives done text said exit
 
 -- The call does for its options what the program does: the command's run that they ask for. Options out of range are
 -- told.

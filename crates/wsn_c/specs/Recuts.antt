@@ -14,7 +14,8 @@ use Rattle.wsn_plan_text.specs.declared.plan_fault.LineWhy.TheVariants.{BadForm,
 use Rattle.wsn_c.specs.declared.options.Options.{Options}
 use Rattle.wsn_c.specs.declared.options.Asked.{Asked}
 use Rattle.wsn_c.specs.Asking.{AreInRange, IsAsked}
-use Rattle.wsn_c.specs.Calls.{Call, Gives, GivesRun, GivesUsage}
+use Rattle.wsn_job.specs.Calls.{Call, Gives}
+use Rattle.wsn_c.specs.Calls.{GivesRun, GivesUsage}
 use Rattle.wsn_c.specs.Numbers.{flag_number}
 
 -- ---- by a plan

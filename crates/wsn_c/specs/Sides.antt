@@ -2,15 +2,15 @@
 use Rattle.std.specs.Prelude.{◌≡◌, ◌⊎◌, ◌++◌, ◌∷◌, ℕ, List, []}
 use Rattle.wsn_wire.specs.declared.endpoint.Role.{Role}
 use Rattle.wsn_io.specs.declared.stop.Stop.TheVariants.{Memory}
-use Rattle.wsn_print.specs.FaultText.{line_fault_line}
-use Rattle.wsn_print.specs.StopText.{stop_line}
+use Rattle.wsn_print.specs.FaultText.{line_fault_line, stop_line}
 use Rattle.wsn_capture.specs.declared.line_fault.LineFault.{LineFault}
 use Rattle.wsn_capture.specs.LineFaults.{fault_word}
 use Rattle.wsn_capture.specs.SideTexts.{sent_in, sentinel}
 use Rattle.wsn_c.specs.declared.options.Options.{Options}
 use Rattle.wsn_c.specs.declared.options.Asked.{Asked}
 use Rattle.wsn_c.specs.Asking.{AreInRange, IsAsked}
-use Rattle.wsn_c.specs.Calls.{Call, Gives, GivesUsage}
+use Rattle.wsn_job.specs.Calls.{Call, Gives}
+use Rattle.wsn_c.specs.Calls.{GivesUsage}
 
 -- The call gives the bytes before the first line that isn't accepted, and tells the line.
 pub record IsToldFaulty (role : Role) (capture : List ℕ) (done : Call) : Type 0 where

@@ -1,4 +1,5 @@
-ghost use Rattle.wsn_c.specs.Calls.{IsCompared, GivesComparison, call, view_shown, view_unshown};
+ghost use Rattle.std.specs.Prelude.{None, Some};
+ghost use Rattle.wsn_c.specs.Calls.{IsCompared, GivesComparison, call};
 
 use crate::answer::Answer;
 use crate::options::{Asked, Options};
@@ -20,7 +21,7 @@ pub extern "C" fn wsn_same(
     output: &mut [u8],
     message: &mut [u8],
 ) -> Answer
-    ensures { IsCompared options.now view_unshown first.now second.now
+    ensures { IsCompared options.now (λ asked. None) first.now second.now
         (call output.old output.new message.old message.new result) }
 {
     match options.asked() {
@@ -40,7 +41,7 @@ pub extern "C" fn wsn_same_view(
     output: &mut [u8],
     message: &mut [u8],
 ) -> Answer
-    ensures { IsCompared options.now view_shown first.now second.now
+    ensures { IsCompared options.now (λ asked. Some asked.style.view) first.now second.now
         (call output.old output.new message.old message.new result) }
 {
     match options.asked() {

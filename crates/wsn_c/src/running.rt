@@ -1,6 +1,7 @@
 ghost use Rattle.std.specs.Prelude.{◌≡◌, length};
 ghost use Rattle.wsn_command.specs.Jobs.{MayRun};
-ghost use Rattle.wsn_c.specs.Calls.{Gives, GivesRun, GivesUsage, call, fitted};
+ghost use Rattle.wsn_job.specs.Calls.{Gives, fitted};
+ghost use Rattle.wsn_c.specs.Calls.{GivesRun, GivesUsage, call};
 
 use crate::answer::Answer;
 use crate::text::Text;

@@ -25,12 +25,12 @@ use Rattle.wsn_capture.specs.declared.line_form.LineEntry.{LineEntry}
 use Rattle.wsn_capture.specs.declared.line_form.LineEntry.TheVariants as entries
 use Rattle.wsn_capture.specs.LineEntries.{held_entry, FitsInLine}
 use Rattle.wsn_capture.specs.Closes.{IsClosedBy, IsCloseLine, noted_line}
-use Rattle.wsn_capture.specs.CaptureLines.{HasAccepted, HasNotedCloses, HasNotedUpTo, IsJudged, IsNotedLine, IsNotedRefusal, count_of, input_of, room_left, close_line_of, refused_line_of, with_room_less, FitsRoom, ExceedsRoom}
+use Rattle.wsn_capture.specs.CaptureLines.{HasAccepted, HasNotedCloses, HasNotedUpTo, IsVerdictOnSide, IsNotedLine, IsNotedRefusal, count_of, with_room_less, FitsRoom, ExceedsRoom, sent_by}
 use Rattle.wsn_capture.proofs.AcceptedTexts.{as_many, taken_push, accepted_last}
 use Rattle.wsn_capture.proofs.ClosingLines.{sent-push, line_stays, line_new, line_none, line_kept}
 pub use Rattle.wsn_capture.proofs.OffendingLines.{own_bytes}
 use Rattle.wsn_capture.proofs.OffendingLines.{unrefused_by, refused_stays, refused_kept, refused_new}
-use Rattle.wsn_capture.proofs.SideEntries.{Fits, entry_accepted, fault_first, entry_limited, read_entry, short_line}
+use Rattle.wsn_capture.proofs.SideEntries.{FitsInput, entry_accepted, fault_first, entry_limited, read_entry, short_line}
 use Rattle.wsn_capture.proofs.SideLaws.{before-push}
 
 module _ (limits : Limits) (accepted : CaptureLines) (lines : List (List ℕ)) (given : List Entry) (has : HasAccepted limits accepted lines given) where
@@ -44,7 +44,7 @@ module _ (limits : Limits) (accepted : CaptureLines) (lines : List (List ℕ)) (
     pub faulty_line : (fault : LineFault) → entry_after accepted.before line ≡ Err fault → IsFaultAfter limits lines line fault
     faulty_line fault is = record { given = given; taken = has.taken; is = fault_first limits given line fault (after (Err fault) is) }
 
-    pub limited_line : (role : Role) (bytes : List ℕ) → entry_after accepted.before line ≡ Ok (Bytes role bytes) → room_left role accepted < length bytes → IsFaultAfter limits lines line InputLimit
+    pub limited_line : (role : Role) (bytes : List ℕ) → entry_after accepted.before line ≡ Ok (Bytes role bytes) → (sent_by role accepted).room < length bytes → IsFaultAfter limits lines line InputLimit
     limited_line role bytes is less = record {
       given = given;
       taken = has.taken;
@@ -53,8 +53,8 @@ module _ (limits : Limits) (accepted : CaptureLines) (lines : List (List ℕ)) (
 
     -- one more line
     pub accepted_push : (new : CaptureLines) (entry : Entry) → entry_after accepted.before line ≡ Ok entry → new.before ≡ with_entry accepted.before entry
-        → ((role : Role) → input_of role new ≡ input_of role accepted)
-        → ((role : Role) → room_left role new + length (bytes_in role entry) ≡ room_left role accepted) → Fits limits given line entry
+        → ((role : Role) → (sent_by role new).input ≡ (sent_by role accepted).input)
+        → ((role : Role) → (sent_by role new).room + length (bytes_in role entry) ≡ (sent_by role accepted).room) → FitsInput limits given line entry
         → HasAccepted limits new (lines ++ line ∷ []) (given ++ entry ∷ [])
     accepted_push new entry is before inputs room fits = grind (arith, taken_push, entry_accepted, after, before-push, sent-push, length-append)
 
@@ -63,37 +63,37 @@ module _ (limits : Limits) (accepted : CaptureLines) (lines : List (List ℕ)) (
 pub less_before : (entry : LineEntry) (old : CaptureLines) → (with_room_less entry old).before ≡ old.before
 less_before entry old = grind arith
 
-pub less_closes : (entry : LineEntry) (old : CaptureLines) (role : Role) → close_line_of role (with_room_less entry old) ≡ close_line_of role old
+pub less_closes : (entry : LineEntry) (old : CaptureLines) (role : Role) → (sent_by role (with_room_less entry old)).close_line ≡ (sent_by role old).close_line
 less_closes entry old role = grind arith
 
-less_inputs : (entry : LineEntry) (old : CaptureLines) (role : Role) → input_of role (with_room_less entry old) ≡ input_of role old
+less_inputs : (entry : LineEntry) (old : CaptureLines) (role : Role) → (sent_by role (with_room_less entry old)).input ≡ (sent_by role old).input
 less_inputs entry old role = grind arith
 
-less_refused : (entry : LineEntry) (old : CaptureLines) (role : Role) → refused_line_of role (with_room_less entry old) ≡ refused_line_of role old
+less_refused : (entry : LineEntry) (old : CaptureLines) (role : Role) → (sent_by role (with_room_less entry old)).refused ≡ (sent_by role old).refused
 less_refused entry old role = grind arith
 
 -- so much less as the entry has bytes
 pub less_room : (entry : LineEntry) (old : CaptureLines) (held : List ℕ) → FitsRoom old entry → FitsInLine entry → length held ≡ 4096
-    → (role : Role) → room_left role (with_room_less entry old) + length (bytes_in role (held_entry entry held)) ≡ room_left role old
+    → (role : Role) → (sent_by role (with_room_less entry old)).room + length (bytes_in role (held_entry entry held)) ≡ (sent_by role old).room
 less_room entry old held fits short size role = grind (arith, length-take-le)
 
 -- the same of a state that is known by equations
 pub room_by : (limits : Limits) (old : CaptureLines) (entry : LineEntry) (less : CaptureLines) (before : LinesBefore) (held : List ℕ) → less ≡ with_room_less entry old → FitsRoom old entry → FitsInLine entry → length held ≡ 4096
-    → (role : Role) → room_left role (record less { before = before }) + length (bytes_in role (held_entry entry held)) ≡ room_left role old
+    → (role : Role) → (sent_by role (record less { before = before })).room + length (bytes_in role (held_entry entry held)) ≡ (sent_by role old).room
 room_by limits old entry less before held is fits short size Client = ap (λ (l : CaptureLines). l.client.room + length (bytes_in Client (held_entry entry held))) is ∙ less_room entry old held fits short size Client
 room_by limits old entry less before held is fits short size Server = ap (λ (l : CaptureLines). l.server.room + length (bytes_in Server (held_entry entry held))) is ∙ less_room entry old held fits short size Server
 
-pub closes_by : (old : CaptureLines) (entry : LineEntry) (less : CaptureLines) (before : LinesBefore) → less ≡ with_room_less entry old → (role : Role) → close_line_of role (record less { before = before }) ≡ close_line_of role old
+pub closes_by : (old : CaptureLines) (entry : LineEntry) (less : CaptureLines) (before : LinesBefore) → less ≡ with_room_less entry old → (role : Role) → (sent_by role (record less { before = before })).close_line ≡ (sent_by role old).close_line
 closes_by old entry less before is role = grind (arith, less_closes)
 
-pub inputs_by : (old : CaptureLines) (entry : LineEntry) (less : CaptureLines) (before : LinesBefore) → less ≡ with_room_less entry old → (role : Role) → input_of role (record less { before = before }) ≡ input_of role old
+pub inputs_by : (old : CaptureLines) (entry : LineEntry) (less : CaptureLines) (before : LinesBefore) → less ≡ with_room_less entry old → (role : Role) → (sent_by role (record less { before = before })).input ≡ (sent_by role old).input
 inputs_by old entry less before is role = grind (arith, less_inputs)
 
-pub refused_by : (old : CaptureLines) (entry : LineEntry) (less : CaptureLines) (before : LinesBefore) → less ≡ with_room_less entry old → (role : Role) → refused_line_of role (record less { before = before }) ≡ refused_line_of role old
+pub refused_by : (old : CaptureLines) (entry : LineEntry) (less : CaptureLines) (before : LinesBefore) → less ≡ with_room_less entry old → (role : Role) → (sent_by role (record less { before = before })).refused ≡ (sent_by role old).refused
 refused_by old entry less before is role = grind (arith, less_refused)
 
 pub fits_given : (limits : Limits) (old : CaptureLines) (lines : List (List ℕ)) (given : List Entry) (line : List ℕ) (entry : LineEntry) (held : List ℕ) → HasAccepted limits old lines given → FitsRoom old entry
-    → Fits limits given line (held_entry entry held)
+    → FitsInput limits given line (held_entry entry held)
 fits_given limits old lines given line entry held has fits = grind (arith, length-take)
 
 pub exceeds_given : (limits : Limits) (old : CaptureLines) (lines : List (List ℕ)) (given : List Entry) (line : List ℕ) (entry : LineEntry) (held : List ℕ) → HasAccepted limits old lines given → FitsInLine entry → length held ≡ 4096
@@ -105,7 +105,7 @@ exceeds_given limits old lines given line _ held has short size is more = absurd
 
 -- ---- the lines in which Closes end
 
-pub noted_same : (limits : Limits) (old new : CaptureLines) (given : List Entry) → ((role : Role) → close_line_of role new ≡ close_line_of role old) → ((role : Role) → refused_line_of role new ≡ refused_line_of role old)
+pub noted_same : (limits : Limits) (old new : CaptureLines) (given : List Entry) → ((role : Role) → (sent_by role new).close_line ≡ (sent_by role old).close_line) → ((role : Role) → (sent_by role new).refused ≡ (sent_by role old).refused)
     → HasNotedCloses limits old given → HasNotedCloses limits new given
 noted_same limits old new given same also noted role = (subst (IsCloseLine role limits given) (sym (same role)) (noted role).0, subst (IsRefusedLine role limits given) (sym (also role)) (noted role).1)
 
@@ -125,7 +125,7 @@ noted_up_to limits noted given (entries.Bytes role count) held has = has
 noted_up_to limits noted given (entries.Mark role) held has = noted_kept limits noted given (Mark role) (no_bytes_in_mark role) has
 
 -- the verdict on a stream with these bytes
-pub judged_push : (role : Role) (limits : Limits) (given : List Entry) (bytes : List ℕ) (verdict : Verdict) → ((fs : List Frame) × IsVerdict role limits (sent role given ++ bytes) fs verdict) → IsJudged role limits (given ++ Bytes role bytes ∷ []) verdict
+pub judged_push : (role : Role) (limits : Limits) (given : List Entry) (bytes : List ℕ) (verdict : Verdict) → ((fs : List Frame) × IsVerdict role limits (sent role given ++ bytes) fs verdict) → IsVerdictOnSide role limits (given ++ Bytes role bytes ∷ []) verdict
 judged_push role limits given bytes verdict found = grind (arith, sent-push)
 
 -- what is noted of the endpoint whose bytes came
@@ -197,12 +197,12 @@ module _ (limits : Limits) (old : CaptureLines) (lines : List (List ℕ)) (given
 
   pub client_noted : (role : Role) (client : SentBytes) → role ≡ Client → ((closed : Bool) × IsClosedBy role limits (sent role (given ++ Bytes role bytes ∷ [])) closed × (client.close_line ≡ noted_line old.client.close_line number closed))
       → IsNotedRefusal old.client line verdict client.refused → number ≡ count_of old - 1
-      → HasAccepted limits old (lines ++ line ∷ []) (given ++ Bytes role bytes ∷ []) → HasNotedCloses limits old given → IsJudged role limits (given ++ Bytes role bytes ∷ []) verdict
+      → HasAccepted limits old (lines ++ line ∷ []) (given ++ Bytes role bytes ∷ []) → HasNotedCloses limits old given → IsVerdictOnSide role limits (given ++ Bytes role bytes ∷ []) verdict
       → HasNotedCloses limits (record old { client = client }) (given ++ Bytes role bytes ∷ [])
   client_noted Server client is close refused count has noted judged = absurd (cc is)
   client_noted Client client is close refused count has noted judged = both
     where
-      both : (role : Role) → IsCloseLine role limits (given ++ Bytes Client bytes ∷ []) (close_line_of role (record old { client = client })) × IsRefusedLine role limits (given ++ Bytes Client bytes ∷ []) (refused_line_of role (record old { client = client }))
+      both : (role : Role) → IsCloseLine role limits (given ++ Bytes Client bytes ∷ []) ((sent_by role (record old { client = client })).close_line) × IsRefusedLine role limits (given ++ Bytes Client bytes ∷ []) ((sent_by role (record old { client = client })).refused)
       both Client = (
         close_noted Client has old.client.close_line client.close_line (noted Client).0 close count,
         refused_noted Client limits given bytes line old.client client.refused (noted Client).1 (short Client has) (gives Client has) (has.input Client) (has.room Client) judged.0 verdict judged.1 refused,
@@ -214,12 +214,12 @@ module _ (limits : Limits) (old : CaptureLines) (lines : List (List ℕ)) (given
 
   pub server_noted : (role : Role) (server : SentBytes) → role ≡ Server → ((closed : Bool) × IsClosedBy role limits (sent role (given ++ Bytes role bytes ∷ [])) closed × (server.close_line ≡ noted_line old.server.close_line number closed))
       → IsNotedRefusal old.server line verdict server.refused → number ≡ count_of old - 1
-      → HasAccepted limits old (lines ++ line ∷ []) (given ++ Bytes role bytes ∷ []) → HasNotedCloses limits old given → IsJudged role limits (given ++ Bytes role bytes ∷ []) verdict
+      → HasAccepted limits old (lines ++ line ∷ []) (given ++ Bytes role bytes ∷ []) → HasNotedCloses limits old given → IsVerdictOnSide role limits (given ++ Bytes role bytes ∷ []) verdict
       → HasNotedCloses limits (record old { server = server }) (given ++ Bytes role bytes ∷ [])
   server_noted Client server is close refused count has noted judged = absurd (cc is)
   server_noted Server server is close refused count has noted judged = both
     where
-      both : (role : Role) → IsCloseLine role limits (given ++ Bytes Server bytes ∷ []) (close_line_of role (record old { server = server })) × IsRefusedLine role limits (given ++ Bytes Server bytes ∷ []) (refused_line_of role (record old { server = server }))
+      both : (role : Role) → IsCloseLine role limits (given ++ Bytes Server bytes ∷ []) ((sent_by role (record old { server = server })).close_line) × IsRefusedLine role limits (given ++ Bytes Server bytes ∷ []) ((sent_by role (record old { server = server })).refused)
       both Client = (
         line_kept Client limits given (Bytes Server bytes) old.client.close_line refl (noted Client).0,
         refused_kept Client limits given (Bytes Server bytes) old.client.refused refl (noted Client).1,

@@ -43,17 +43,17 @@ module _ (limits : Limits) (old mid new : Incoming) (splitter : LineSplitter) (r
   ended result nothing ends unfailed is = grind (arith, received_of, consumed_end, bounded, at_end)
 
   -- a chunk was consumed
-  pub goes_on : (piece : List ℕ) (further : LineSplitter) → IsConsumed mid new piece → HasSplit limits further (read.came ++ piece) → HasRead limits old new further
-  goes_on piece further consumes split = record {
-    came = read.came ++ piece;
-    consumed = consumed_on old mid new read.came piece read.consumed consumes;
+  pub goes_on : (chunk : List ℕ) (further : LineSplitter) → IsConsumed mid new chunk → HasSplit limits further (read.came ++ chunk) → HasRead limits old new further
+  goes_on chunk further consumes split = record {
+    came = read.came ++ chunk;
+    consumed = consumed_on old mid new read.came chunk read.consumed consumes;
     split = split;
   }
 
-  earlier : (piece : List ℕ) (stop : CaptureStop) → length piece ≤ 4096 → new.failed ≡ false → IsStopWithin limits read.came piece stop → IsCaptureAnswer limits new (read.came ++ piece) (Err stop)
-  earlier piece Read size unfailed within = absurd within.stops
-  earlier piece (Line number fault) size unfailed within =
-      let whole : read.came ++ piece ≡ (read.came ++ within.earlier) ++ within.last ∷ within.ahead = ap (λ (bs : List ℕ). read.came ++ bs) within.whole ∙ sym (append_assoc read.came within.earlier (within.last ∷ within.ahead)) in
+  earlier : (chunk : List ℕ) (stop : CaptureStop) → length chunk ≤ 4096 → new.failed ≡ false → IsStopWithin limits read.came chunk stop → IsCaptureAnswer limits new (read.came ++ chunk) (Err stop)
+  earlier chunk Read size unfailed within = absurd within.stops
+  earlier chunk (Line number fault) size unfailed within =
+      let whole : read.came ++ chunk ≡ (read.came ++ within.earlier) ++ within.last ∷ within.ahead = ap (λ (bs : List ℕ). read.came ++ bs) within.whole ∙ sym (append_assoc read.came within.earlier (within.last ∷ within.ahead)) in
       let sizes = ap (λ (bs : List ℕ). length bs) within.whole ∙ length-append within.earlier (within.last ∷ within.ahead) in (
         inl (record {
           earlier = read.came ++ within.earlier;
@@ -69,11 +69,11 @@ module _ (limits : Limits) (old mid new : Incoming) (splitter : LineSplitter) (r
       )
 
   -- a fault was reported
-  pub faulty : (piece : List ℕ) (stop : CaptureStop) → IsConsumed mid new piece → length piece ≤ 4096 → new.failed ≡ false → IsStopWithin limits read.came piece stop → IsCaptureJudged limits old new (Err stop)
-  faulty piece stop consumes size unfailed within = record {
-    came = read.came ++ piece;
-    received = received_of (1000001 * 8196 + 4095) old new (read.came ++ piece) (consumed_on old mid new read.came piece read.consumed consumes) (omega (arith, bounded, size, length-append read.came piece));
-    answer = earlier piece stop size unfailed within;
+  pub faulty : (chunk : List ℕ) (stop : CaptureStop) → IsConsumed mid new chunk → length chunk ≤ 4096 → new.failed ≡ false → IsStopWithin limits read.came chunk stop → IsCaptureJudged limits old new (Err stop)
+  faulty chunk stop consumes size unfailed within = record {
+    came = read.came ++ chunk;
+    received = received_of (1000001 * 8196 + 4095) old new (read.came ++ chunk) (consumed_on old mid new read.came chunk read.consumed consumes) (omega (arith, bounded, size, length-append read.came chunk));
+    answer = earlier chunk stop size unfailed within;
   }
 
 -- ---- what follows from an answer

@@ -8,7 +8,7 @@ pub mod PairedDigits
 pub mod DigitBlocks
 pub mod DigitTable
 pub mod SplitLines
-pub mod PiecePrefixes
+pub mod ChunkPrefixes
 pub mod JudgedCaptures
 pub mod EveryReport
 pub mod TailCounts

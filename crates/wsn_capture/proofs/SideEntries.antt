@@ -227,17 +227,17 @@ module _ (limits : Limits) (given : List Entry) (line : List ℕ) where
   -- ---- what the entry says
 
   -- An endpoint's bytes are within its limit.
-  abbrev pub Fits : Entry → Type 0
-  Fits (Bytes role bytes) = length (sent role given) + length bytes ≤ limits.input
-  Fits entry = ⊤
+  abbrev pub FitsInput : Entry → Type 0
+  FitsInput (Bytes role bytes) = length (sent role given) + length bytes ≤ limits.input
+  FitsInput entry = ⊤
 
-  over_limit : (entry : Entry) (role : Role) (bytes : List ℕ) → entry ≡ Bytes role bytes → Fits entry → limits.input < length (sent role given) + length bytes → ⊥
-  over_limit entry role bytes is fits more = let within : length (sent role given) + length bytes ≤ limits.input = subst Fits is fits in omega (arith, within, more)
+  over_limit : (entry : Entry) (role : Role) (bytes : List ℕ) → entry ≡ Bytes role bytes → FitsInput entry → limits.input < length (sent role given) + length bytes → ⊥
+  over_limit entry role bytes is fits more = let within : length (sent role given) + length bytes ≤ limits.input = subst FitsInput is fits in omega (arith, within, more)
 
-  by_fault : (entry : Entry) → entry_after (lines_giving given) line ≡ Ok entry → Fits entry → (fault : LineFault) → Reads fault → ⊥
+  by_fault : (entry : Entry) → entry_after (lines_giving given) line ≡ Ok entry → FitsInput entry → (fault : LineFault) → Reads fault → ⊥
   by_fault entry is fits fault reads = grind (arith, over_limit)
 
-  pub entry_accepted : (entry : Entry) → entry_after (lines_giving given) line ≡ Ok entry → Fits entry → IsAcceptedLine limits given line entry
+  pub entry_accepted : (entry : Entry) → entry_after (lines_giving given) line ≡ Ok entry → FitsInput entry → IsAcceptedLine limits given line entry
   entry_accepted entry is fits =
       elim (taken_or_faulty limits given line) [
         | inl taken ↦ let same : taken.0 ≡ entry = cc (accepted_entry taken.0 taken.1, is) in subst (IsAcceptedLine limits given line) same taken.1
@@ -270,10 +270,10 @@ module _ (limits : Limits) (given : List Entry) (line : List ℕ) where
   -- ---- lines that leave room
 
   -- a line's bytes are within the limit
-  pub fits_line : (entry : Entry) → HasRoom limits given → entry_after (lines_giving given) line ≡ Ok entry → Fits entry
+  pub fits_line : (entry : Entry) → HasRoom limits given → entry_after (lines_giving given) line ≡ Ok entry → FitsInput entry
   fits_line entry room is =
       elim (taken_or_faulty limits given line) [
-        | inl taken ↦ let same : taken.0 ≡ entry = cc (accepted_entry taken.0 taken.1, is) in subst Fits same (of_taken taken.0 taken.1)
+        | inl taken ↦ let same : taken.0 ≡ entry = cc (accepted_entry taken.0 taken.1, is) in subst FitsInput same (of_taken taken.0 taken.1)
         | inr bad ↦ of_fault bad.0 bad.1 (read_fault bad.0 bad.1)
       ]
     where
@@ -281,11 +281,11 @@ module _ (limits : Limits) (given : List Entry) (line : List ℕ) where
       of_bytes role bytes few short gives =
           omega (arith, few_bytes role text gives.0 bytes (short_line short) gives.1 gives.2, room (few_lines few) role)
 
-      of_taken : (entry : Entry) → IsAcceptedLine limits given line entry → Fits entry
+      of_taken : (entry : Entry) → IsAcceptedLine limits given line entry → FitsInput entry
       of_taken (Bytes role bytes) taken = of_bytes role bytes (taken.none TooManyLines) (taken.none TooLong) taken.gives
       of_taken _ taken = tt
 
-      of_fault : (fault : LineFault) → IsFirstLineFault limits given line fault → Reads fault → Fits entry
+      of_fault : (fault : LineFault) → IsFirstLineFault limits given line fault → Reads fault → FitsInput entry
       of_fault InputLimit first reads =
           let within = of_bytes reads.0 reads.1 (none InputLimit first TooManyLines (omega arith)) (none InputLimit first TooLong (omega arith)) reads.3 in
           absurd (omega (arith, within, reads.4))

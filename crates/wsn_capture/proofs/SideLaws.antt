@@ -18,7 +18,7 @@ use Rattle.wsn_capture.specs.declared.line_fault.LineFault.TheVariants.{TooLong}
 use Rattle.wsn_capture.specs.declared.lines_before.LinesBefore.{LinesBefore}
 use Rattle.wsn_capture.specs.LineFaults.{fault_order, IsAcceptedLine, AreAcceptedAfter, AreAcceptedLines, IsFaultAfter, line_most}
 use Rattle.wsn_capture.specs.CaptureAnswers.{IsFaulty}
-use Rattle.wsn_capture.specs.SideTexts.{entry_after, no_lines, with_entry, lines_giving, sentinel, sent_in_lines, sent_in, side_most}
+use Rattle.wsn_capture.specs.SideTexts.{entry_after, with_entry, lines_giving, sentinel, sent_in_lines, sent_in, side_most}
 use Rattle.wsn_capture.proofs.OneFault.{same_fault}
 use Rattle.wsn_capture.proofs.AcceptedTexts.{taken_given, as_many}
 use Rattle.wsn_capture.proofs.EveryReport.{sent_bytes}
@@ -109,11 +109,11 @@ module _ (limits : Limits) (most : side_most ≤ limits.input) where
 
   -- after accepted lines
   pub side-accepted : (role : Role) (lines : List (List ℕ)) (entries : List Entry) (more : List (List ℕ)) → AreAcceptedLines limits lines entries
-      → sent_in_lines role no_lines (lines ++ more) ≡ sent role entries ++ sent_in_lines role (lines_giving entries) more
+      → sent_in_lines role (lines_giving []) (lines ++ more) ≡ sent role entries ++ sent_in_lines role (lines_giving entries) more
   side-accepted role lines entries more are = side_more role [] lines entries more none_short are
 
   pub side-faulty : (role : Role) (lines : List (List ℕ)) (line : List ℕ) (more : List (List ℕ)) (fault : LineFault) → (is : IsFaultAfter limits lines line fault)
-      → sent_in_lines role no_lines (lines ++ line ∷ more) ≡ sent role is.given ++ sentinel (length lines + 1) fault ∷ []
+      → sent_in_lines role (lines_giving []) (lines ++ line ∷ more) ≡ sent role is.given ++ sentinel (length lines + 1) fault ∷ []
   side-faulty role lines line more fault is =
       let room = room_after lines is.given is.taken in
       side-accepted role lines is.given (line ∷ more) is.taken
@@ -124,7 +124,7 @@ module _ (limits : Limits) (most : side_most ≤ limits.input) where
 
   pub sent_in-accepted : (role : Role) (text : List ℕ) (lines : List (List ℕ)) (entries : List Entry) → AreLines text lines → AreAcceptedLines limits lines entries → sent_in role text ≡ sent role entries
   sent_in-accepted role text lines entries are taken =
-      ap (sent_in_lines role no_lines) (lines_are text lines are ∙ sym (append-nil lines)) ∙ side-accepted role lines entries [] taken ∙ append-nil (sent role entries)
+      ap (sent_in_lines role (lines_giving [])) (lines_are text lines are ∙ sym (append-nil lines)) ∙ side-accepted role lines entries [] taken ∙ append-nil (sent role entries)
 
   pub sent_in-faulty : (role : Role) (text : List ℕ) (number : ℕ) (fault : LineFault) → (is : IsFaulty limits text number fault) → sent_in role text ≡ sent role is.is.given ++ sentinel number fault ∷ []
   sent_in-faulty role text number fault is = grind (arith, lines_are, side-faulty)
@@ -132,7 +132,7 @@ module _ (limits : Limits) (most : side_most ≤ limits.input) where
   -- whole lines, and what comes after them
   pub sent_in-longer : (role : Role) (lines : List (List ℕ)) (entries : List Entry) (later : List ℕ) → AllByRecursion IsLine lines → AreAcceptedLines limits lines entries
       → sent_in role (ended lines ++ later) ≡ sent role entries ++ sent_in_lines role (lines_giving entries) (lines_of later)
-  sent_in-longer role lines entries later each taken = ap (sent_in_lines role no_lines) (lines_first lines later each) ∙ side-accepted role lines entries (lines_of later) taken
+  sent_in-longer role lines entries later each taken = ap (sent_in_lines role (lines_giving [])) (lines_first lines later each) ∙ side-accepted role lines entries (lines_of later) taken
 
   pub sent_in-stopped : (role : Role) (lines : List (List ℕ)) (line : List ℕ) (fault : LineFault) (later : List ℕ) → AllByRecursion IsLine (lines ++ line ∷ []) → (is : IsFaultAfter limits lines line fault)
       → sent_in role (ended (lines ++ line ∷ []) ++ later) ≡ sent role is.given ++ sentinel (length lines + 1) fault ∷ []

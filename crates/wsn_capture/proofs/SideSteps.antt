@@ -12,7 +12,7 @@ use Rattle.wsn_capture.specs.LineFaults.{line_most, lines_most}
 use Rattle.wsn_capture.specs.SideTexts.{sent_in_lines}
 use Rattle.wsn_capture.specs.declared.side_bytes.FaultyLine.{FaultyLine}
 use Rattle.wsn_capture.specs.declared.side_bytes.SideBytes.{SideBytes}
-use Rattle.wsn_capture.specs.SplitLines.{EndsLine}
+use Rattle.wsn_capture.specs.LineSplitters.{EndsLine}
 use Rattle.wsn_capture.specs.SideStates.{unless_faulty, side_left, IsReady, lines_ahead}
 use Rattle.wsn_capture.proofs.SideEntries.{too_many_lines, too_long_line}
 use Rattle.wsn_capture.proofs.SideLaws.{side-fault}

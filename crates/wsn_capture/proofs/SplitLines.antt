@@ -140,7 +140,7 @@ module _ (limits : Limits) (lines : List (List ℕ)) (begun came : List ℕ) (sp
   pub stop_last : (stop : CaptureStop) → begun ≢ [] → IsStopAt limits lines begun stop → IsCaptureAnswerOf limits came (Err stop)
   stop_last stop fact is = grind (arith, faulty_last)
 
--- ---- the prefix of a piece
+-- ---- the prefix of a chunk
 
 module _ (limits : Limits) (lines : List (List ℕ)) (begun came : List ℕ) (split : HasPassedOn limits lines begun came) where
   -- the rest of a line, and its LF

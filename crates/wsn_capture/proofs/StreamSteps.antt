@@ -21,7 +21,7 @@ use Rattle.wsn_capture.specs.declared.capture_lines.CaptureLines.{CaptureLines}
 use Rattle.wsn_capture.specs.declared.line_form.LineEntry.{LineEntry}
 use Rattle.wsn_capture.specs.declared.line_form.LineEntry.TheVariants as entries
 use Rattle.wsn_capture.specs.LineEntries.{held_entry}
-use Rattle.wsn_capture.specs.CaptureLines.{HasAccepted, HasNotedCloses, HasNotedUpTo, IsJudged, count_of}
+use Rattle.wsn_capture.specs.CaptureLines.{HasAccepted, HasNotedCloses, HasNotedUpTo, IsVerdictOnSide, count_of}
 use Rattle.wsn_capture.specs.Captures.{Captured, HasStreamed, HasAcceptedLines}
 use Rattle.wsn_capture.proofs.ClosingLines.{sent-push}
 use Rattle.wsn_capture.proofs.AcceptedLines.{own_bytes, judged_push, no_bytes_in_nothing, no_bytes_in_mark}
@@ -118,7 +118,7 @@ Judges scan verdict = (role : Role) (limits : Limits) (bytes rest : List ℕ) (f
 abbrev pub Notes : CaptureLines → CaptureLines → Role → List ℕ → Verdict → Type 0
 Notes old new role line verdict =
     (limits : Limits) (lines : List (List ℕ)) (given : List Entry) (bytes : List ℕ) → HasAccepted limits old (lines ++ line ∷ []) (given ++ Bytes role bytes ∷ []) → HasNotedCloses limits old given
-    → IsJudged role limits (given ++ Bytes role bytes ∷ []) verdict → HasNotedCloses limits new (given ++ Bytes role bytes ∷ [])
+    → IsVerdictOnSide role limits (given ++ Bytes role bytes ∷ []) verdict → HasNotedCloses limits new (given ++ Bytes role bytes ∷ [])
 
 -- What the lines say once they have accepted one more, before its bytes are scanned.
 module _ (capture : Captured) (line : List ℕ) (accepted : CaptureLines) (entry : LineEntry) (held : List ℕ)
@@ -137,7 +137,7 @@ module _ (capture : Captured) (line : List ℕ) (accepted : CaptureLines) (entry
 
     -- the verdict on the stream with these bytes
     pub judged_bytes : (scan : Scan) (verdict : Verdict) → HasStreamed role limits scan (sent role has.entries ++ take count held) → Judges scan verdict → refusal_judged verdict ≡ refusal_in scan
-        → IsJudged role limits (has.entries ++ Bytes role (take count held) ∷ []) verdict
+        → IsVerdictOnSide role limits (has.entries ++ Bytes role (take count held) ∷ []) verdict
     judged_bytes scan verdict streams judges reported =
         judged_push role limits has.entries (take count held) verdict (judged role limits scan (sent role has.entries ++ take count held) verdict streams judges reported)
 

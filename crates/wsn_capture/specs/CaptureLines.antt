@@ -24,25 +24,10 @@ use Rattle.wsn_capture.specs.Closes.{IsCloseLine}
 abbrev pub count_of : CaptureLines → ℕ
 count_of lines = lines.before.count
 
--- How many more bytes an endpoint's stream accepts.
-abbrev pub room_left : Role → CaptureLines → ℕ
-room_left Client lines = lines.client.room
-room_left Server lines = lines.server.room
-
--- how many bytes an endpoint's stream accepts
-abbrev pub input_of : Role → CaptureLines → ℕ
-input_of Client lines = lines.client.input
-input_of Server lines = lines.server.input
-
--- The line that is kept of an endpoint's stream, if it is refused.
-abbrev pub refused_line_of : Role → CaptureLines → Option RefusedLine
-refused_line_of Client lines = lines.client.refused
-refused_line_of Server lines = lines.server.refused
-
--- The line that is noted as that in which an endpoint's Close ends.
-abbrev pub close_line_of : Role → CaptureLines → Option ℕ
-close_line_of Client lines = lines.client.close_line
-close_line_of Server lines = lines.server.close_line
+-- What is kept of the bytes that an endpoint sent.
+abbrev pub sent_by : Role → CaptureLines → SentBytes
+sent_by Client lines = lines.client
+sent_by Server lines = lines.server
 
 -- The same lines, with less room: so much less as an entry has bytes, for its endpoint.
 abbrev pub with_room_less : LineEntry → CaptureLines → CaptureLines
@@ -54,25 +39,25 @@ with_room_less entry lines = lines
 
 -- There is room for an entry's bytes.
 abbrev pub FitsRoom : CaptureLines → LineEntry → Type 0
-FitsRoom lines (entries.Bytes role count) = count ≤ room_left role lines
+FitsRoom lines (entries.Bytes role count) = count ≤ (sent_by role lines).room
 FitsRoom lines entry = ⊤
 
 -- There is less room than an entry has bytes.
 abbrev pub ExceedsRoom : CaptureLines → LineEntry → Type 0
-ExceedsRoom lines (entries.Bytes role count) = room_left role lines < count
+ExceedsRoom lines (entries.Bytes role count) = (sent_by role lines).room < count
 ExceedsRoom lines entry = ⊥
 
 -- These lines were accepted, in this order, and gave these entries.
 pub record HasAccepted (limits : Limits) (accepted : CaptureLines) (lines : List (List ℕ)) (given : List Entry) : Type 0 where
   pub taken : AreAcceptedLines limits lines given
   pub before : accepted.before ≡ lines_giving given
-  pub input : (role : Role) → input_of role accepted ≡ limits.input
-  pub room : (role : Role) → room_left role accepted + length (sent role given) ≡ limits.input
+  pub input : (role : Role) → (sent_by role accepted).input ≡ limits.input
+  pub room : (role : Role) → (sent_by role accepted).room + length (sent role given) ≡ limits.input
 
 -- The lines are noted in which both endpoints' Closes end, or the offending bytes of their streams came.
 abbrev pub HasNotedCloses : Limits → CaptureLines → List Entry → Type 0
 HasNotedCloses limits noted given = (role : Role) →
-    IsCloseLine role limits given (close_line_of role noted) × IsRefusedLine role limits given (refused_line_of role noted)
+    IsCloseLine role limits given ((sent_by role noted).close_line) × IsRefusedLine role limits given ((sent_by role noted).refused)
 
 -- After `accept` and before `note`: the same of these entries and one more, whose line isn't noted yet if it has bytes.
 abbrev pub HasNotedUpTo : Limits → CaptureLines → List Entry → Entry → Type 0
@@ -80,8 +65,8 @@ HasNotedUpTo limits noted given (Bytes role bytes) = HasNotedCloses limits noted
 HasNotedUpTo limits noted given entry = HasNotedCloses limits noted (given ++ entry ∷ [])
 
 -- This is the verdict on an endpoint's stream.
-abbrev pub IsJudged : Role → Limits → List Entry → Verdict → Type 0
-IsJudged role limits given verdict = (fs : List Frame) × IsVerdict role limits (sent role given) fs verdict
+abbrev pub IsVerdictOnSide : Role → Limits → List Entry → Verdict → Type 0
+IsVerdictOnSide role limits given verdict = (fs : List Frame) × IsVerdict role limits (sent role given) fs verdict
 
 -- ---- the line with the offending byte
 

@@ -3,7 +3,6 @@ pub mod LineFaults
 pub mod Tails
 pub mod RefusedLines
 pub mod CaptureAnswers
-pub mod SplitLines
 pub mod SideTexts
 -- how the state of the code is related to these
 pub mod LineEntries
@@ -12,5 +11,3 @@ pub mod CaptureLines
 pub mod Captures
 pub mod LineSplitters
 pub mod SideStates
--- the names that the clauses in src/ import
-pub mod Words

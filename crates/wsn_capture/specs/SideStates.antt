@@ -42,8 +42,8 @@ abbrev pub text_left : SideLines → List ℕ → List ℕ
 text_left lines text = side_left lines.side (lines_of (lines.begun ++ text))
 
 -- an upper bound on the number of bytes that may still come
-abbrev pub bytes_ahead : SideLines → ℕ
-bytes_ahead lines = lines_ahead lines.side * 8197 - length lines.begun
+abbrev pub side_bytes_ahead : SideLines → ℕ
+side_bytes_ahead lines = lines_ahead lines.side * 8197 - length lines.begun
 
 -- ---- readers
 
@@ -57,7 +57,7 @@ source_left remaining source =
 abbrev pub steps_ahead : {R : Type 0} → SideSource R → ℕ
 steps_ahead source =
     if source.ended then 0
-    else 2 * bytes_ahead source.lines + (if nat_lt source.start source.end then 1 else 2)
+    else 2 * side_bytes_ahead source.lines + (if nat_lt source.start source.end then 1 else 2)
 
 -- A reader of a side: what it will give, if it is known, and why a read has failed, if one has.
 pub record SideReading : Type 0 where

@@ -1,5 +1,5 @@
 -- One side of a capture's text: the bytes that an endpoint sent, joined, up to the first line that isn't accepted.
-use Rattle.std.specs.Prelude.{ℕ, ◌+◌, ◌*◌, ◌==◌, ◌||◌, nat_le, nat_lt, Bool, false, if◌then◌else◌, Result, Ok, Err, List, [], ◌∷◌, ◌++◌, length}
+use Rattle.std.specs.Prelude.{ℕ, ◌+◌, ◌*◌, ◌==◌, ◌||◌, nat_le, nat_lt, Bool, if◌then◌else◌, Result, Ok, Err, List, [], ◌∷◌, ◌++◌, length}
 use Rattle.hex.specs.Hex.{decode_of}
 use Rattle.hex.specs.declared.error.FromHexError.{FromHexError}
 use Rattle.wsn_wire.specs.declared.endpoint.Role.{Role}
@@ -71,10 +71,6 @@ entry_after before line =
 
 -- ---- one side
 
--- no lines
-abbrev pub no_lines : LinesBefore
-no_lines = record { count = 0; client_ended = false; server_ended = false }
-
 -- the lines before, and one that gives this entry
 abbrev pub with_entry : LinesBefore → Entry → LinesBefore
 with_entry before entry = record {
@@ -107,7 +103,7 @@ sent_in_lines role before (line ∷ lines) =
 
 -- An endpoint's side of a text.
 abbrev pub sent_in : Role → List ℕ → List ℕ
-sent_in role text = sent_in_lines role no_lines (lines_of text)
+sent_in role text = sent_in_lines role (lines_giving []) (lines_of text)
 
 -- the maximum number of bytes of a side: 1,000,000 lines of 4,096 bytes
 abbrev pub side_most : ℕ

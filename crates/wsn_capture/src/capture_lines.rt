@@ -1,6 +1,9 @@
 ghost use Rattle.std.specs.Prelude.{◌≡◌, ℕ, List};
 ghost use Rattle.wsn_capture.specs.Closes.{IsClosedBy, earlier_of};
-ghost use Rattle.wsn_capture.specs.Words.{Role, Limits, Frame, IsVerdict};
+ghost use Rattle.wsn_wire.specs.declared.endpoint.Role.{Role};
+ghost use Rattle.wsn_rules.specs.Limits.{Limits};
+ghost use Rattle.wsn_wire.specs.Frame.{Frame};
+ghost use Rattle.wsn_rules.specs.Verdict.{IsVerdict};
 ghost use Rattle.wsn_rules.specs.Sides.{side_of, ended_as};
 
 use crate::line_fault::LineFault;
@@ -44,7 +47,7 @@ impl CaptureLines {
     ghost use Rattle.wsn_capture.specs.declared.line_fault.LineFault.TheVariants.{InputLimit};
     ghost use Rattle.wsn_capture.specs.LineEntries.{FitsInLine, held_entry};
     ghost use Rattle.wsn_capture.specs.RefusedLines.{AreRefusedLines};
-    ghost use Rattle.wsn_capture.specs.CaptureLines.{HasAccepted, HasNotedCloses, HasNotedUpTo, IsJudged, count_of, FitsRoom, ExceedsRoom, with_room_less};
+    ghost use Rattle.wsn_capture.specs.CaptureLines.{HasAccepted, HasNotedCloses, HasNotedUpTo, IsVerdictOnSide, count_of, FitsRoom, ExceedsRoom, with_room_less};
 
     /// No line is accepted yet. The limits apply to each endpoint's stream separately.
     pub fn new(limits: Limits) -> CaptureLines
@@ -115,7 +118,7 @@ impl CaptureLines {
         ensures noted { (limits : Limits) (lines : List (List ℕ)) (given : List Entry) (bytes : List ℕ) →
             HasAccepted limits self.old (lines ++ line.now ∷ []) (given ++ Bytes role bytes ∷ []) →
             HasNotedCloses limits self.old given →
-            IsJudged role limits (given ++ Bytes role bytes ∷ []) verdict.now →
+            IsVerdictOnSide role limits (given ++ Bytes role bytes ∷ []) verdict.now →
             HasNotedCloses limits self.new (given ++ Bytes role bytes ∷ []) }
         ensures accepted { (limits : Limits) (lines : List (List ℕ)) (given : List Entry) →
             HasAccepted limits self.old lines given → HasAccepted limits self.new lines given }
@@ -161,7 +164,7 @@ impl CaptureLines {
     pub fn report(&self, client: &Verdict, server: &Verdict) -> Report
         ensures { (limits : Limits) (lines : List (List ℕ)) (given : List Entry) →
             HasAccepted limits self.now lines given → HasNotedCloses limits self.now given →
-            IsJudged Role.Client limits given client.now → IsJudged Role.Server limits given server.now →
+            IsVerdictOnSide Role.Client limits given client.now → IsVerdictOnSide Role.Server limits given server.now →
             IsReportOf limits given result }
     {
         let client_ended = self.before.has_ended(Role::Client);

@@ -1,6 +1,6 @@
 ghost use Rattle.std.specs.Prelude.{ℕ, ◌≡◌, ◌<◌, ◌≤◌, ◌+◌, ◌*◌, MatchBool, MatchOption, Ok, length, slice_index};
-ghost use Rattle.hex.specs.Hex.{pair_value};
-ghost use Rattle.wsn_capture.specs.Words.{decode_of, hex_digit_value, HasNoHex};
+ghost use Rattle.hex.specs.Hex.{pair_value, decode_of, hex_digit_value};
+ghost use Rattle.wsn_capture.specs.LineEntries.{HasNoHex};
 
 use std::simd::prelude::*;
 

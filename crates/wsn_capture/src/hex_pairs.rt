@@ -1,5 +1,6 @@
 ghost use Rattle.std.specs.Prelude.{◌≡◌, ◌<◌, ◌*◌, MatchBool, Ok, length, unwrap_or};
-ghost use Rattle.wsn_capture.specs.Words.{decode_of, hex_digit_value, is_hex_digit, HasNoHex};
+ghost use Rattle.hex.specs.Hex.{decode_of, hex_digit_value, is_hex_digit};
+ghost use Rattle.wsn_capture.specs.LineEntries.{HasNoHex};
 
 use crate::hex_blocks::{BLOCK, decode_blocks};
 

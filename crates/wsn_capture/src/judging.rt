@@ -46,14 +46,14 @@ pub fn read_capture<R: Read>(
     ensures failed { (result ≡ Err CaptureStop.Read) ↔ (input.new.failed ≡ true) }
 {
     let mut lines = LineSplitter::new(limits);
-    let mut piece = [0; CHUNK];
+    let mut chunk = [0; CHUNK];
     loop {
-        let Some(count) = input.read(&mut piece) else {
+        let Some(count) = input.read(&mut chunk) else {
             return Err(CaptureStop::Read);
         };
         if count == 0 {
             return lines.finish();
         }
-        lines.take(&piece[..count])?;
+        lines.take(&chunk[..count])?;
     }
 }

@@ -5,10 +5,18 @@ ghost use Rattle.std.specs.List.{AllByRecursion};
 ghost use Rattle.wsn_rules.specs.declared.detail.Detail.{Detail};
 ghost use Rattle.wsn_rules.specs.ShownCapture.{ShownLine, LeftAtEnd, IsShownCapture};
 ghost use Rattle.wsn_rules.specs.TextLines.{IsLine, ended, AreLines, lines_of};
-ghost use Rattle.wsn_capture.specs.CaptureAnswers.{IsFaulty};
-ghost use Rattle.wsn_capture.specs.LineFaults.{AreAcceptedLines, IsFaultAfter};
+ghost use Rattle.wsn_capture.specs.CaptureAnswers.{IsFaulty, IsCaptureAnswerOf};
+ghost use Rattle.wsn_capture.specs.LineFaults.{AreAcceptedLines, IsFaultAfter, IsFirstLineFault, IsAcceptedLine};
 ghost use Rattle.wsn_capture.specs.SideTexts.{lines_giving, entry_after, sentinel, sent_in_lines, side_most, sent_in};
-ghost use Rattle.wsn_capture.specs.Words.{Role, Limits, InRange, Entry, IsEntry, AreEntries, IsFirstLineFault, IsAcceptedLine, IsReport, SendAlike, LineFault, Report, CaptureReport, CaptureStop, IsCaptureAnswerOf, sent};
+ghost use Rattle.wsn_wire.specs.declared.endpoint.Role.{Role};
+ghost use Rattle.wsn_rules.specs.Limits.{Limits, InRange};
+ghost use Rattle.wsn_rules.specs.Entries.{Entry, IsEntry, AreEntries};
+ghost use Rattle.wsn_rules.specs.Reports.{IsReport, SendAlike};
+ghost use Rattle.wsn_capture.specs.declared.line_fault.LineFault.{LineFault};
+ghost use Rattle.wsn_rules.specs.declared.report.Report.{Report};
+ghost use Rattle.wsn_capture.specs.declared.capture_report.CaptureReport.{CaptureReport};
+ghost use Rattle.wsn_capture.specs.declared.capture_stop.CaptureStop.{CaptureStop};
+ghost use Rattle.wsn_rules.specs.Sides.{sent};
 
 /// A line has at most one entry, and lines have at most one list of entries.
 pub fn law_one_entry()

@@ -13,7 +13,15 @@ pub struct LineSplitter {
 
 impl LineSplitter {
     ghost use Rattle.std.specs.Prelude.{◌≡◌, ◌+◌, ◌<◌, ◌≤◌, ◌≢◌, ℕ, List, [], ◌∷◌, ◌++◌, length, take, OnOk, IfOk, IfErr};
-    ghost use Rattle.wsn_capture.specs.Words.{Limits, IsLine, HasAcceptedLines, count_of, IsCaptureAnswerOf, IsReport, AreTails, AreRefusedLines, HasSplit, IsStopAt, IsStopBy, IsStopWithin, bytes_left};
+    ghost use Rattle.wsn_rules.specs.Limits.{Limits};
+    ghost use Rattle.wsn_rules.specs.TextLines.{IsLine};
+    ghost use Rattle.wsn_capture.specs.Captures.{HasAcceptedLines};
+    ghost use Rattle.wsn_capture.specs.CaptureLines.{count_of};
+    ghost use Rattle.wsn_capture.specs.CaptureAnswers.{IsCaptureAnswerOf};
+    ghost use Rattle.wsn_rules.specs.Reports.{IsReport};
+    ghost use Rattle.wsn_capture.specs.Tails.{AreTails};
+    ghost use Rattle.wsn_capture.specs.RefusedLines.{AreRefusedLines};
+    ghost use Rattle.wsn_capture.specs.LineSplitters.{HasSplit, IsStopAt, IsStopBy, IsStopWithin, bytes_ahead};
 
     /// A splitter of a text of no bytes.
     pub fn new(limits: Limits) -> LineSplitter
@@ -27,42 +35,44 @@ impl LineSplitter {
         }
     }
 
-    /// Consumes a piece. The error is returned at the first byte at which a line isn't accepted, whatever follows: the
+    /// Consumes a chunk. The error is returned at the first byte at which a line isn't accepted, whatever follows: the
     /// byte ends the line or makes it too long.
-    pub fn take(&mut self, piece: &[u8]) -> Result<(), CaptureStop>
+    pub fn take(&mut self, chunk: &[u8]) -> Result<(), CaptureStop>
         requires few { count_of self.old.capture.lines ≤ 1000000 }
         requires short { length self.old.begun < BEGUN_MAX }
         ensures split { OnOk result ((limits : Limits) (came : List ℕ) →
-            HasSplit limits self.old came → HasSplit limits self.new (came ++ piece.now)) }
+            HasSplit limits self.old came → HasSplit limits self.new (came ++ chunk.now)) }
         ensures stop { IfErr result (λ stop. (limits : Limits) (came : List ℕ) →
-            HasSplit limits self.old came → IsStopWithin limits came piece.now stop) }
+            HasSplit limits self.old came → IsStopWithin limits came chunk.now stop) }
         ensures few { OnOk result (count_of self.new.capture.lines ≤ 1000000) }
         ensures short { OnOk result (length self.new.begun < BEGUN_MAX) }
-        ensures left { OnOk result (bytes_left self.new + length piece.now ≤ bytes_left self.old) }
+        ensures left { OnOk result (bytes_ahead self.new.capture.lines self.new.begun + length chunk.now
+            ≤ bytes_ahead self.old.capture.lines self.old.begun) }
     {
         let mut taken = 0;
-        while taken < piece.len() {
-            taken += self.take_prefix(&piece[taken..])?;
+        while taken < chunk.len() {
+            taken += self.take_prefix(&chunk[taken..])?;
         }
         Ok(())
     }
 
-    /// Consumes a prefix of a piece, to the end of a line or as much as one line may hold, and returns its length in
+    /// Consumes a prefix of a chunk, to the end of a line or as much as one line may hold, and returns its length in
     /// bytes.
-    fn take_prefix(&mut self, piece: &[u8]) -> Result<usize, CaptureStop>
-        requires some { 0 < length piece.now }
+    fn take_prefix(&mut self, chunk: &[u8]) -> Result<usize, CaptureStop>
+        requires some { 0 < length chunk.now }
         requires few { count_of self.old.capture.lines ≤ 1000000 }
         requires short { length self.old.begun < BEGUN_MAX }
-        ensures within { IfOk result (λ count. (0 < count) × (count ≤ length piece.now)) }
+        ensures within { IfOk result (λ count. (0 < count) × (count ≤ length chunk.now)) }
         ensures split { IfOk result (λ count. (limits : Limits) (came : List ℕ) →
-            HasSplit limits self.old came → HasSplit limits self.new (came ++ take count piece.now)) }
+            HasSplit limits self.old came → HasSplit limits self.new (came ++ take count chunk.now)) }
         ensures stop { IfErr result (λ stop. (limits : Limits) (came : List ℕ) →
-            HasSplit limits self.old came → IsStopWithin limits came piece.now stop) }
+            HasSplit limits self.old came → IsStopWithin limits came chunk.now stop) }
         ensures few { OnOk result (count_of self.new.capture.lines ≤ 1000000) }
         ensures short { OnOk result (length self.new.begun < BEGUN_MAX) }
-        ensures left { IfOk result (λ count. bytes_left self.new + count ≤ bytes_left self.old) }
+        ensures left { IfOk result (λ count. bytes_ahead self.new.capture.lines self.new.begun + count
+            ≤ bytes_ahead self.old.capture.lines self.old.begun) }
     {
-        let (count, ended) = self.begun.take(piece);
+        let (count, ended) = self.begun.take(chunk);
         if ended {
             self.end_line()?;
         }

@@ -21,7 +21,7 @@ impl Model for Lines {
 
 impl Lines {
     ghost use Rattle.std.specs.Prelude.{◌≡◌, ◌+◌, ◌<◌, ◌≤◌, [], length, false, true};
-    ghost use Rattle.wsn_capture.specs.SplitLines.{GoesOn, EndsLine};
+    ghost use Rattle.wsn_capture.specs.LineSplitters.{ContinuesLine, EndsLine};
 
     /// No line has begun.
     pub fn new() -> Lines
@@ -32,17 +32,17 @@ impl Lines {
         }
     }
 
-    /// Consumes a prefix of a piece, to the end of a line or as much as one line may hold. Returns the number of bytes, and
+    /// Consumes a prefix of a chunk, to the end of a line or as much as one line may hold. Returns the number of bytes, and
     /// whether the line has ended or is too long; then [`Lines::line`] returns it, without its LF.
-    pub fn take(&mut self, piece: &[u8]) -> (usize, bool)
-        requires some { 0 < length piece.now }
+    pub fn take(&mut self, chunk: &[u8]) -> (usize, bool)
+        requires some { 0 < length chunk.now }
         requires short { length self.old < BEGUN_MAX }
-        ensures within { (0 < result.0) × (result.0 ≤ length piece.now) }
-        ensures goes_on { result.1 ≡ false → GoesOn self.old self.new piece.now result.0 }
-        ensures ends { result.1 ≡ true → EndsLine self.old self.new piece.now result.0 }
+        ensures within { (0 < result.0) × (result.0 ≤ length chunk.now) }
+        ensures goes_on { result.1 ≡ false → ContinuesLine self.old self.new chunk.now result.0 }
+        ensures ends { result.1 ≡ true → EndsLine self.old self.new chunk.now result.0 }
     {
         let room = BEGUN_MAX - self.begun.len();
-        let front = &piece[..room.min(piece.len())];
+        let front = &chunk[..room.min(chunk.len())];
         match memchr(b'\n', front) {
             Some(end) => {
                 self.begun.add(&front[..end]);

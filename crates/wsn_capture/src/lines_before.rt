@@ -14,13 +14,13 @@ pub struct LinesBefore {
 }
 
 impl LinesBefore {
-    ghost use Rattle.std.specs.Prelude.{◌≡◌, ℕ, ◌<◌, MatchResult, Ok, Err, OnOk, IfErr, List};
+    ghost use Rattle.std.specs.Prelude.{◌≡◌, ℕ, ◌<◌, MatchResult, Ok, Err, OnOk, IfErr, List, []};
     ghost use Rattle.wsn_capture.specs.LineEntries.{FitsInLine, held_entry};
-    ghost use Rattle.wsn_capture.specs.SideTexts.{ended_before, unless_ended, entry_after, no_lines, with_entry};
+    ghost use Rattle.wsn_capture.specs.SideTexts.{ended_before, unless_ended, entry_after, lines_giving, with_entry};
 
     /// No lines.
     pub fn new() -> LinesBefore
-        ensures { result ≡ no_lines }
+        ensures { result ≡ lines_giving [] }
     {
         LinesBefore {
             count: 0,

@@ -2,7 +2,8 @@ ghost use Rattle.std.specs.Prelude.{◌≡◌, ◌≤◌, ◌-◌, ℕ, List, �
 ghost use Rattle.wsn_capture.specs.LineFaults.{line_most};
 ghost use Rattle.wsn_capture.specs.RefusedLines.{IsKeptOf};
 ghost use Rattle.wsn_capture.specs.SideTexts.{text_entry};
-ghost use Rattle.wsn_capture.specs.Words.{Bytes, Role};
+ghost use Rattle.wsn_rules.specs.Entries.Entry.{Bytes};
+ghost use Rattle.wsn_wire.specs.declared.endpoint.Role.{Role};
 ghost use Rattle.wsn_rules.specs.Entries.{without_cr};
 
 use crate::line_form::{BYTES_MAX, LINE_MAX, LineEntry, entry_of, strip_cr};

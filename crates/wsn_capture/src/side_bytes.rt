@@ -29,13 +29,13 @@ pub struct SideBytes {
 }
 
 impl SideBytes {
-    ghost use Rattle.std.specs.Prelude.{◌≡◌, ℕ, ◌<◌, ◌≤◌, ◌++◌, ◌∷◌, ◌↔◌, List, None, length, take, IsTrue};
-    ghost use Rattle.wsn_capture.specs.SideTexts.{no_lines, sent_in_lines};
+    ghost use Rattle.std.specs.Prelude.{◌≡◌, ℕ, ◌<◌, ◌≤◌, ◌++◌, ◌∷◌, ◌↔◌, List, [], None, length, take, IsTrue};
+    ghost use Rattle.wsn_capture.specs.SideTexts.{lines_giving, sent_in_lines};
     ghost use Rattle.wsn_capture.specs.SideStates.{side_left, IsReady, lines_ahead};
 
     /// The side of no lines.
     pub fn new(role: Role) -> SideBytes
-        ensures left { (lines : List (List ℕ)) → side_left result lines ≡ sent_in_lines role no_lines lines }
+        ensures left { (lines : List (List ℕ)) → side_left result lines ≡ sent_in_lines role (lines_giving []) lines }
         ensures unfaulted { result.fault ≡ None }
     {
         SideBytes {
@@ -68,7 +68,7 @@ impl SideBytes {
     pub fn take_line(&mut self, line: &[u8])
         requires { IsReady self.old }
         ensures left { (lines : List (List ℕ)) → side_left self.new lines ≡ side_left self.old (line.now ∷ lines) }
-        ensures fewer { lines_ahead self.new < lines_ahead self.old }
+        ensures falls { lines_ahead self.new < lines_ahead self.old }
     {
         match self.before.entry(line, &mut self.bytes) {
             Ok(entry) => {

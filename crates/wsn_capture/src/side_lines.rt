@@ -13,7 +13,7 @@ impl SideLines {
     ghost use Rattle.std.specs.Prelude.{◌≡◌, ℕ, ◌+◌, ◌<◌, ◌≤◌, ◌++◌, ◌∷◌, [], List, None, length, drop};
     ghost use Rattle.wsn_rules.specs.TextLines.{IsLine};
     ghost use Rattle.wsn_capture.specs.SideTexts.{sent_in};
-    ghost use Rattle.wsn_capture.specs.SideStates.{side_left, IsReady, lines_ahead, text_left, bytes_ahead};
+    ghost use Rattle.wsn_capture.specs.SideStates.{side_left, IsReady, lines_ahead, text_left, side_bytes_ahead};
 
     /// The side of a text of no bytes.
     pub fn new(role: Role) -> SideLines
@@ -37,7 +37,7 @@ impl SideLines {
         ensures within { start + result ≤ length chunk.now }
         ensures left { (later : List ℕ) → text_left self.new (drop (start + result) chunk.now ++ later)
             ≡ text_left self.old (drop start chunk.now ++ later) }
-        ensures fewer { bytes_ahead self.new < bytes_ahead self.old }
+        ensures falls { side_bytes_ahead self.new < side_bytes_ahead self.old }
         ensures short { length self.new.begun < BEGUN_MAX }
         ensures in_line { IsLine self.new.begun }
     {
@@ -55,7 +55,7 @@ impl SideLines {
         ensures within { result ≤ length chunk.now }
         ensures left { (later : List ℕ) →
             text_left self.new (drop result chunk.now ++ later) ≡ text_left self.old (chunk.now ++ later) }
-        ensures fewer { bytes_ahead self.new < bytes_ahead self.old }
+        ensures falls { side_bytes_ahead self.new < side_bytes_ahead self.old }
         ensures short { length self.new.begun < BEGUN_MAX }
         ensures in_line { IsLine self.new.begun }
     {
@@ -71,7 +71,7 @@ impl SideLines {
         requires { IsReady self.old.side }
         ensures left { (lines : List (List ℕ)) →
             side_left self.new.side lines ≡ side_left self.old.side (self.old.begun ∷ lines) }
-        ensures fewer { lines_ahead self.new.side < lines_ahead self.old.side }
+        ensures falls { lines_ahead self.new.side < lines_ahead self.old.side }
         ensures begun { self.new.begun ≡ [] }
     {
         self.side.take_line(self.begun.line());

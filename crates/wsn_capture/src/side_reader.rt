@@ -31,7 +31,7 @@ impl<R: Read> Model for SideReader<R> {
 impl<R: Read> SideReader<R> {
     ghost use Rattle.std.specs.Prelude.{◌≡◌, ◌∷◌, ℕ, [], None, Some, IfSome};
     ghost use Rattle.std.specs.Option.{option_map};
-    ghost use Rattle.wsn_capture.specs.Words.{LineFault};
+    ghost use Rattle.wsn_capture.specs.declared.line_fault.LineFault.{LineFault};
     ghost use Rattle.wsn_capture.specs.declared.capture_stop.CaptureStop.TheVariants.{Line};
     ghost use Rattle.wsn_capture.specs.SideTexts.{sent_in, sentinel};
 

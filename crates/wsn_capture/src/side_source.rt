@@ -63,7 +63,7 @@ impl<R: Read> SideSource<R> {
         requires going { self.old.ended ≡ false }
         requires ready { IsReady self.old.lines.side }
         ensures left { Keeps (source_left R.remaining self.old) (source_left R.remaining self.new) }
-        ensures fewer { OnOk result (steps_ahead self.new < steps_ahead self.old) }
+        ensures falls { OnOk result (steps_ahead self.new < steps_ahead self.old) }
     {
         if self.start == self.end {
             return self.fill();
@@ -79,7 +79,7 @@ impl<R: Read> SideSource<R> {
         requires empty { self.old.start ≡ self.old.end }
         requires ready { IsReady self.old.lines.side }
         ensures left { Keeps (source_left R.remaining self.old) (source_left R.remaining self.new) }
-        ensures fewer { OnOk result (steps_ahead self.new < steps_ahead self.old) }
+        ensures falls { OnOk result (steps_ahead self.new < steps_ahead self.old) }
     {
         self.start = 0;
         self.end = 0;

@@ -22,14 +22,14 @@ impl Tails {
     ghost use Rattle.std.specs.Prelude.{List};
     ghost use Rattle.wsn_rules.specs.Limits.{Limits};
     ghost use Rattle.wsn_rules.specs.Entries.{Entry};
-    ghost use Rattle.wsn_capture.specs.CaptureLines.{IsJudged};
+    ghost use Rattle.wsn_capture.specs.CaptureLines.{IsVerdictOnSide};
     ghost use Rattle.wsn_capture.specs.Tails.{AreTails};
 
     /// The tails of both endpoints' streams, given the verdicts on them.
     #[tactic(none)]
     pub fn of(client: &Verdict, server: &Verdict) -> Tails
-        ensures { (limits : Limits) (given : List Entry) → IsJudged Client limits given client.now →
-            IsJudged Server limits given server.now → AreTails limits given result }
+        ensures { (limits : Limits) (given : List Entry) → IsVerdictOnSide Client limits given client.now →
+            IsVerdictOnSide Server limits given server.now → AreTails limits given result }
     {
         Tails {
             client: tail_of(client),

@@ -14,7 +14,7 @@ use Rattle.wsn_command.specs.declared.answered.Answer.TheVariants.{Verdict, Repo
 use Rattle.wsn_hint.specs.declared.hint.Hint.{Hint}
 use Rattle.wsn_hint.specs.declared.hint.Hint.TheVariants.{WrongHandshake}
 use Rattle.wsn_hint.specs.declared.refused_sides.RefusedSides.{RefusedSides}
-use Rattle.wsn_hint.specs.Hints.{Fits, IsFirstFit, capture_hints}
+use Rattle.wsn_hint.specs.Hints.{HintFits, IsFirstFit, capture_hints}
 use Rattle.wsn_hint.specs.Accusations.{IsAccusingHint}
 use Rattle.wsn_hint.specs.SideHints.{FitsHandshake, FitsTail, IsSidesHint, tail_hints}
 use Rattle.wsn_cli.specs.Requests.{job_limits}
@@ -79,6 +79,6 @@ IsLinesHint job side text answer result =
 -- The hint on a capture, by the answer: what a file with a malformed line looks like by its first 16 bytes; none after
 -- any other stop.
 abbrev pub IsCaptureHint : {A : Type 0} → Job A → Option Role → List ℕ → Answer → Option Hint → Type 0
-IsCaptureHint job side text FaultyLine result = IsFirstFit (Fits (job_limits job) (take 16 text)) capture_hints result
+IsCaptureHint job side text FaultyLine result = IsFirstFit (HintFits (job_limits job) (take 16 text)) capture_hints result
 IsCaptureHint job side text Stopped result = result ≡ None
 IsCaptureHint job side text answer result = IsLinesHint job side text answer result

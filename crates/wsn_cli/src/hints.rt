@@ -2,7 +2,7 @@ ghost use Rattle.std.specs.Prelude.{◌≡◌, ◌↔◌, ◌⊎◌, IsTrue, tru
 ghost use Rattle.wsn_print.specs.declared.format.Format.TheVariants.{Json};
 ghost use Rattle.wsn_rules.specs.Limits.{Limits};
 ghost use Rattle.wsn_command.specs.declared.answered.Answer.TheVariants.{FaultyLine, Stopped};
-ghost use Rattle.wsn_hint.specs.Hints.{Fits};
+ghost use Rattle.wsn_hint.specs.Hints.{HintFits};
 ghost use Rattle.wsn_command.specs.Jobs.{job_role};
 ghost use Rattle.wsn_cli.specs.Requests.{job_format, job_limits};
 ghost use Rattle.wsn_cli.specs.RunHints.{IsCaptureHint, IsCloseHint, IsHandshakeHint, IsLinesHint, IsReportHint, refused_lines, refused_side, refused_sides};
@@ -36,7 +36,7 @@ pub fn hint_on_run<A: Allocator>(
     ensures json { job_format job.now ≡ Some Json → result ≡ None }
     ensures stopped { answer ≡ Stopped → result ≡ None }
     ensures stream { side ≡ None → IsSome (job_role job.now)
-        → IfSome result (Fits (job_limits job.now) (take 16 first.now)) }
+        → IfSome result (HintFits (job_limits job.now) (take 16 first.now)) }
     ensures capture { (IsSome side ⊎ (job_role job.now ≡ None)) → (job_format job.now ≡ Some Json → ⊥)
         → IsCaptureHint job.now side first.now answer result }
 {
@@ -57,7 +57,7 @@ fn hint_on_stream<A: Allocator>(
     answer: Answer,
 ) -> Option<Hint>
     ensures stopped { answer ≡ Stopped → result ≡ None }
-    ensures fits { IfSome result (Fits (job_limits job.now) (take 16 first.now)) }
+    ensures fits { IfSome result (HintFits (job_limits job.now) (take 16 first.now)) }
 {
     if let Answer::Stopped = answer {
         return None;
@@ -209,7 +209,7 @@ pub fn hint_on_streams(
     ensures json { comparison.format ≡ Json → result ≡ None }
     ensures stopped { answer ≡ Stopped → result ≡ None }
     ensures fits { IfSome result (λ compared. IfSome compared.hint
-        (Fits comparison.limits (if compared.is_second then second.now else first.now))) }
+        (HintFits comparison.limits (if compared.is_second then second.now else first.now))) }
 {
     if answer == Answer::Stopped || comparison.format == Format::Json {
         return None;
@@ -234,7 +234,7 @@ pub fn hint_on_sides(
     ensures json { comparison.format ≡ Json → result ≡ None }
     ensures line { IsSome result → answer ≡ FaultyLine }
     ensures input { IfSome result (λ compared. compared.is_second ≡ is_second) }
-    ensures fits { IfSome result (λ compared. IfSome compared.hint (Fits comparison.limits failed.now)) }
+    ensures fits { IfSome result (λ compared. IfSome compared.hint (HintFits comparison.limits failed.now)) }
 {
     if comparison.format == Format::Json || answer != Answer::FaultyLine {
         return None;
@@ -266,7 +266,7 @@ fn limits_of<A: Allocator>(job: &Job<A>) -> Limits
 
 /// The hint in the words of the job's command: `show` and `redact` read a capture without `--role`.
 fn suited_to<A: Allocator>(job: &Job<A>, hint: Hint) -> Hint
-    ensures { (limits : Limits) (bytes : List ℕ) → Fits limits bytes hint → Fits limits bytes result }
+    ensures { (limits : Limits) (bytes : List ℕ) → HintFits limits bytes hint → HintFits limits bytes result }
 {
     match (job, hint) {
         (Job::ShowStream(_, _, _) | Job::Redact(_, _), Hint::Capture) => Hint::CaptureToShow,

@@ -30,10 +30,8 @@ colored_by layout colored (Some tone) = is_of_line layout
 -- The line after this word.
 abbrev pub with_word : Line → List ℕ → Line
 with_word line word = if decides line word
-    then record {
-      layout = line.layout;
+    then record line {
       opening = if line.place == 0 then opening_of word else line.opening;
-      place = line.place;
       is_decided = true;
       is_toned = colored_by line.layout line.is_toned (begun_tone line word);
     }
@@ -42,24 +40,12 @@ with_word line word = if decides line word
 -- The line after a byte that isn't held: another word comes after a separator. Of places from 4 on only that they are is known.
 abbrev pub with_byte : Line → ℕ → Line
 with_byte line byte = if byte == separator line.layout
-    then record {
-      layout = line.layout;
-      opening = line.opening;
-      place = if nat_lt line.place 4 then line.place + 1 else line.place;
-      is_decided = false;
-      is_toned = line.is_toned;
-    }
+    then record line { place = if nat_lt line.place 4 then line.place + 1 else line.place; is_decided = false }
     else line
 
 -- The line without its tone.
 abbrev pub without_tone : Line → Line
-without_tone line = record {
-  layout = line.layout;
-  opening = line.opening;
-  place = line.place;
-  is_decided = line.is_decided;
-  is_toned = false;
-}
+without_tone line = record line { is_toned = false }
 
 -- A word in its tone, which ends after it if it isn't one of lines.
 abbrev pub toned_word : Layout → Option Tone → List ℕ → List ℕ

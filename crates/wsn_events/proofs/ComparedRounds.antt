@@ -13,18 +13,18 @@ use Rattle.wsn_scan.proofs.ReaderReports.{left_few}
 use Rattle.wsn_events.specs.declared.comparing.Round.TheVariants.{Alike, Unlike}
 use Rattle.wsn_events.specs.declared.event_reader.EventReader.{EventReader}
 use Rattle.wsn_events.specs.Turns.{MeantTurn, OfEvent, OfVerdict}
-use Rattle.wsn_events.specs.EventReaders.{HasGiven, answered, readings_left}
+use Rattle.wsn_events.specs.EventReaders.{HasGiven, answered, events_ahead}
 use Rattle.wsn_events.specs.Comparing.{DifferAt, IsRoundOf}
 use Rattle.wsn_events.proofs.ComparedEvents.{differ_sym, differ_more, differ_next, differ_end, differ_first}
 use Rattle.wsn_events.proofs.ComparedSources.{Gives, HasGivenNext}
 
 -- a bound on the rounds in which a source can still give an event or its verdict
-abbrev pub rounds_left : Option (Result Verdict Stop) → ℕ → ℕ
-rounds_left None left = left + 1
-rounds_left (Some answer) left = 0
+abbrev pub rounds_ahead : Option (Result Verdict Stop) → ℕ → ℕ
+rounds_ahead None left = left + 1
+rounds_ahead (Some answer) left = 0
 
 abbrev pub pending : {A : Type 0} → EventReader A → ℕ
-pending reading = rounds_left (answered reading) (readings_left reading)
+pending reading = rounds_ahead (answered reading) (events_ahead reading)
 
 -- Without a difference, neither has ended, and they have given `index` events, the same. A difference stays the first.
 abbrev pub IsDifferenceSoFar : {A : Type 0} → EventReader A → EventReader A → ℕ → List MeantEvent → List MeantEvent → Option ℕ → Type 0
@@ -58,11 +58,11 @@ module _ {A : Type 0} (role : Role) (limits : Limits) where
 
   -- ---- rounds
 
-  pending_going : (reading : EventReader A) → answered reading ≡ None → pending reading ≡ readings_left reading + 1
-  pending_going reading going = ap (λ (a : Option (Result Verdict Stop)). rounds_left a (readings_left reading)) going
+  pending_going : (reading : EventReader A) → answered reading ≡ None → pending reading ≡ events_ahead reading + 1
+  pending_going reading going = ap (λ (a : Option (Result Verdict Stop)). rounds_ahead a (events_ahead reading)) going
 
   pending_done : (reading : EventReader A) (answer : Result Verdict Stop) → answered reading ≡ Some answer → pending reading ≡ 0
-  pending_done reading answer done = ap (λ (a : Option (Result Verdict Stop)). rounds_left a (readings_left reading)) done
+  pending_done reading answer done = ap (λ (a : Option (Result Verdict Stop)). rounds_ahead a (events_ahead reading)) done
 
   -- at most a round for each byte of the input limit, and one for the verdict
   pub few_rounds : (reading : EventReader A) → HasGiven role limits reading [] [] → pending reading ≤ 2 ^ 41 + 2

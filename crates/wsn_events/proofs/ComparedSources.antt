@@ -15,7 +15,7 @@ use Rattle.wsn_events.specs.declared.turn.Turn.{Turn}
 use Rattle.wsn_events.specs.declared.turn.Turn.TheVariants.{Lent, Own}
 use Rattle.wsn_events.specs.EventsMeant.{meant}
 use Rattle.wsn_events.specs.Sources.{IsLast}
-use Rattle.wsn_events.specs.EventReaders.{HasGiven, HasBegunOrEnded, answered, offset_of, frames_of, readings_left}
+use Rattle.wsn_events.specs.EventReaders.{HasGiven, HasBegunOrEnded, answered, offset_of, frames_of, events_ahead}
 use Rattle.wsn_events.specs.LeavingOut.{is_turn_left_out, TakesTurnWithout, ReadsTurn}
 use Rattle.wsn_events.specs.LentMessages.{lent_message}
 use Rattle.wsn_events.specs.Comparing.{HasStopped}
@@ -29,18 +29,18 @@ abbrev pub IsGoing : {A : Type 0} → Role → Limits → Incoming → EventRead
 IsGoing role limits now reading came given = HasGiven role limits reading came given × (now.failed ≡ false)
 
 -- It has ended with this verdict, after all of its events.
-abbrev pub IsDone : {A : Type 0} → Role → Limits → Incoming → EventReader A → List ℕ → List MeantEvent → Verdict → Type 0
-IsDone role limits now reading came given verdict = (answered reading ≡ Some (Ok verdict)) × IsLast role limits now came given (Ok verdict)
+abbrev pub HasEndedWith : {A : Type 0} → Role → Limits → Incoming → EventReader A → List ℕ → List MeantEvent → Verdict → Type 0
+HasEndedWith role limits now reading came given verdict = (answered reading ≡ Some (Ok verdict)) × IsLast role limits now came given (Ok verdict)
 
 -- A source, the bytes that came, and the events that it has given.
 pub record HasFollowed {A : Type 0} (role : Role) (limits : Limits) (old now : Incoming) (reading : EventReader A) (came : List ℕ) (given : List MeantEvent) : Type 0 where
   pub received : IsReceived (limits.input + 1) old now came
-  pub state : IsGoing role limits now reading came given ⊎ ((verdict : Verdict) × IsDone role limits now reading came given verdict)
+  pub state : IsGoing role limits now reading came given ⊎ ((verdict : Verdict) × HasEndedWith role limits now reading came given verdict)
 
 -- What a source gave in a round, after the events that are compared so far.
 abbrev pub Gives : {A : Type 0} → EventReader A → EventReader A → List MeantEvent → List MeantEvent → MeantTurn → Type 0
 Gives old reading given events (OfEvent event) =
-    (events ≡ given ++ event ∷ []) × (answered old ≡ None) × (answered reading ≡ None) × (readings_left reading < readings_left old)
+    (events ≡ given ++ event ∷ []) × (answered old ≡ None) × (answered reading ≡ None) × (events_ahead reading < events_ahead old)
 Gives old reading given events (OfVerdict verdict) = (events ≡ given) × (answered reading ≡ Some (Ok verdict))
 
 -- With a verdict these are all of its events.
@@ -151,7 +151,7 @@ module _ (without : Without) (role : Role) (limits : Limits) where
     same_state : (at : EventReader A) (now : Incoming) → at ≡ before → now ≡ mid → HasFollowed role limits old now at came given
     same_state at now is_at is_now = grind arith
 
-    stays : (verdict : Verdict) → IsDone role limits mid before came given verdict → (turn : Turn A) → result ≡ Ok turn → HasGivenNext without role limits old new before reading came given (meant_turn reading turn)
+    stays : (verdict : Verdict) → HasEndedWith role limits mid before came given verdict → (turn : Turn A) → result ≡ Ok turn → HasGivenNext without role limits old new before reading came given (meant_turn reading turn)
     stays verdict done (Lent kind) is =
         let both : Ok (Lent kind) ≡ Ok (Own (nexts.Done verdict)) = sym is ∙ (reads.again (Ok verdict) done.0).0 in absurd cc
     stays verdict done (Own (nexts.Event event)) is =
@@ -185,6 +185,6 @@ module _ (without : Without) (role : Role) (limits : Limits) where
             let now = subst (λ (r : Result (Turn A) Stop). IsNextTurn role limits new reading (came ++ went.takes.more) (given ++ went.passed) r) is went.takes.next in
             (came ++ went.takes.more, received went, (given ++ went.passed, now.0))
 
-        never : (verdict : Verdict) → IsDone role limits mid before came given verdict → (all : List ℕ) × IsReceived (limits.input + 1) old new all × HasStopped role limits new all stop
+        never : (verdict : Verdict) → HasEndedWith role limits mid before came given verdict → (all : List ℕ) × IsReceived (limits.input + 1) old new all × HasStopped role limits new all stop
         never verdict done =
             let both : Err stop ≡ Ok (Own (nexts.Done verdict)) = sym is ∙ (reads.again (Ok verdict) done.0).0 in absurd cc

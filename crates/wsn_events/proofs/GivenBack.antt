@@ -10,9 +10,9 @@ use Rattle.wsn_rules.specs.Meaning.{MeantEvent}
 use Rattle.wsn_events.specs.declared.event_reader.EventReader.{EventReader}
 use Rattle.wsn_events.specs.declared.excerpt.Excerpt.{Excerpt}
 use Rattle.wsn_events.specs.declared.first_difference.FirstDifference.{FirstDifference}
-use Rattle.wsn_events.specs.EventReaders.{IsAsBefore, answered, readings_left}
+use Rattle.wsn_events.specs.EventReaders.{IsAsBefore, answered, events_ahead}
 use Rattle.wsn_events.proofs.ComparedSources.{HasFollowed}
-use Rattle.wsn_events.proofs.ComparedRounds.{IsDifferenceSoFar, pending, rounds_left}
+use Rattle.wsn_events.proofs.ComparedRounds.{IsDifferenceSoFar, pending, rounds_ahead}
 use Rattle.wsn_events.proofs.KeptExcerpts.{AreKept}
 use Rattle.wsn_events.proofs.StandingEvents.{Stands}
 
@@ -20,7 +20,7 @@ use Rattle.wsn_events.proofs.StandingEvents.{Stands}
 
 module _ {A : Type 0} (old new : EventReader A) (same : IsAsBefore old new) where
   pub same_pending : pending new ≡ pending old
-  same_pending = ap (λ (a : Option (Result Verdict Stop)). rounds_left a (readings_left new)) same.answer ∙ ap (λ (n : ℕ). rounds_left (answered old) n) same.left
+  same_pending = ap (λ (a : Option (Result Verdict Stop)). rounds_ahead a (events_ahead new)) same.answer ∙ ap (λ (n : ℕ). rounds_ahead (answered old) n) same.left
 
   pub followed_back : (role : Role) (limits : Limits) (first now : Incoming) (came : List ℕ) (given : List MeantEvent) → HasFollowed role limits first now old came given → HasFollowed role limits first now new came given
   followed_back role limits first now came given followed = record {

@@ -25,8 +25,8 @@ use Rattle.wsn_scan.specs.declared.part.Part.{Part}
 use Rattle.wsn_scan.specs.FrameReaders.{HasTaken, held_payload}
 use Rattle.wsn_scan.specs.Positions.{Position, BetweenFrames, IsTakenOf}
 use Rattle.wsn_scan.specs.Parts.{IsWholeMessage}
-use Rattle.wsn_scan.specs.ReadParts.{TakesPart}
-use Rattle.wsn_scan.specs.Refill.{chunk_size}
+use Rattle.wsn_scan.specs.ReadParts.{ReadsPart}
+use Rattle.wsn_scan.specs.Judging.{chunk_size}
 use Rattle.wsn_scan.proofs.ReaderReports.{reported_of}
 use Rattle.wsn_scan.proofs.FollowedScans.{begins_at}
 use Rattle.wsn_events.specs.declared.event.Event.{Event}
@@ -35,9 +35,8 @@ use Rattle.wsn_events.specs.declared.reassembly.Reassembly.{Reassembly}
 use Rattle.wsn_events.specs.declared.source.Next.TheVariants as nexts
 use Rattle.wsn_events.specs.EventsMeant.{meant}
 use Rattle.wsn_events.specs.EventReaders.{HasGiven, IsGiven, IsNextEvent, answered, held_of, offset_of, frames_of}
-use Rattle.wsn_events.specs.LentMessages.{LendsMessage, lent_message}
+use Rattle.wsn_events.specs.LentMessages.{LendsMessage, lent_message, held_bytes}
 use Rattle.wsn_events.specs.Reassembly.{IsBetweenFrames, IsInFrame, IsPlacedAt, offset_given, frames_given}
-use Rattle.wsn_events.specs.TakenEvents.{held_bytes}
 use Rattle.wsn_events.proofs.GivenSoFar.{all_came, given_first}
 use Rattle.wsn_events.proofs.ReassembledFrames.{given_of_frame, message_ended, reassembled_alike}
 use Rattle.wsn_events.proofs.TakenParts.{ended_by, data_of_frame, before_frame}
@@ -136,7 +135,7 @@ module _ {A : Type 0} (role : Role) (limits : Limits) (reading : EventReader A) 
 
 -- the part that came last is a whole message
 pub lends_part : {A : Type 0} (role : Role) (limits : Limits) (reading : EventReader A) (reader : FrameReader) (part : Part) (now came : List ℕ) (given : List MeantEvent) (has : HasGiven role limits reading came given)
-    (takes : TakesPart role limits reader part now has.frames has.position) → IsTakenOf role limits now takes.frames takes.position → (g : Reassembly A) (kind : Kind) → IsWholeMessage part kind → g.op ≡ op_of kind → g.place ≡ length (stream has.frames) → g.message.items ≡ payload_of (unfinished has.frames)
+    (takes : ReadsPart role limits reader part now has.frames has.position) → IsTakenOf role limits now takes.frames takes.position → (g : Reassembly A) (kind : Kind) → IsWholeMessage part kind → g.op ≡ op_of kind → g.place ≡ length (stream has.frames) → g.message.items ≡ payload_of (unfinished has.frames)
     → LendsMessage role limits (record { reader = reader; reassembly = g; answer = reading.answer }) now given kind
 lends_part role limits reading reader part now came given has takes taken g kind whole op_now place_now message_now =
     let fs = has.frames in
@@ -151,7 +150,7 @@ lends_part role limits reading reader part now came given has takes taken g kind
 
 -- the same after the part's frame has begun
 pub lends_begun : {A : Type 0} (role : Role) (limits : Limits) (reading : EventReader A) (reader : FrameReader) (part : Part) (now came : List ℕ) (given : List MeantEvent) (has : HasGiven role limits reading came given)
-    (takes : TakesPart role limits reader part now has.frames has.position) → IsTakenOf role limits now takes.frames takes.position → (g : Reassembly A) (kind : Kind) → IsWholeMessage part kind → IsInFrame g has.frames part.head.op takes.is_part.before
+    (takes : ReadsPart role limits reader part now has.frames has.position) → IsTakenOf role limits now takes.frames takes.position → (g : Reassembly A) (kind : Kind) → IsWholeMessage part kind → IsInFrame g has.frames part.head.op takes.is_part.before
     → LendsMessage role limits (record { reader = reader; reassembly = g; answer = reading.answer }) now given kind
 lends_begun role limits reading reader part now came given has takes taken g kind whole within =
     let fs = has.frames in

@@ -11,7 +11,7 @@ use Rattle.wsn_rules.specs.Meaning.{MeantEvent}
 use Rattle.wsn_events.specs.declared.event_reader.EventReader.{EventReader}
 use Rattle.wsn_events.specs.declared.turn.Turn.{Turn}
 use Rattle.wsn_events.specs.declared.turn.Turn.TheVariants.{Lent}
-use Rattle.wsn_events.specs.EventReaders.{HasGiven, HasBegunOrEnded, IsAtWork, answered, readings_left}
+use Rattle.wsn_events.specs.EventReaders.{HasGiven, HasBegunOrEnded, IsAtWork, answered, events_ahead}
 use Rattle.wsn_events.specs.LeavingOut.{ReadsTurn}
 use Rattle.wsn_events.specs.LentMessages.{LendsMessage, MayLend}
 use Rattle.wsn_events.proofs.GivenSoFar.{begun_sound}
@@ -63,7 +63,7 @@ module _ {A : Type 0} (before mid : EventReader A) (lent : Option Kind) (may : M
             };
           };
       not_left_out = refl;
-      falls = λ _. subst (λ (l : Option Kind). IfSome l (λ k. readings_left mid < readings_left before)) is may.falls;
+      falls = λ _. subst (λ (l : Option Kind). IfSome l (λ k. events_ahead mid < events_ahead before)) is may.falls;
       again = λ answer was. let both : Some answer ≡ None = sym was ∙ going kind is in absurd cc;
     }
 

@@ -22,7 +22,7 @@ use Rattle.wsn_events.specs.EventsMeant.{meant}
 use Rattle.wsn_rules.specs.NormalForm.{normal_frame, normal_form}
 use Rattle.wsn_scan.proofs.EventRuns.{normal_form-append, normal_form_push}
 use Rattle.wsn_events.specs.Normalised.{IsNormalised, IsNormalFormWritten}
-use Rattle.wsn_events.specs.EventReaders.{HasGiven, GoesOn, IsGiven}
+use Rattle.wsn_events.specs.EventReaders.{HasGiven, ReadsNextEvent, IsGiven}
 use Rattle.wsn_events.specs.Sources.{AreFirstOf, IsLast, IsMeaningOf}
 use Rattle.wsn_events.proofs.GivenSoFar.{before_given}
 
@@ -48,22 +48,22 @@ module _ {A : Type 0} (role : Role) (limits : Limits) (old : Incoming) (before :
 
   -- the source's next answer
   module _ (mid new : Incoming) (after : Outgoing) (source next : EventReader A) (written : HasWritten role limits old mid before after source) where
-    pub received : (result : Result (Next A) Stop) (on : GoesOn role limits mid new next written.came written.given result) → IsReceived (limits.input + 1) old new (written.came ++ on.more)
+    pub received : (result : Result (Next A) Stop) (on : ReadsNextEvent role limits mid new next written.came written.given result) → IsReceived (limits.input + 1) old new (written.came ++ on.more)
     received result on = received_on (limits.input + 1) old mid new written.came on.more written.received on.consumed on.few
 
     -- the verdict
-    pub is_done : (answer : Next A) (verdict : Verdict) → answer ≡ nexts.Done verdict → GoesOn role limits mid new next written.came written.given (Ok answer) → IsNormalised role limits old new before after (Ok verdict)
+    pub is_done : (answer : Next A) (verdict : Verdict) → answer ≡ nexts.Done verdict → ReadsNextEvent role limits mid new next written.came written.given (Ok answer) → IsNormalised role limits old new before after (Ok verdict)
     is_done answer verdict is goes = record {
       came = written.came ++ on.more;
       received = received (Ok (nexts.Done verdict)) on;
       written = (written.given, on.next.0, (written.writable, written.out));
     }
       where
-        on : GoesOn role limits mid new next written.came written.given (Ok (nexts.Done verdict))
-        on = subst (λ (n : Next A). GoesOn role limits mid new next written.came written.given (Ok n)) is goes
+        on : ReadsNextEvent role limits mid new next written.came written.given (Ok (nexts.Done verdict))
+        on = subst (λ (n : Next A). ReadsNextEvent role limits mid new next written.came written.given (Ok n)) is goes
 
     -- a stop
-    pub is_stopped : (stopped : Stop) → GoesOn role limits mid new next written.came written.given (Err stopped) → IsNormalised role limits old new before after (Err stopped)
+    pub is_stopped : (stopped : Stop) → ReadsNextEvent role limits mid new next written.came written.given (Err stopped) → IsNormalised role limits old new before after (Err stopped)
     is_stopped stopped on = record {
       came = written.came ++ on.more;
       received = received (Err stopped) on;
@@ -74,9 +74,9 @@ module _ {A : Type 0} (role : Role) (limits : Limits) (old : Incoming) (before :
         of s last = grind arith
 
     -- an event, which is written
-    module _ (answer : Next A) (event : Event A) (is : answer ≡ nexts.Event event) (goes : GoesOn role limits mid new next written.came written.given (Ok answer)) where
-      abbrev on : GoesOn role limits mid new next written.came written.given (Ok (nexts.Event event))
-      on = subst (λ (n : Next A). GoesOn role limits mid new next written.came written.given (Ok n)) is goes
+    module _ (answer : Next A) (event : Event A) (is : answer ≡ nexts.Event event) (goes : ReadsNextEvent role limits mid new next written.came written.given (Ok answer)) where
+      abbrev on : ReadsNextEvent role limits mid new next written.came written.given (Ok (nexts.Event event))
+      on = subst (λ (n : Next A). ReadsNextEvent role limits mid new next written.came written.given (Ok n)) is goes
 
       pub is_lawful_event : IsLawfulEvent (meant event)
       is_lawful_event = on.next.1.lawful

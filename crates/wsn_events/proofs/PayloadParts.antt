@@ -3,16 +3,15 @@ use Rattle.std.proofs.Common.{◌≡◌, ℕ, ◌+◌, ◌-◌, ◌≤◌, ◌<�
 use Rattle.std.proofs.lemmas.Bool.{cases_lt}
 use Rattle.std.proofs.lemmas.List.{length-take, take_min}
 use Rattle.std.specs.Str.Lossy.{utf8_valid_len}
-use Rattle.wsn_wire.specs.declared.opcode.Kind.TheVariants as kinds
 use Rattle.wsn_text.specs.Utf8.{BeginsText}
 use Rattle.wsn_text.proofs.Prefixes.{begins_take, text_begins}
 use Rattle.wsn_text.proofs.WholeCharacters.{whole, cut}
 use Rattle.wsn_rules.specs.LawfulEvents.{IsLawfulEvent}
-use Rattle.wsn_rules.specs.Meaning.{MeantEvent}
+use Rattle.wsn_rules.specs.Meaning.{MeantEvent, payload_in}
 use Rattle.wsn_print.specs.declared.shown.DifferingPayloads.{DifferingPayloads}
 use Rattle.wsn_print.specs.declared.shown.PayloadPart.{PayloadPart}
 use Rattle.wsn_print.specs.DifferingPayloads.{is_text, view_start, payload_on, IsPartOf, StandsForPlace}
-use Rattle.wsn_print.specs.ShownParts.{payload_in, HoldsFirst}
+use Rattle.wsn_print.specs.ShownParts.{HoldsFirst}
 use Rattle.wsn_events.specs.declared.payload_difference.PayloadDifference.{PayloadDifference}
 use Rattle.wsn_events.specs.declared.payload_difference.PayloadExcerpt.{PayloadExcerpt}
 use Rattle.wsn_events.specs.PayloadExcerpts.{IsPartKept, ArePartsKept, IsLawfulIfAny, event_given}

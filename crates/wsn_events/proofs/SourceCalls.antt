@@ -22,8 +22,8 @@ use Rattle.wsn_io.specs.declared.stop.Stop.TheVariants as stops
 use Rattle.wsn_scan.specs.Positions.{Position, BetweenFrames, InFrame, IsTakenOf}
 use Rattle.wsn_scan.specs.FrameReaders.{HasTaken, IsReading, held_payload}
 use Rattle.wsn_scan.specs.Parts.{IsPartAt, IsWholeMessage}
-use Rattle.wsn_scan.specs.ReadParts.{ReadsOn, TakesPart, IsHaltedAt, IsNextPart}
-use Rattle.wsn_scan.specs.Refill.{chunk_size}
+use Rattle.wsn_scan.specs.ReadParts.{ReadsOn, ReadsPart, IsHaltedAt, IsNextPart}
+use Rattle.wsn_scan.specs.Judging.{chunk_size}
 use Rattle.wsn_scan.proofs.FrameEnds.{unfinished_few}
 use Rattle.wsn_scan.proofs.ReaderReports.{reported_of}
 use Rattle.wsn_events.specs.declared.event.Event.{Event}
@@ -34,7 +34,7 @@ use Rattle.wsn_events.specs.declared.turn.Turn.TheVariants.{Lent, Own}
 use Rattle.wsn_events.specs.declared.source.Next.{Next}
 use Rattle.wsn_events.specs.declared.source.Next.TheVariants as nexts
 use Rattle.wsn_events.specs.EventsMeant.{meant}
-use Rattle.wsn_events.specs.EventReaders.{HasGiven, IsAtWork, IsNextEvent, GoesOn, IsEvent, answered, held_of}
+use Rattle.wsn_events.specs.EventReaders.{HasGiven, IsAtWork, IsNextEvent, ReadsNextEvent, IsEvent, answered, held_of}
 use Rattle.wsn_events.specs.LentMessages.{LendsMessage, lent_message}
 use Rattle.wsn_events.specs.Turns.{IsNextTurn, TakesTurn, GivesEvent}
 use Rattle.wsn_events.specs.Reassembly.{IsReassembled, IsBetweenFrames, IsInFrame, IsEventOf, IsPlacedAt}
@@ -93,7 +93,7 @@ module _ {A : Type 0} (role : Role) (limits : Limits) (old : Incoming) (came : L
     -- ---- a part of a frame
 
     module _ (is : result ≡ Ok None) where
-      takes : TakesPart role limits reader part now fs read.has.position
+      takes : ReadsPart role limits reader part now fs read.has.position
       takes = (found (Ok None) is).0
 
       pub unfailed : new.failed ≡ false
@@ -186,24 +186,24 @@ begun_after role limits old new reading came given (Ok (Own (nexts.Event event))
 begun_after role limits old new reading came given _ on is = absurd is
 
 pub begun_next : {A : Type 0} (role : Role) (limits : Limits) (old new : Incoming) (reading : EventReader A) (came : List ℕ) (given : List MeantEvent) (result : Result (Next A) Stop)
-    → GoesOn role limits old new reading came given result → IsEvent result → IsAtWork reading
+    → ReadsNextEvent role limits old new reading came given result → IsEvent result → IsAtWork reading
 begun_next role limits old new reading came given (Ok (nexts.Event event)) on is = begun_sound role limits reading (came ++ on.more) (given ++ meant event ∷ []) on.next.0
 begun_next role limits old new reading came given _ on is = absurd is
 
 -- ---- what comes next, as an event of its own
 
 module _ {A : Type 0} (role : Role) (limits : Limits) (old new : Incoming) (before : EventReader A) (came : List ℕ) (given : List MeantEvent) (turn : Result (Turn A) Stop) (takes : TakesTurn role limits old new before came given turn) where
-  next_from : (last : EventReader A) (next : Result (Next A) Stop) → IsNextEvent role limits new last (came ++ takes.more) given next → GoesOn role limits old new last came given next
+  next_from : (last : EventReader A) (next : Result (Next A) Stop) → IsNextEvent role limits new last (came ++ takes.more) given next → ReadsNextEvent role limits old new last came given next
   next_from last next is = record { more = takes.more; consumed = takes.consumed; few = takes.few; next = is }
 
   turn_is : (t : Result (Turn A) Stop) → turn ≡ t → IsNextTurn role limits new before (came ++ takes.more) given t
   turn_is t is = subst (λ (r : Result (Turn A) Stop). IsNextTurn role limits new before (came ++ takes.more) given r) is takes.next
 
   -- it is one already
-  pub own_next : (next : Next A) → turn ≡ Ok (Own next) → GoesOn role limits old new before came given (Ok next)
+  pub own_next : (next : Next A) → turn ≡ Ok (Own next) → ReadsNextEvent role limits old new before came given (Ok next)
   own_next next is = next_from before (Ok next) (turn_is (Ok (Own next)) is)
 
-  pub stops_next : (halted : Stop) → turn ≡ Err halted → GoesOn role limits old new before came given (Err halted)
+  pub stops_next : (halted : Stop) → turn ≡ Err halted → ReadsNextEvent role limits old new before came given (Err halted)
   stops_next halted is = next_from before (Err halted) (turn_is (Err halted) is)
 
   pub lent_going : (kind : Kind) → turn ≡ Ok (Lent kind) → answered before ≡ None
@@ -212,5 +212,5 @@ module _ {A : Type 0} (role : Role) (limits : Limits) (old new : Incoming) (befo
   -- it was lent, and is copied
   pub lent_next : (kind : Kind) → turn ≡ Ok (Lent kind) → (last : EventReader A) (next : Result (Next A) Stop)
       → ((r : Role) (b : Limits) (input : Incoming) (bytes : List ℕ) (events : List MeantEvent) → LendsMessage r b before bytes events kind → input.failed ≡ false → IsNextEvent r b input last bytes events next)
-      → GoesOn role limits old new last came given next
+      → ReadsNextEvent role limits old new last came given next
   lent_next kind is last next copies = let lent = turn_is (Ok (Lent kind)) is in next_from last next (copies role limits new (came ++ takes.more) given lent.0 lent.1)

@@ -20,9 +20,9 @@ use Rattle.wsn_events.specs.declared.event_reader.EventReader.{EventReader}
 use Rattle.wsn_events.specs.declared.source.Next.{Next}
 use Rattle.wsn_events.specs.declared.source.Next.TheVariants as nexts
 use Rattle.wsn_events.specs.EventsMeant.{meant}
-use Rattle.wsn_events.specs.EventReaders.{HasGiven, GoesOn, IsAtWork}
+use Rattle.wsn_events.specs.EventReaders.{HasGiven, ReadsNextEvent, IsAtWork}
 use Rattle.wsn_events.specs.Normalised.{IsNormalised}
-use Rattle.wsn_events.specs.TakenEvents.{TakesEventsAfter, PutsTaken}
+use Rattle.wsn_events.specs.LentMessages.{TakesEventsAfter, PutsTaken}
 use Rattle.wsn_events.proofs.GivenSoFar.{begun_sound, given_first}
 use Rattle.wsn_events.proofs.Normalising.{HasWritten, goes_on, is_failed}
 
@@ -63,7 +63,7 @@ module _ {A : Type 0} (role : Role) (limits : Limits) (old mid : Incoming) (befo
 
 -- A write failed in the normal form of the events taken, after that of the event before them.
 pub taken_failed : {A : Type 0} (role : Role) (limits : Limits) (old : Incoming) (before : Outgoing) (mid new : Incoming) (after : Outgoing) (source next : EventReader A) (written : HasWritten role limits old mid before after source)
-    (answer : Next A) (event : Event A) (is : answer ≡ nexts.Event event) (goes : GoesOn role limits mid new next written.came written.given (Ok answer)) (put : Outgoing)
+    (answer : Next A) (event : Event A) (is : answer ≡ nexts.Event event) (goes : ReadsNextEvent role limits mid new next written.came written.given (Ok answer)) (put : Outgoing)
     (wrote : IsWritten after put (frame_bytes (normal_frame role (meant event)))) (last : Outgoing) (taken : EventReader A) (stopped : Stop)
     → PutsTaken role limits taken (goes_on role limits old before mid new after source next written answer event is goes put wrote).came (goes_on role limits old before mid new after source next written answer event is goes put wrote).given put last (Err stopped)
     → IsNormalised role limits old new before last (Err stop.Write)

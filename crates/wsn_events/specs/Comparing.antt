@@ -19,7 +19,7 @@ use Rattle.wsn_events.specs.declared.comparing.Round.{Round}
 use Rattle.wsn_events.specs.declared.comparing.Round.TheVariants.{Alike, Unlike, Over}
 use Rattle.wsn_events.specs.declared.event_reader.EventReader.{EventReader}
 use Rattle.wsn_events.specs.Sources.{IsLast, IsHalted}
-use Rattle.wsn_events.specs.TakenEvents.{held_bytes}
+use Rattle.wsn_events.specs.LentMessages.{held_bytes}
 use Rattle.wsn_events.specs.Turns.{MeantTurn, OfEvent, OfVerdict}
 
 -- The first k events are the same, and then the lists differ: in the next event, or one list has ended.

@@ -12,8 +12,8 @@ use Rattle.wsn_rules.specs.Meaning.{MeantEvent, event_at, meaning}
 use Rattle.wsn_rules.specs.ShownStream.{event_offset, event_frames}
 use Rattle.wsn_io.specs.declared.stop.Stop.{Stop}
 use Rattle.wsn_scan.specs.Positions.{Position}
-use Rattle.wsn_scan.specs.FrameReaders.{HasTaken, parts_left}
-use Rattle.wsn_scan.specs.Refill.{chunk_size}
+use Rattle.wsn_scan.specs.FrameReaders.{HasTaken, parts_ahead}
+use Rattle.wsn_scan.specs.Judging.{chunk_size}
 use Rattle.wsn_events.specs.declared.event.Event.{Event}
 use Rattle.wsn_events.specs.declared.event_reader.EventReader.{EventReader}
 use Rattle.wsn_events.specs.declared.source.Next.{Next}
@@ -56,9 +56,9 @@ offset_of reading = offset_given reading.reassembly
 abbrev pub frames_of : {A : Type 0} → EventReader A → ℕ
 frames_of reading = frames_given reading.reassembly
 
--- a bound on how many events can still come
-abbrev pub readings_left : {A : Type 0} → EventReader A → ℕ
-readings_left reading = parts_left reading.reader
+-- an upper bound on the number of events that may still come
+abbrev pub events_ahead : {A : Type 0} → EventReader A → ℕ
+events_ahead reading = parts_ahead reading.reader
 
 -- A source that has not ended is at work.
 abbrev pub HasBegunOrEnded : {A : Type 0} → EventReader A → Type 0
@@ -69,7 +69,7 @@ pub record IsAsBefore {A : Type 0} (old new : EventReader A) : Type 0 where
   pub given : (role : Role) (limits : Limits) (came : List ℕ) (given : List MeantEvent) →
       HasGiven role limits old came given → HasGiven role limits new came given
   pub answer : answered new ≡ answered old
-  pub left : readings_left new ≡ readings_left old
+  pub left : events_ahead new ≡ events_ahead old
 
 -- The result is an event: neither a verdict nor a stop.
 abbrev pub IsEvent : {A : Type 0} → Result (Next A) Stop → Type 0
@@ -120,7 +120,7 @@ IsNextEvent role limits new reading came given (Err halted) =
     IsLast role limits new came given (Err halted) × (answered reading ≡ Some (Err halted)) × (held_of reading ≡ 0)
 
 -- A call has read these bytes more, and its result is right for all that came: at most one byte past the limit.
-pub record GoesOn {A : Type 0} (role : Role) (limits : Limits) (old new : Incoming) (reading : EventReader A)
+pub record ReadsNextEvent {A : Type 0} (role : Role) (limits : Limits) (old new : Incoming) (reading : EventReader A)
     (came : List ℕ) (given : List MeantEvent) (result : Result (Next A) Stop) : Type 0 where
   pub more : List ℕ
   pub consumed : IsConsumed old new more

@@ -13,7 +13,7 @@ use Rattle.wsn_events.specs.declared.source.Next.TheVariants as nexts
 use Rattle.wsn_events.specs.declared.turn.Turn.{Turn}
 use Rattle.wsn_events.specs.declared.turn.Turn.TheVariants as turns
 use Rattle.wsn_events.specs.EventsMeant.{meant}
-use Rattle.wsn_events.specs.EventReaders.{HasGiven, answered, readings_left, next_of}
+use Rattle.wsn_events.specs.EventReaders.{HasGiven, answered, events_ahead, next_of}
 use Rattle.wsn_events.specs.Turns.{TakesTurn, GivesEvent, own_turn}
 
 -- Whether it is an event that is left out.
@@ -37,6 +37,6 @@ pub record ReadsTurn {A : Type 0} (without : Without) (old new : Incoming) (befo
       HasGiven role limits before came given
       → TakesTurnWithout without role limits old new reading came given result
   pub not_left_out : IfOk result (λ turn. is_turn_left_out without turn ≡ false)
-  pub falls : GivesEvent result → readings_left reading < readings_left before
+  pub falls : GivesEvent result → events_ahead reading < events_ahead before
   pub again : (answer : Result Verdict Stop) → answered before ≡ Some answer →
       (result ≡ own_turn (next_of answer)) × (reading ≡ before) × (new ≡ old)

@@ -1,5 +1,6 @@
--- A message that an event source lends: one whole frame, whose payload the source's reader holds.
-use Rattle.std.specs.Prelude.{◌≡◌, ℕ, ◌<◌, ◌≤◌, true, Option, None, IfSome, IfNone, List, [], ◌∷◌, ◌++◌, length}
+-- What an event source's reader holds: the normal form of events that it takes at once, or the payload of a message that
+-- it lends, of one whole frame.
+use Rattle.std.specs.Prelude.{◌≡◌, ℕ, ◌<◌, ◌≤◌, true, Option, None, IfSome, IfNone, List, [], ◌∷◌, ◌++◌, length, Result}
 use Rattle.wsn_wire.specs.declared.endpoint.Role.{Role}
 use Rattle.wsn_wire.specs.declared.opcode.Kind.{Kind}
 use Rattle.wsn_wire.specs.Frame.{Frame, stream}
@@ -9,10 +10,33 @@ use Rattle.wsn_rules.specs.Limits.{Limits}
 use Rattle.wsn_rules.specs.Meaning.{MeantEvent, Message, event_at, meaning}
 use Rattle.wsn_rules.specs.ShownStream.{event_offset, event_frames}
 use Rattle.wsn_scan.specs.Positions.{BetweenFrames}
-use Rattle.wsn_scan.specs.Refill.{chunk_size}
+use Rattle.wsn_scan.specs.Judging.{chunk_size}
 use Rattle.wsn_events.specs.declared.event_reader.EventReader.{EventReader}
-use Rattle.wsn_events.specs.EventReaders.{HasGiven, answered, offset_of, frames_of, readings_left}
-use Rattle.wsn_events.specs.TakenEvents.{held_bytes}
+use Rattle.wsn_events.specs.EventReaders.{HasGiven, answered, offset_of, frames_of, events_ahead}
+use Rattle.wsn_io.specs.declared.stop.Stop.{Stop}
+use Rattle.wsn_io.specs.Transfer.{Outgoing}
+use Rattle.wsn_io.specs.Stops.{IsWrittenOrStops}
+use Rattle.wsn_rules.specs.NormalForm.{normal_form}
+use Rattle.wsn_scan.specs.FrameReaders.{held_payload}
+
+-- the bytes that a source holds of what came last
+abbrev pub held_bytes : {A : Type 0} → EventReader A → List ℕ
+held_bytes reading = held_payload reading.reader
+
+-- After the events given the source has given more events, and holds their normal form.
+pub record TakesEventsAfter {A : Type 0} (role : Role) (limits : Limits) (new : EventReader A) (came : List ℕ)
+    (given : List MeantEvent) : Type 0 where
+  pub events : List MeantEvent
+  pub has : HasGiven role limits new came (given ++ events)
+  pub normal_is : held_bytes new ≡ normal_form role events
+
+-- After the events given the source has given more events, or none, and their normal form was written; or the write
+-- failed.
+pub record PutsTaken {A : Type 0} (role : Role) (limits : Limits) (new : EventReader A) (came : List ℕ)
+    (given : List MeantEvent) (before after : Outgoing) (result : Result (Unit {0}) Stop) : Type 0 where
+  pub events : List MeantEvent
+  pub has : HasGiven role limits new came (given ++ events)
+  pub written : IsWrittenOrStops before after (normal_form role events) result
 
 -- the message of this kind whose payload is the bytes that a source holds
 abbrev pub lent_message : {A : Type 0} → EventReader A → Kind → MeantEvent
@@ -46,4 +70,4 @@ pub record MayLend {A : Type 0} (before reading : EventReader A) (lent : Option 
       HasGiven role limits before came given → LendsMessage role limits reading came given kind)
   pub going : IfSome lent (λ _. answered before ≡ None)
   pub none : IfNone lent (reading ≡ before)
-  pub falls : IfSome lent (λ _. readings_left reading < readings_left before)
+  pub falls : IfSome lent (λ _. events_ahead reading < events_ahead before)

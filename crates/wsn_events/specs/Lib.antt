@@ -3,7 +3,6 @@ pub mod EventsMeant
 pub mod Reassembly
 pub mod Sources
 pub mod EventReaders
-pub mod TakenEvents
 pub mod LentMessages
 pub mod Turns
 pub mod LeavingOut
@@ -12,4 +11,3 @@ pub mod PayloadExcerpts
 pub mod Excerpts
 pub mod Normalised
 -- for the clauses in src/
-pub mod Words

@@ -20,7 +20,11 @@ pub struct EventReader<A: Allocator> {
 
 impl<A: Allocator + Copy> EventReader<A> {
     ghost use Rattle.std.specs.Prelude.{◌≡◌, ℕ, ◌<◌, ◌≤◌, List, [], None, Some, true, false, IfSome, IfNone};
-    ghost use Rattle.wsn_events.specs.Words.{Role, MeantEvent, HasGiven, IsAsBefore, IsAtWork, GoesOn, IsNextEvent, IsEvent, TakesTurn, GivesEvent, answered, held_of, offset_of, frames_of, readings_left, TakesEventsAfter, held_bytes, LendsMessage};
+    ghost use Rattle.wsn_wire.specs.declared.endpoint.Role.{Role};
+    ghost use Rattle.wsn_rules.specs.Meaning.{MeantEvent};
+    ghost use Rattle.wsn_events.specs.EventReaders.{HasGiven, IsAsBefore, IsAtWork, ReadsNextEvent, IsNextEvent, IsEvent, answered, held_of, offset_of, frames_of, events_ahead};
+    ghost use Rattle.wsn_events.specs.Turns.{TakesTurn, GivesEvent};
+    ghost use Rattle.wsn_events.specs.LentMessages.{TakesEventsAfter, held_bytes, LendsMessage};
 
     /// A source that has read nothing.
     #[tactic(none)]
@@ -70,8 +74,8 @@ impl<A: Allocator + Copy> EventReader<A> {
         requires readable { input.old.failed ≡ false }
         ensures next { (role : Role) (limits : _) (came : List ℕ) (given : List MeantEvent) →
             HasGiven role limits self.old came given →
-            GoesOn role limits input.old input.new self.new came given result }
-        ensures falls { IsEvent result → readings_left self.new < readings_left self.old }
+            ReadsNextEvent role limits input.old input.new self.new came given result }
+        ensures falls { IsEvent result → events_ahead self.new < events_ahead self.old }
         ensures sound { answered self.new ≡ None → IsEvent result }
     {
         match self.next_turn(input)? {
@@ -89,7 +93,7 @@ impl<A: Allocator + Copy> EventReader<A> {
         ensures next { (role : Role) (limits : _) (came : List ℕ) (given : List MeantEvent) →
             HasGiven role limits self.old came given →
             TakesTurn role limits input.old input.new self.new came given result }
-        ensures falls { GivesEvent result → readings_left self.new < readings_left self.old }
+        ensures falls { GivesEvent result → events_ahead self.new < events_ahead self.old }
         ensures sound { answered self.new ≡ None → GivesEvent result }
     {
         let mut part = Part::new();
@@ -129,7 +133,7 @@ impl<A: Allocator + Copy> EventReader<A> {
         ensures taken { IfSome result (λ kind. (role : Role) (limits : _) (came : List ℕ) (given : List MeantEvent) →
             HasGiven role limits self.old came given → LendsMessage role limits self.new came given kind) }
         ensures none { IfNone result (self.new ≡ self.old) }
-        ensures falls { IfSome result (λ _. readings_left self.new < readings_left self.old) }
+        ensures falls { IfSome result (λ _. events_ahead self.new < events_ahead self.old) }
     {
         let (kind, place) = self.reader.next_message()?;
         self.reassembly.pass_over(kind, place);
@@ -144,7 +148,7 @@ impl<A: Allocator + Copy> EventReader<A> {
             LendsMessage role limits self.old came given kind → input.failed ≡ false →
             IsNextEvent role limits input self.new came given result }
         ensures sound { answered self.new ≡ None → IsEvent result }
-        ensures left { readings_left self.new ≡ readings_left self.old }
+        ensures left { events_ahead self.new ≡ events_ahead self.old }
     {
         let Some(text) = self.reassembly.copy(self.reader.payload()) else {
             self.finish(Err(Stop::Memory));
@@ -160,7 +164,7 @@ impl<A: Allocator + Copy> EventReader<A> {
         ensures taken { result ≡ true → (role : Role) (limits : _) (came : List ℕ) (given : List MeantEvent) →
             HasGiven role limits self.old came given → TakesEventsAfter role limits self.new came given }
         ensures none { result ≡ false → self.new ≡ self.old }
-        ensures left { readings_left self.new ≤ readings_left self.old }
+        ensures left { events_ahead self.new ≤ events_ahead self.old }
     {
         self.reader.take_events()
     }
@@ -185,7 +189,7 @@ impl<A: Allocator + Copy> EventReader<A> {
     fn finish(&mut self, answer: Result<Verdict, Stop>)
         ensures answer { answered self.new ≡ Some answer }
         ensures held { held_of self.new ≡ 0 }
-        ensures left { readings_left self.new ≡ readings_left self.old }
+        ensures left { events_ahead self.new ≡ events_ahead self.old }
     {
         self.reassembly.release();
         self.answer = Some(answer);

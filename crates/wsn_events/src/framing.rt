@@ -1,5 +1,6 @@
 ghost use Rattle.std.specs.Prelude.{◌≡◌, ℕ, ◌<◌, ◌≤◌, ◌^◌, List, true, false, length};
-ghost use Rattle.wsn_events.specs.Words.{FormFits, frame_bytes, is_control, wire_payload, IsWrittenOrStops};
+ghost use Rattle.wsn_wire.specs.Frame.{FormFits, frame_bytes, is_control, wire_payload};
+ghost use Rattle.wsn_io.specs.Stops.{IsWrittenOrStops};
 
 use std::io::Write;
 use wsn_scan::Stop;

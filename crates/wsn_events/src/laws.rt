@@ -4,7 +4,18 @@ ghost use Rattle.std.specs.Prelude.{◌≡◌, ◌≢◌, ℕ, List, ◌≤◌, 
 ghost use Rattle.wsn_rules.specs.declared.without.Without.{Without};
 ghost use Rattle.wsn_rules.specs.declared.compared.Compared.TheVariants.{Equal};
 ghost use Rattle.wsn_rules.specs.LeftOut.{events_without};
-ghost use Rattle.wsn_events.specs.Words.{Role, Limits, InRange, MeantEvent, Compared, DifferAt, IsComparisonOf, IsComparisonOfBy, Outgoing, IsWritten, Summary, Verdict, Accepted, Stop, IsNormalisedWhole, HasNoFailure};
+ghost use Rattle.wsn_wire.specs.declared.endpoint.Role.{Role};
+ghost use Rattle.wsn_rules.specs.Limits.{Limits, InRange};
+ghost use Rattle.wsn_rules.specs.Meaning.{MeantEvent};
+ghost use Rattle.wsn_rules.specs.declared.compared.Compared.{Compared};
+ghost use Rattle.wsn_events.specs.Comparing.{DifferAt, IsComparisonOf, IsComparisonOfBy};
+ghost use Rattle.wsn_io.specs.Transfer.{Outgoing, IsWritten};
+ghost use Rattle.wsn_rules.specs.declared.verdict.Summary.{Summary};
+ghost use Rattle.wsn_rules.specs.declared.verdict.Verdict.{Verdict};
+ghost use Rattle.wsn_rules.specs.declared.verdict.Verdict.TheVariants.{Accepted};
+ghost use Rattle.wsn_io.specs.declared.stop.Stop.{Stop};
+ghost use Rattle.wsn_events.specs.Normalised.{IsNormalisedWhole};
+ghost use Rattle.wsn_io.specs.Stops.{HasNoFailure};
 
 pub use wsn_rules::laws::{
     law_canon, law_meaning_is_lawful, law_once, law_stays_refused, law_unique,

@@ -1,7 +1,10 @@
 ghost use Rattle.std.specs.Prelude.{◌≡◌, ℕ, ◌<◌, None, Some, IfOk, IfSome, IfNone, Ok, List, MatchOption, Result, true, false};
 ghost use Rattle.wsn_rules.specs.Meaning.{MeantEvent};
-ghost use Rattle.wsn_events.specs.Words.{Role, Verdict, Stop, HasGiven, GivesEvent, answered, readings_left, next_of, own_turn};
-ghost use Rattle.wsn_events.specs.EventReaders.{HasBegunOrEnded};
+ghost use Rattle.wsn_wire.specs.declared.endpoint.Role.{Role};
+ghost use Rattle.wsn_rules.specs.declared.verdict.Verdict.{Verdict};
+ghost use Rattle.wsn_io.specs.declared.stop.Stop.{Stop};
+ghost use Rattle.wsn_events.specs.EventReaders.{HasGiven, answered, events_ahead, next_of, HasBegunOrEnded};
+ghost use Rattle.wsn_events.specs.Turns.{GivesEvent, own_turn};
 ghost use Rattle.wsn_events.specs.LeavingOut.{is_turn_left_out, ReadsTurn, TakesTurnWithout};
 
 use crate::event::Event;
@@ -27,7 +30,7 @@ pub fn turn_without<A: Allocator + Copy, R: Read>(
         HasGiven role limits source.old came given →
         TakesTurnWithout without role limits input.old input.new source.new came given result }
     ensures not_left_out { IfOk result (λ turn. is_turn_left_out without turn ≡ false) }
-    ensures falls { GivesEvent result → readings_left source.new < readings_left source.old }
+    ensures falls { GivesEvent result → events_ahead source.new < events_ahead source.old }
     ensures again { (answer : Result Verdict Stop) → answered source.old ≡ Some answer →
         (result ≡ own_turn (next_of answer)) × (source.new ≡ source.old) × (input.new ≡ input.old) }
 {

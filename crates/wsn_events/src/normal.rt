@@ -1,8 +1,8 @@
 ghost use Rattle.std.specs.Prelude.{◌≡◌, ◌≤◌, false, ℕ, List, None, Some};
 ghost use Rattle.wsn_wire.specs.declared.endpoint.Role.{Role};
 ghost use Rattle.wsn_rules.specs.Meaning.{MeantEvent};
-ghost use Rattle.wsn_events.specs.EventReaders.{HasGiven, answered, readings_left};
-ghost use Rattle.wsn_events.specs.TakenEvents.{PutsTaken};
+ghost use Rattle.wsn_events.specs.EventReaders.{HasGiven, answered, events_ahead};
+ghost use Rattle.wsn_events.specs.LentMessages.{PutsTaken};
 ghost use Rattle.wsn_events.specs.Normalised.{IsNormalised, IsNormalisedWhole};
 
 use crate::putting::put_event;
@@ -57,7 +57,7 @@ fn put_taken<A: Allocator + Copy, W: Write>(
     ensures put { (role : Role) (limits : _) (came : List ℕ) (given : List MeantEvent) →
         HasGiven role limits source.old came given →
         PutsTaken role limits source.new came given output.old output.new result }
-    ensures left { readings_left source.new ≤ readings_left source.old }
+    ensures left { events_ahead source.new ≤ events_ahead source.old }
 {
     if !source.take_events() {
         return Ok(());

@@ -1,7 +1,6 @@
 ghost use Rattle.std.specs.Prelude.{◌≡◌};
-ghost use Rattle.wsn_rules.specs.Meaning.{Control};
+ghost use Rattle.wsn_rules.specs.Meaning.{Control, payload_in};
 ghost use Rattle.wsn_print.specs.DifferingPayloads.{is_text};
-ghost use Rattle.wsn_print.specs.ShownParts.{payload_in};
 ghost use Rattle.wsn_events.specs.EventsMeant.{meant};
 ghost use Rattle.wsn_events.specs.PayloadExcerpts.{meant_payload, meant_payloads, event_given};
 ghost use Rattle.wsn_events.specs.Turns.{IsLawfulTurn, meant_turn};

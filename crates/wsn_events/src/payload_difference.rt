@@ -1,9 +1,8 @@
 ghost use Rattle.std.specs.Prelude.{◌≡◌, ℕ, ◌-◌, ◌+◌, ◌≤◌, length, Option, IfSome};
 ghost use Rattle.wsn_rules.specs.LawfulEvents.{IsLawfulEvent};
-ghost use Rattle.wsn_rules.specs.Meaning.{MeantEvent};
+ghost use Rattle.wsn_rules.specs.Meaning.{MeantEvent, payload_in};
 ghost use Rattle.wsn_rules.specs.ShownStream.{Item};
 ghost use Rattle.wsn_print.specs.DifferingPayloads.{place_between, view_start, event_in, IsPartOf, StandsForPlace, StandsForPayloads};
-ghost use Rattle.wsn_print.specs.ShownParts.{payload_in};
 ghost use Rattle.wsn_events.specs.PayloadExcerpts.{meant_payload, meant_payloads, IsLawfulIfAny, IsPartKept, ArePartsKept, ArePayloadsKept};
 
 use crate::equal_bytes::common_length;

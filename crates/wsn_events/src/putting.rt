@@ -1,5 +1,11 @@
 ghost use Rattle.std.specs.Prelude.{◌≡◌, ℕ, ◌<◌, ◌≤◌, ◌^◌, List, false, length};
-ghost use Rattle.wsn_events.specs.Words.{Op, frame_bytes, is_control, Message, Control, IsLawfulEvent, meant, close_body, normal_frame, normal_key, op_of, IsWrittenOrStops};
+ghost use Rattle.wsn_wire.specs.declared.opcode.Op.{Op};
+ghost use Rattle.wsn_wire.specs.Frame.{frame_bytes, is_control};
+ghost use Rattle.wsn_rules.specs.Meaning.{Message, Control};
+ghost use Rattle.wsn_rules.specs.LawfulEvents.{IsLawfulEvent};
+ghost use Rattle.wsn_events.specs.EventsMeant.{meant, close_body};
+ghost use Rattle.wsn_rules.specs.NormalForm.{normal_frame, normal_key, op_of};
+ghost use Rattle.wsn_io.specs.Stops.{IsWrittenOrStops};
 
 use crate::event::{Event, Small};
 use crate::framing::put_frame;

@@ -24,8 +24,13 @@ impl<A: Allocator + Copy> Reassembly<A> {
     ghost use Rattle.std.specs.Prelude.{◌≡◌, ◌≢◌, ℕ, ◌+◌, ◌<◌, ◌^◌, List, [], ◌∷◌, ◌++◌, true, false, length, IfSome, IfNone};
     ghost use Rattle.wsn_rules.specs.Group.{unfinished};
     ghost use Rattle.wsn_rules.specs.NormalForm.{op_of};
-    ghost use Rattle.wsn_wire.specs.Frame.{stream};
-    ghost use Rattle.wsn_events.specs.Words.{Role, Frame, is_control, IsLawful, IsLawfulControl, Position, IsPartAt, IsReassembled, IsBetweenFrames, IsInFrame, IsEventOf, offset_given, frames_given, IsPlacedAt};
+    ghost use Rattle.wsn_wire.specs.Frame.{stream, Frame, is_control};
+    ghost use Rattle.wsn_wire.specs.declared.endpoint.Role.{Role};
+    ghost use Rattle.wsn_rules.specs.Lawful.{IsLawful};
+    ghost use Rattle.wsn_rules.specs.LawfulEvents.{IsLawfulControl};
+    ghost use Rattle.wsn_scan.specs.Positions.{Position};
+    ghost use Rattle.wsn_scan.specs.Parts.{IsPartAt};
+    ghost use Rattle.wsn_events.specs.Reassembly.{IsReassembled, IsBetweenFrames, IsInFrame, IsEventOf, offset_given, frames_given, IsPlacedAt};
 
     /// Nothing has come yet.
     pub fn new(alloc: A) -> Self

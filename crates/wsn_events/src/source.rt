@@ -37,7 +37,13 @@ impl<A: Allocator> Model for Source<A> {
 }
 
 impl<A: Allocator + Copy> Source<A> {
-    ghost use Rattle.wsn_events.specs.Words.{Role, MeantEvent, Verdict, Stop, HasGiven, IsAsBefore, GoesOn, IsEvent, answered, held_of, offset_of, frames_of, readings_left, next_of, TakesEventsAfter, held_bytes, TakesTurn, GivesEvent, MayLend, own_turn};
+    ghost use Rattle.wsn_wire.specs.declared.endpoint.Role.{Role};
+    ghost use Rattle.wsn_rules.specs.Meaning.{MeantEvent};
+    ghost use Rattle.wsn_rules.specs.declared.verdict.Verdict.{Verdict};
+    ghost use Rattle.wsn_io.specs.declared.stop.Stop.{Stop};
+    ghost use Rattle.wsn_events.specs.EventReaders.{HasGiven, IsAsBefore, ReadsNextEvent, IsEvent, answered, held_of, offset_of, frames_of, events_ahead, next_of};
+    ghost use Rattle.wsn_events.specs.LentMessages.{TakesEventsAfter, held_bytes, MayLend};
+    ghost use Rattle.wsn_events.specs.Turns.{TakesTurn, GivesEvent, own_turn};
 
     /// A source that has read nothing. `role` is the endpoint that sent the stream. It allocates no memory.
     pub fn new(alloc: A, role: Role, limits: Limits) -> Self
@@ -80,8 +86,8 @@ impl<A: Allocator + Copy> Source<A> {
         requires readable { answered self.old ≡ None → input.old.failed ≡ false }
         ensures next { (role : Role) (limits : _) (came : List ℕ) (given : List MeantEvent) →
             HasGiven role limits self.old came given →
-            GoesOn role limits input.old input.new self.new came given result }
-        ensures falls { IsEvent result → readings_left self.new < readings_left self.old }
+            ReadsNextEvent role limits input.old input.new self.new came given result }
+        ensures falls { IsEvent result → events_ahead self.new < events_ahead self.old }
         ensures again { (answer : Result Verdict Stop) → answered self.old ≡ Some answer →
             (result ≡ next_of answer) × (self.new ≡ self.old) × (input.new ≡ input.old) }
         ensures sound { answered self.new ≡ None → IsEvent result }
@@ -103,7 +109,7 @@ impl<A: Allocator + Copy> Source<A> {
         ensures next { (role : Role) (limits : _) (came : List ℕ) (given : List MeantEvent) →
             HasGiven role limits self.old came given →
             TakesTurn role limits input.old input.new self.new came given result }
-        ensures falls { GivesEvent result → readings_left self.new < readings_left self.old }
+        ensures falls { GivesEvent result → events_ahead self.new < events_ahead self.old }
         ensures again { (answer : Result Verdict Stop) → answered self.old ≡ Some answer →
             (result ≡ own_turn (next_of answer)) × (self.new ≡ self.old) × (input.new ≡ input.old) }
         ensures sound { answered self.new ≡ None → GivesEvent result }
@@ -136,7 +142,7 @@ impl<A: Allocator + Copy> Source<A> {
         ensures taken { result ≡ true → (role : Role) (limits : _) (came : List ℕ) (given : List MeantEvent) →
             HasGiven role limits self.old came given → TakesEventsAfter role limits self.new came given }
         ensures none { result ≡ false → self.new ≡ self.old }
-        ensures left { readings_left self.new ≤ readings_left self.old }
+        ensures left { events_ahead self.new ≤ events_ahead self.old }
     {
         self.reading.take_events()
     }

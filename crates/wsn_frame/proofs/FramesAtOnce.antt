@@ -1,4 +1,4 @@
--- A frame that is read at once, from one piece.
+-- A frame that is read at once, from one chunk.
 use Rattle.std.proofs.Common.{◌≡◌, ℕ, ◌+◌, ◌-◌, ◌<◌, ◌≤◌, Option, Ok, List, [], ◌++◌, length, take, drop, sym, ap, ◌∙◌, subst, arith}
 use Rattle.std.proofs.lemmas.Slice.{between-put_mid}
 use Rattle.std.proofs.Math.Seq.{take-add}
@@ -14,39 +14,39 @@ use Rattle.wsn_frame.specs.Payloads.{unmasked_by, HoldsPayload}
 use Rattle.wsn_frame.proofs.PayloadBytes.{starts, unmasked_by-nil}
 use Rattle.wsn_frame.proofs.PayloadMore.{length-unmasked_by, unmasked_by-twice, holds_on}
 
--- The payload in a piece, from `start` to `end`, unmasked in place.
-module _ (key : Option (List ℕ)) (start end : ℕ) (piece new : List ℕ) (ordered : start ≤ end) (within : end ≤ length piece) (unmasked : new ≡ unmasked_by key 0 (mid_of start (end - start) piece)) where
+-- The payload in a chunk, from `start` to `end`, unmasked in place.
+module _ (key : Option (List ℕ)) (start end : ℕ) (chunk new : List ℕ) (ordered : start ≤ end) (within : end ≤ length chunk) (unmasked : new ≡ unmasked_by key 0 (mid_of start (end - start) chunk)) where
   abbrev wire : List ℕ
-  wire = mid_of start (end - start) piece
+  wire = mid_of start (end - start) chunk
 
   abbrev after : List ℕ
-  after = put_mid start (end - start) piece new
+  after = put_mid start (end - start) chunk new
 
   size_new : length new ≡ end - start
-  size_new = ap (λ (bs : List ℕ). length bs) unmasked ∙ length-unmasked_by key 0 wire ∙ mid_len start end piece within
+  size_new = ap (λ (bs : List ℕ). length bs) unmasked ∙ length-unmasked_by key 0 wire ∙ mid_len start end chunk within
 
-  pub kept_after_frame : drop end after ≡ drop end piece
-  kept_after_frame = drop_put start end piece new ordered within size_new
+  pub kept_after_frame : drop end after ≡ drop end chunk
+  kept_after_frame = drop_put start end chunk new ordered within size_new
 
   pub payload_after : mid_of start (end - start) after ≡ unmasked_by key 0 wire
-  payload_after = between-put_mid start (end - start) piece new end (omega arith) size_new ∙ unmasked
+  payload_after = between-put_mid start (end - start) chunk new end (omega arith) size_new ∙ unmasked
 
-  -- Masked again, the piece is unchanged.
-  pub masked_back : (again : List ℕ) → again ≡ unmasked_by key 0 (mid_of start (end - start) after) → put_mid start (end - start) after again ≡ piece
+  -- Masked again, the chunk is unchanged.
+  pub masked_back : (again : List ℕ) → again ≡ unmasked_by key 0 (mid_of start (end - start) after) → put_mid start (end - start) after again ≡ chunk
   masked_back again is =
       let old : again ≡ wire = is ∙ ap (λ (bs : List ℕ). unmasked_by key 0 bs) payload_after ∙ unmasked_by-twice key 0 wire in
-      let front : take start after ≡ take start piece = take_put start (end - start) piece new (omega arith) in
-      let following : post_of start (end - start) after ≡ post_of start (end - start) piece = Post-is start end after ordered ∙ kept_after_frame ∙ sym (Post-is start end piece ordered) in
+      let front : take start after ≡ take start chunk = take_put start (end - start) chunk new (omega arith) in
+      let following : post_of start (end - start) after ≡ post_of start (end - start) chunk = Post-is start end after ordered ∙ kept_after_frame ∙ sym (Post-is start end chunk ordered) in
       ap (λ (bs : List ℕ). bs ++ (again ++ post_of start (end - start) after)) front
-      ∙ ap (λ (bs : List ℕ). take start piece ++ (bs ++ post_of start (end - start) after)) old
-      ∙ ap (λ (bs : List ℕ). take start piece ++ (wire ++ bs)) following
-      ∙ put_same start (end - start) piece
+      ∙ ap (λ (bs : List ℕ). take start chunk ++ (bs ++ post_of start (end - start) after)) old
+      ∙ ap (λ (bs : List ℕ). take start chunk ++ (wire ++ bs)) following
+      ∙ put_same start (end - start) chunk
 
 -- A head and the payload after it.
-pub head_and_payload : (start end : ℕ) (piece : List ℕ) → start ≤ end → take end piece ≡ take start piece ++ mid_of start (end - start) piece
-head_and_payload start end piece ordered =
+pub head_and_payload : (start end : ℕ) (chunk : List ℕ) → start ≤ end → take end chunk ≡ take start chunk ++ mid_of start (end - start) chunk
+head_and_payload start end chunk ordered =
     let sum : end ≡ start + (end - start) = omega arith in
-    ap (λ (n : ℕ). take n piece) sum ∙ take-add start (end - start) piece
+    ap (λ (n : ℕ). take n chunk) sum ∙ take-add start (end - start) chunk
 
 -- All of the payload was checked and is evidence for no refusal.
 pub holds_at_once : (role : Role) (limits : Limits) (group : List Frame) (head : Head) (check next : PayloadCheck) (head_bytes wire rest : List ℕ) → rest ≡ head_bytes ++ wire → IsBytes wire

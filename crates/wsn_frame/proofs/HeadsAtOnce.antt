@@ -25,8 +25,7 @@ use Rattle.wsn_frame.specs.declared.open_message.OpenMessage.{OpenMessage}
 use Rattle.wsn_frame.specs.declared.parsing.Parsed.{Parsed}
 use Rattle.wsn_frame.specs.declared.parsing.Parsed.TheVariants.{Whole}
 use Rattle.wsn_frame.specs.OpenMessages.{IsOpenMessage}
-use Rattle.wsn_frame.specs.EvidentLast.{IsEvidentLast}
-use Rattle.wsn_frame.specs.PartialHeads.{IsShort, IsHeadSoFar, IsHead, IsHeadPrefix, IsParsed, IsWithin, HasTwoBytes, IsLengthRead}
+use Rattle.wsn_frame.specs.PartialHeads.{IsEvidentLast, IsShort, IsHeadSoFar, IsHead, IsHeadPrefix, IsParsed, IsWithin, HasTwoBytes, IsLengthRead}
 use Rattle.wsn_rules.proofs.Prefixes.{head_same, tail_same, nil-parts, same_front}
 use Rattle.wsn_rules.proofs.HeadEvidence.{second_number, encoding_number, length_number, payload_number, length_row, encoding_row, no_evidence, first_evidence, after_first, unmasked-nil}
 use Rattle.wsn_rules.proofs.PlanTheory.MessageFrames.{bytes_take}
@@ -86,9 +85,9 @@ read_as own lengths f following count read result same count_is is was =
     subst (λ (ls : Lengths). IsLengthRead ls f (take count following) result) same of_count
 
 -- What is parsed of bytes that begin with a complete head.
-pub head_prefix : (role : Role) (limits : Limits) (message : Option OpenMessage) (bytes piece : List ℕ) (n : ℕ) (parsed : Parsed) (size : ℕ) (head : Head) → bytes ≡ piece → n ≡ length piece → IsWithin n parsed
-    → ((group : List Frame) → IsOpenMessage message group → IsParsed role limits group bytes parsed) → parsed ≡ Whole size head → IsHeadPrefix role limits message piece size head
-head_prefix role limits message bytes piece n parsed size head same count within each is =
+pub head_prefix : (role : Role) (limits : Limits) (message : Option OpenMessage) (bytes chunk : List ℕ) (n : ℕ) (parsed : Parsed) (size : ℕ) (head : Head) → bytes ≡ chunk → n ≡ length chunk → IsWithin n parsed
+    → ((group : List Frame) → IsOpenMessage message group → IsParsed role limits group bytes parsed) → parsed ≡ Whole size head → IsHeadPrefix role limits message chunk size head
+head_prefix role limits message bytes chunk n parsed size head same count within each is =
     let inside = subst (λ (p : Parsed). IsWithin n p) is within in (
       inside.0,
       omega (arith, inside.1, count),

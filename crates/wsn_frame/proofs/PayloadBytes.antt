@@ -1,4 +1,4 @@
--- The evidence in a head and part of its payload, and in one more piece of payload.
+-- The evidence in a head and part of its payload, and in one more chunk of payload.
 use Rattle.std.proofs.Common.{◌≡◌, ℕ, ◌+◌, ◌<◌, ◌≤◌, ◌⊎◌, Bool, cond, Option, None, Some, is_some, List, [], ◌∷◌, ◌++◌, length, inl, inr, refl, sym, ap, ◌∙◌, subst, arith, append_assoc, append-nil}
 use Rattle.std.proofs.lemmas.Bool.{cases_eq}
 use Rattle.wsn_wire.specs.declared.endpoint.Role.{Role}
@@ -16,8 +16,7 @@ use Rattle.wsn_rules.specs.Limits.{Limits}
 use Rattle.wsn_rules.specs.Group.{payload_of}
 use Rattle.wsn_rules.specs.Evidence.{IsOfText, EvidentByPayload, unmasked, Evidence}
 use Rattle.wsn_rules.specs.Evidence.Evidence.{ByPayload}
-use Rattle.wsn_frame.specs.EvidentLast.{IsEvidentLast}
-use Rattle.wsn_frame.specs.PartialHeads.{IsHead}
+use Rattle.wsn_frame.specs.PartialHeads.{IsEvidentLast, IsHead}
 use Rattle.wsn_frame.specs.PayloadChecks.{HasChecked}
 use Rattle.wsn_frame.specs.Payloads.{unmasked_by, HoldsPayload}
 use Rattle.wsn_rules.proofs.MessageText.{begins_not_bad}

@@ -1,4 +1,4 @@
--- A payload that continues in a piece.
+-- A payload that continues in a chunk.
 use Rattle.std.proofs.Common.{rules, ◌≡◌, ◌↔◌, nat_eq, true, ◌≢◌, ℕ, ◌+◌, ◌-◌, ◌<◌, ◌≤◌, Option, None, Some, Ok, Err, Result, List, [], ◌∷◌, ◌++◌, length, take, drop, inl, inr, refl, sym, ap, ◌∙◌, subst, arith, append_assoc, append-nil, length-append, take-append-drop}
 use Rattle.std.proofs.lemmas.List.{length-take-le}
 use Rattle.std.proofs.Math.Seq.{take-append_seam, drop-append_seam, take-length}
@@ -12,7 +12,7 @@ use Rattle.wsn_frame.specs.declared.payload_check.BadByte.{BadByte}
 use Rattle.wsn_frame.specs.declared.payload_check.PayloadCheck.{PayloadCheck}
 use Rattle.wsn_rules.specs.Limits.{Limits}
 use Rattle.wsn_rules.specs.Evidence.{EvidentByPayload, Evidence}
-use Rattle.wsn_frame.specs.EvidentLast.{IsEvidentLast}
+use Rattle.wsn_frame.specs.PartialHeads.{IsEvidentLast}
 use Rattle.wsn_frame.specs.PayloadChecks.{HasChecked, IsQuiet, IsChecked}
 use Rattle.wsn_frame.specs.Payloads.{unmasked_by, HoldsPayload}
 use Rattle.wsn_rules.proofs.Prefixes.{two_fronts}
@@ -56,7 +56,7 @@ module _ (role : Role) (limits : Limits) (group : List Frame) (head : Head) (che
   abbrev first : ℕ
   first = first_byte head.first.fin head.first.op
 
-  -- The payload before this piece, and the piece's part of it.
+  -- The payload before this chunk, and the chunk's part of it.
   abbrev before : List ℕ
   before = unmasked_by head.key 0 wire
 
@@ -133,7 +133,7 @@ module _ (role : Role) (limits : Limits) (group : List Frame) (head : Head) (che
       following [] some = absurd (some refl)
       following (x ∷ xs) some = omega arith
 
--- ---- the piece in place
+-- ---- the chunk in place
 
 take_at : (n : ℕ) (xs ys : List ℕ) → length xs ≡ n → take n (xs ++ ys) ≡ xs
 take_at n xs ys is = subst (λ (m : ℕ). take m (xs ++ ys) ≡ xs) is (take-append_seam xs ys)
@@ -141,34 +141,34 @@ take_at n xs ys is = subst (λ (m : ℕ). take m (xs ++ ys) ≡ xs) is (take-app
 drop_at : (n : ℕ) (xs ys : List ℕ) → length xs ≡ n → drop n (xs ++ ys) ≡ ys
 drop_at n xs ys is = subst (λ (m : ℕ). drop m (xs ++ ys) ≡ ys) is (drop-append_seam xs ys)
 
--- The first `count` bytes of a piece, unmasked in place.
-module _ (key : Option (List ℕ)) (start count : ℕ) (piece new : List ℕ) (within : count ≤ length piece) (unmasked : new ≡ unmasked_by key start (take count piece)) where
+-- The first `count` bytes of a chunk, unmasked in place.
+module _ (key : Option (List ℕ)) (start count : ℕ) (chunk new : List ℕ) (within : count ≤ length chunk) (unmasked : new ≡ unmasked_by key start (take count chunk)) where
   size_new : length new ≡ count
-  size_new = ap (λ (bs : List ℕ). length bs) unmasked ∙ length-unmasked_by key start (take count piece) ∙ length-take-le count piece within
+  size_new = ap (λ (bs : List ℕ). length bs) unmasked ∙ length-unmasked_by key start (take count chunk) ∙ length-take-le count chunk within
 
-  pub front_unmasked : take count (new ++ drop count piece) ≡ unmasked_by key start (take count piece)
-  front_unmasked = take_at count new (drop count piece) size_new ∙ unmasked
+  pub front_unmasked : take count (new ++ drop count chunk) ≡ unmasked_by key start (take count chunk)
+  front_unmasked = take_at count new (drop count chunk) size_new ∙ unmasked
 
   -- The payload before, and those bytes.
-  pub payload_on : (wire payload : List ℕ) → start ≡ length wire → payload ≡ unmasked_by key 0 wire → payload ++ take count (new ++ drop count piece) ≡ unmasked_by key 0 (wire ++ take count piece)
+  pub payload_on : (wire payload : List ℕ) → start ≡ length wire → payload ≡ unmasked_by key 0 wire → payload ++ take count (new ++ drop count chunk) ≡ unmasked_by key 0 (wire ++ take count chunk)
   payload_on wire payload at is =
-      ap (λ (bs : List ℕ). bs ++ take count (new ++ drop count piece)) is ∙ ap (λ (bs : List ℕ). unmasked_by key 0 wire ++ bs) (front_unmasked ∙ ap (λ (n : ℕ). unmasked_by key n (take count piece)) at)
-      ∙ sym (unmasked_by-joined key wire (take count piece))
+      ap (λ (bs : List ℕ). bs ++ take count (new ++ drop count chunk)) is ∙ ap (λ (bs : List ℕ). unmasked_by key 0 wire ++ bs) (front_unmasked ∙ ap (λ (n : ℕ). unmasked_by key n (take count chunk)) at)
+      ∙ sym (unmasked_by-joined key wire (take count chunk))
 
   -- Masked again from some byte on, the bytes after it are unchanged.
-  pub masked_again : (taken : ℕ) (again : List ℕ) → taken ≤ count → again ≡ unmasked_by key (start + taken) (take (count - taken) (drop taken (new ++ drop count piece)))
-      → drop taken (take taken (new ++ drop count piece) ++ (again ++ drop (count - taken) (drop taken (new ++ drop count piece)))) ≡ drop taken piece
+  pub masked_again : (taken : ℕ) (again : List ℕ) → taken ≤ count → again ≡ unmasked_by key (start + taken) (take (count - taken) (drop taken (new ++ drop count chunk)))
+      → drop taken (take taken (new ++ drop count chunk) ++ (again ++ drop (count - taken) (drop taken (new ++ drop count chunk)))) ≡ drop taken chunk
   masked_again taken again small is =
-      let w = take count piece in
-      let r = drop count piece in
+      let w = take count chunk in
+      let r = drop count chunk in
       let front = take taken w in
       let following = drop taken w in
       let P = unmasked_by key start front in
       let Q = unmasked_by key (start + taken) following in
-      let size_front : length front ≡ taken = length-take-le taken w (omega (arith, small, length-take-le count piece within)) in
+      let size_front : length front ≡ taken = length-take-le taken w (omega (arith, small, length-take-le count chunk within)) in
       let size_P : length P ≡ taken = length-unmasked_by key start front ∙ size_front in
       let split_w : w ≡ front ++ following = sym (take-append-drop taken w) in
-      let size_after : length following ≡ count - taken = let both : length w ≡ length front + length following = ap (λ (bs : List ℕ). length bs) split_w ∙ length-append front following in omega (arith, both, size_front, length-take-le count piece within) in
+      let size_after : length following ≡ count - taken = let both : length w ≡ length front + length following = ap (λ (bs : List ℕ). length bs) split_w ∙ length-append front following in omega (arith, both, size_front, length-take-le count chunk within) in
       let size_Q : length Q ≡ count - taken = length-unmasked_by key (start + taken) following ∙ size_after in
       let parts : new ≡ P ++ Q =
       unmasked ∙ ap (λ (bs : List ℕ). unmasked_by key start bs) split_w ∙ unmasked_by-append key start front following ∙ ap (λ (n : ℕ). P ++ unmasked_by key (start + n) following) size_front in
@@ -178,12 +178,12 @@ module _ (key : Option (List ℕ)) (start count : ℕ) (piece new : List ℕ) (w
       let old : again ≡ following = is ∙ ap (λ (bs : List ℕ). unmasked_by key (start + taken) bs) middle ∙ unmasked_by-twice key (start + taken) following in
       let last : drop (count - taken) (drop taken (new ++ r)) ≡ r = ap (λ (bs : List ℕ). drop (count - taken) bs) left ∙ drop_at (count - taken) Q r size_Q in
       let has_scanned : length (take taken (new ++ r)) ≡ taken = ap (λ (bs : List ℕ). length (take taken bs)) whole ∙ ap (λ (bs : List ℕ). length bs) (take_at taken P (Q ++ r) size_P) ∙ size_P in
-      let after_it : drop taken piece ≡ following ++ r =
-      ap (λ (bs : List ℕ). drop taken bs) (sym (take-append-drop count piece) ∙ ap (λ (bs : List ℕ). bs ++ r) split_w ∙ append_assoc front following r) ∙ drop_at taken front (following ++ r) size_front in
+      let after_it : drop taken chunk ≡ following ++ r =
+      ap (λ (bs : List ℕ). drop taken bs) (sym (take-append-drop count chunk) ∙ ap (λ (bs : List ℕ). bs ++ r) split_w ∙ append_assoc front following r) ∙ drop_at taken front (following ++ r) size_front in
       drop_at taken (take taken (new ++ r)) (again ++ drop (count - taken) (drop taken (new ++ r))) has_scanned
       ∙ ap (λ (bs : List ℕ). bs ++ drop (count - taken) (drop taken (new ++ r))) old ∙ ap (λ (bs : List ℕ). following ++ bs) last ∙ sym after_it
 
--- Whether the piece ends the payload.
+-- Whether the chunk ends the payload.
 pub is_last : (count left total done : ℕ) → done < total → left ≡ total - done → (nat_eq count left ≡ true) ↔ (done + count ≡ total)
 is_last count left total done short is = (ends, whole)
   where
@@ -194,18 +194,18 @@ is_last count left total done short is = (ends, whole)
     whole all = let same : count ≡ left = omega (arith, all, is) in search (rules, same)
 
 -- The result of checking the bytes that were unmasked in place.
-pub checked_share : (group : List Frame) (first total : ℕ) (key : Option (List ℕ)) (done count left : ℕ) (wire piece new : List ℕ) (result : Result PayloadCheck BadByte) → count ≤ length piece
-    → done ≡ length wire → length wire < total → left ≡ total - done → length wire + length (take count piece) ≤ total → new ≡ unmasked_by key done (take count piece)
-    → ((nat_eq count left ≡ true) ↔ (length (unmasked_by key 0 wire) + length (take count (new ++ drop count piece)) ≡ total)
-    → length (unmasked_by key 0 wire) + length (take count (new ++ drop count piece)) ≤ total
-    → IsChecked group first total (unmasked_by key 0 wire) (take count (new ++ drop count piece)) result)
-    → IsChecked group first total (unmasked_by key 0 wire) (unmasked_by key (length wire) (take count piece)) result
-checked_share group first total key done count left wire piece new result within so_far short left_is fits unmasked found =
-    let w = take count piece in
-    let fed = take count (new ++ drop count piece) in
-    let share : fed ≡ unmasked_by key (length wire) w = front_unmasked key done count piece new within unmasked ∙ ap (λ (n : ℕ). unmasked_by key n w) so_far in
+pub checked_share : (group : List Frame) (first total : ℕ) (key : Option (List ℕ)) (done count left : ℕ) (wire chunk new : List ℕ) (result : Result PayloadCheck BadByte) → count ≤ length chunk
+    → done ≡ length wire → length wire < total → left ≡ total - done → length wire + length (take count chunk) ≤ total → new ≡ unmasked_by key done (take count chunk)
+    → ((nat_eq count left ≡ true) ↔ (length (unmasked_by key 0 wire) + length (take count (new ++ drop count chunk)) ≡ total)
+    → length (unmasked_by key 0 wire) + length (take count (new ++ drop count chunk)) ≤ total
+    → IsChecked group first total (unmasked_by key 0 wire) (take count (new ++ drop count chunk)) result)
+    → IsChecked group first total (unmasked_by key 0 wire) (unmasked_by key (length wire) (take count chunk)) result
+checked_share group first total key done count left wire chunk new result within so_far short left_is fits unmasked found =
+    let w = take count chunk in
+    let fed = take count (new ++ drop count chunk) in
+    let share : fed ≡ unmasked_by key (length wire) w = front_unmasked key done count chunk new within unmasked ∙ ap (λ (n : ℕ). unmasked_by key n w) so_far in
     let size : length fed ≡ length w = ap (λ (bs : List ℕ). length bs) share ∙ length-unmasked_by key (length wire) w in
-    let size_w : length w ≡ count = length-take-le count piece within in
+    let size_w : length w ≡ count = length-take-le count chunk within in
     let size_before : length (unmasked_by key 0 wire) ≡ length wire = length-unmasked_by key 0 wire in
     let sum : length (unmasked_by key 0 wire) + length fed ≡ done + count = omega (arith, size, size_w, size_before, so_far) in
     let last = is_last count left total done (omega (arith, so_far, short)) left_is in

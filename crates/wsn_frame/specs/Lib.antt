@@ -1,9 +1,6 @@
 -- Definitions of a frame that is being read: its head, its payload, the open message, the counts.
-pub mod EvidentLast
 pub mod PartialHeads
 pub mod Payloads
 pub mod PayloadChecks
 pub mod OpenMessages
 pub mod Counts
--- the names that the clauses in src/ import
-pub mod Words

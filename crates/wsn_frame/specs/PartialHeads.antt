@@ -1,5 +1,5 @@
 -- What a frame's first bytes are of its head. RFC 6455 sections 5.1 and 5.2.
-use Rattle.std.specs.Prelude.{◌≡◌, ℕ, ◌+◌, ◌-◌, ◌<◌, ◌≤◌, ◌↔◌, ⊤, nat_lt, if◌then◌else◌, Option, Result, Ok, Err, List, [], ◌∷◌, ◌++◌, length, take, IsSome, IfSome, is_some}
+use Rattle.std.specs.Prelude.{◌≡◌, ℕ, ◌+◌, ◌-◌, ◌<◌, ◌≤◌, ◌↔◌, ⊤, nat_lt, if◌then◌else◌, Option, Result, Ok, Err, List, [], ◌∷◌, ◌++◌, length, take, IsSome, IfSome, is_some, ◌≢◌}
 use Rattle.wsn_wire.specs.declared.endpoint.Role.{Role}
 use Rattle.wsn_wire.specs.declared.endpoint.Role.TheVariants.{Client}
 use Rattle.wsn_wire.specs.declared.heads.FirstByte.{FirstByte}
@@ -11,18 +11,24 @@ use Rattle.wsn_wire.specs.declared.length_forms.LenForm.TheVariants as len_form
 use Rattle.wsn_wire.specs.declared.length_forms.Lengths.{Lengths}
 use Rattle.wsn_wire.specs.Frame.{Frame, IsBytes, IsKey, first_byte, key_bytes}
 use Rattle.wsn_wire.specs.Layout.{mask_bit, len_form_at, length_count, encoded_length, key_count}
-use Rattle.wsn_wire.specs.Refusal.{IsFirstEvident}
+use Rattle.wsn_wire.specs.Refusal.{IsFirstEvident, number_of}
 use Rattle.wsn_wire.specs.EvidenceInHeads.{EvidentInSecond, EvidentInLength}
 use Rattle.wsn_rules.specs.declared.head_info.HeadInfo.{HeadInfo}
 use Rattle.wsn_rules.specs.Limits.{Limits}
-use Rattle.wsn_rules.specs.Evidence.{Evidence, EvidentByFirst, EvidentByPayload}
-use Rattle.wsn_rules.specs.NoEvidence.{HasNoEvidence}
+use Rattle.wsn_rules.specs.Evidence.{Evidence, EvidentByFirst, EvidentByPayload, HasNoEvidence}
 use Rattle.wsn_frame.specs.declared.heads.Head.{Head}
 use Rattle.wsn_frame.specs.declared.parsing.Parsed.{Parsed}
 use Rattle.wsn_frame.specs.declared.parsing.Parsed.TheVariants.{Incomplete, Whole, Refused}
 use Rattle.wsn_frame.specs.declared.open_message.OpenMessage.{OpenMessage}
 use Rattle.wsn_frame.specs.OpenMessages.{IsOpenMessage}
-use Rattle.wsn_frame.specs.EvidentLast.{IsEvidentLast}
+
+-- Only with the last of these bytes there is evidence for a refusal: for this reason, and for none with a lower number.
+pub record IsEvidentLast (role : Role) (limits : Limits) (group : List Frame) (reason : Reason) (bytes : List ℕ)
+    : Type 0 where
+  pub before : (seen later : List ℕ) (r : Reason) → later ≢ [] → bytes ≡ seen ++ later →
+      Evidence role limits group r seen → ⊥
+  pub is_evident : Evidence role limits group reason bytes
+  pub least : (r : Reason) → Evidence role limits group r bytes → number_of reason ≤ number_of r
 
 -- Fewer bytes than a head: none, the first alone, or the first two and not all that the second requires.
 abbrev pub IsShort : List ℕ → Type 0

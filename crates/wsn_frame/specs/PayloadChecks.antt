@@ -33,33 +33,33 @@ HasChecked group first (Text utf8) payload =
     × BeginsText (payload_of group ++ payload)
 HasChecked group first (Close body) payload = (opcode_field first ≡ 8) × IsBody body payload
 
--- No prefix of 1 to n bytes of the piece, after the payload `before`, is evidence for a refusal; `total` is the
+-- No prefix of 1 to n bytes of the chunk, after the payload `before`, is evidence for a refusal; `total` is the
 -- payload's length.
 abbrev pub IsQuiet : List Frame → ℕ → ℕ → List ℕ → List ℕ → ℕ → Type 0
-IsQuiet group first total before piece n =
-    (k : ℕ) (reason : Reason) → 0 < k → k ≤ n → EvidentByPayload group reason first total (before ++ take k piece) → ⊥
+IsQuiet group first total before chunk n =
+    (k : ℕ) (reason : Reason) → 0 < k → k ≤ n → EvidentByPayload group reason first total (before ++ take k chunk) → ⊥
 
--- The result of checking a piece of a payload.
+-- The result of checking a chunk of a payload.
 abbrev pub IsChecked : List Frame → ℕ → ℕ → List ℕ → List ℕ → Result PayloadCheck BadByte → Type 0
-IsChecked group first total before piece (Ok check) =
-    HasChecked group first check (before ++ piece) × IsQuiet group first total before piece (length piece)
-IsChecked group first total before piece (Err bad) =
-    (bad.at < length piece) × IsQuiet group first total before piece bad.at
-    × EvidentByPayload group bad.reason first total (before ++ take (bad.at + 1) piece)
-    × ((r : Reason) → EvidentByPayload group r first total (before ++ take (bad.at + 1) piece) →
+IsChecked group first total before chunk (Ok check) =
+    HasChecked group first check (before ++ chunk) × IsQuiet group first total before chunk (length chunk)
+IsChecked group first total before chunk (Err bad) =
+    (bad.at < length chunk) × IsQuiet group first total before chunk bad.at
+    × EvidentByPayload group bad.reason first total (before ++ take (bad.at + 1) chunk)
+    × ((r : Reason) → EvidentByPayload group r first total (before ++ take (bad.at + 1) chunk) →
     number_of bad.reason ≤ number_of r)
 
--- The result of checking a piece of a Close's body, after the part `before`; `last`: the piece ends the payload.
+-- The result of checking a chunk of a Close's body, after the part `before`; `last`: the chunk ends the payload.
 abbrev pub IsBodyChecked : List ℕ → List ℕ → Bool → Result PayloadCheck BadByte → Type 0
-IsBodyChecked before piece last result =
+IsBodyChecked before chunk last result =
     (group : List Frame) (first total : ℕ) → opcode_field first ≡ 8 →
-    (last ≡ true ↔ (length before + length piece ≡ total))
-    → length before + length piece ≤ total → IsChecked group first total before piece result
+    (last ≡ true ↔ (length before + length chunk ≡ total))
+    → length before + length chunk ≤ total → IsChecked group first total before chunk result
 
--- The result of checking a piece of a text, after the part `taken`; `ends`: the piece ends the text.
+-- The result of checking a chunk of a text, after the part `taken`; `ends`: the chunk ends the text.
 abbrev pub IsTextConsumed : List ℕ → List ℕ → Bool → Reason → Reason → Result (Option (List Range)) BadByte → Type 0
-IsTextConsumed taken piece ends bad cut (Ok utf8) =
-    HasValidated utf8 (taken ++ piece) × BeginsText (taken ++ piece) × (ends ≡ true → IsText (taken ++ piece))
-IsTextConsumed taken piece ends bad cut (Err fault) =
-    ((fault.reason ≡ bad) × (fault.at < length piece) × IsFirstBad (taken ++ piece) (length taken + fault.at))
-    ⊎ ((fault.reason ≡ cut) × (fault.at + 1 ≡ length piece) × (ends ≡ true) × EndsInside (taken ++ piece))
+IsTextConsumed taken chunk ends bad cut (Ok utf8) =
+    HasValidated utf8 (taken ++ chunk) × BeginsText (taken ++ chunk) × (ends ≡ true → IsText (taken ++ chunk))
+IsTextConsumed taken chunk ends bad cut (Err fault) =
+    ((fault.reason ≡ bad) × (fault.at < length chunk) × IsFirstBad (taken ++ chunk) (length taken + fault.at))
+    ⊎ ((fault.reason ≡ cut) × (fault.at + 1 ≡ length chunk) × (ends ≡ true) × EndsInside (taken ++ chunk))

@@ -3,7 +3,7 @@ use Rattle.std.specs.Prelude.{◌≡◌, ℕ, Option, None, Some, List, ◌++◌
 use Rattle.wsn_wire.specs.declared.endpoint.Role.{Role}
 use Rattle.wsn_wire.specs.Frame.{Frame, IsBytes, first_byte, masked}
 use Rattle.wsn_rules.specs.Limits.{Limits}
-use Rattle.wsn_rules.specs.NoEvidence.{HasNoEvidence}
+use Rattle.wsn_rules.specs.Evidence.{HasNoEvidence}
 use Rattle.wsn_frame.specs.declared.heads.Head.{Head}
 use Rattle.wsn_frame.specs.declared.payload_check.PayloadCheck.{PayloadCheck}
 use Rattle.wsn_frame.specs.PartialHeads.{IsHead}

@@ -15,7 +15,8 @@ pub struct Counts {
 
 impl Counts {
     ghost use Rattle.std.specs.Prelude.{◌≡◌, ◌+◌, ◌<◌, ◌^◌, List, [], ◌∷◌, ◌++◌, length};
-    ghost use Rattle.wsn_frame.specs.Words.{Frame, AreCounts};
+    ghost use Rattle.wsn_wire.specs.Frame.{Frame};
+    ghost use Rattle.wsn_frame.specs.Counts.{AreCounts};
 
     /// The counts of no frames.
     #[tactic(none)]

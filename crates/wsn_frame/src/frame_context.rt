@@ -17,7 +17,13 @@ pub struct FrameContext {
 
 impl FrameContext {
     ghost use Rattle.std.specs.Prelude.{◌≡◌, ℕ, ◌+◌, ◌<◌, ◌↔◌, List, length, IsTrue};
-    ghost use Rattle.wsn_frame.specs.Words.{Frame, opcode, opcode_field, IsFirstOrNone, EvidentInFirst, payload_of, IsDataOpcode, EvidentByFirst, IsOpenMessage};
+    ghost use Rattle.wsn_wire.specs.Frame.{Frame, opcode};
+    ghost use Rattle.wsn_wire.specs.Layout.{opcode_field};
+    ghost use Rattle.wsn_wire.specs.Refusal.{IsFirstOrNone};
+    ghost use Rattle.wsn_wire.specs.EvidenceInHeads.{EvidentInFirst};
+    ghost use Rattle.wsn_rules.specs.Group.{payload_of};
+    ghost use Rattle.wsn_rules.specs.Evidence.{IsDataOpcode, EvidentByFirst};
+    ghost use Rattle.wsn_frame.specs.OpenMessages.{IsOpenMessage};
 
     /// The reason to refuse a frame for its opcode after the open message (RFC 6455 section 5.4), or because the
     /// message already has the maximum number of frames (section 10.4). `None` if there is no such reason.

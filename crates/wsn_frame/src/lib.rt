@@ -2,7 +2,7 @@
 //!
 //! [`FrameContext`] is the context of a frame: the endpoint that sent it, the limits, and the message that is open
 //! before it. [`parse`] reads its head from the bytes that came. The payload is unmasked in place ([`unmask`]) and
-//! checked piece by piece ([`PayloadCheck`]). [`message_after`] and [`Counts`] give the open message and the counts
+//! checked chunk by chunk ([`PayloadCheck`]). [`message_after`] and [`Counts`] give the open message and the counts
 //! after the frame. Nothing here keeps a payload or allocates.
 //!
 //! These types are plain data. The definitions in `specs/` relate their values to the bytes of a frame.

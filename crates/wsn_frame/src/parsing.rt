@@ -61,34 +61,34 @@ fn parse_after(byte: u8, following: &[u8], context: &FrameContext) -> Parsed
     }
 }
 
-/// Reads a complete head at the start of `piece`, with its length in bytes, if its bytes are evidence for no refusal, at
-/// most two length bytes follow the second byte, and `piece` has at least 14 bytes. The compiler then leaves out each
-/// test whether a byte is there. `None` says nothing of `piece`.
+/// Reads a complete head at the start of `chunk`, with its length in bytes, if its bytes are evidence for no refusal, at
+/// most two length bytes follow the second byte, and `chunk` has at least 14 bytes. The compiler then leaves out each
+/// test whether a byte is there. `None` says nothing of `chunk`.
 #[inline(always)]
-pub fn whole_head(piece: &[u8], context: &FrameContext) -> Option<(usize, Head)>
+pub fn whole_head(chunk: &[u8], context: &FrameContext) -> Option<(usize, Head)>
     ensures { IfSome result
-        (λ found. IsHeadPrefix context.now.role context.now.limits context.now.message piece.now found.0 found.1) }
+        (λ found. IsHeadPrefix context.now.role context.now.limits context.now.message chunk.now found.0 found.1) }
 {
-    if piece.len() < HEAD_MAX {
+    if chunk.len() < HEAD_MAX {
         return None;
     }
-    whole_head_after(piece[0], piece, context)
+    whole_head_after(chunk[0], chunk, context)
 }
 
-/// Reads a complete head as [`whole_head`] does; `byte` is the piece's first. Where it is known, the compiler leaves out
+/// Reads a complete head as [`whole_head`] does; `byte` is the chunk's first. Where it is known, the compiler leaves out
 /// what is for other bytes.
 #[inline(always)]
 #[tactic(none)]
-pub fn whole_head_after(byte: u8, piece: &[u8], context: &FrameContext) -> Option<(usize, Head)>
-    requires { take 1 piece.now ≡ byte ∷ [] }
+pub fn whole_head_after(byte: u8, chunk: &[u8], context: &FrameContext) -> Option<(usize, Head)>
+    requires { take 1 chunk.now ≡ byte ∷ [] }
     ensures { IfSome result
-        (λ found. IsHeadPrefix context.now.role context.now.limits context.now.message piece.now found.0 found.1) }
+        (λ found. IsHeadPrefix context.now.role context.now.limits context.now.message chunk.now found.0 found.1) }
 {
     // (with eight length bytes it is left out, so that the compiler leaves out all that is for them)
-    if piece.len() < HEAD_MAX || matches!(LenForm::at(piece[1]), LenForm::Eight) {
+    if chunk.len() < HEAD_MAX || matches!(LenForm::at(chunk[1]), LenForm::Eight) {
         return None;
     }
-    match parse_after(byte, &piece[1..], context) {
+    match parse_after(byte, &chunk[1..], context) {
         Parsed::Whole(size, head) => Some((size, head)),
         Parsed::Incomplete | Parsed::Refused(_, _) => None,
     }

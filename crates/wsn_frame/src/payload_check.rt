@@ -37,10 +37,10 @@ pub enum CloseBody {
     Code(u16, Utf8),
 }
 
-/// The first byte of a piece that is evidence for a reason, and the reason.
+/// The first byte of a chunk that is evidence for a reason, and the reason.
 #[derive(Clone, Copy)]
 pub struct BadByte {
-    /// The offset of the byte in the piece, from 0.
+    /// The offset of the byte in the chunk, from 0.
     pub at: usize,
     /// The reason to refuse the stream.
     pub reason: Reason,
@@ -73,43 +73,43 @@ impl PayloadCheck {
     ///
     /// The first byte that is evidence for `CloseCode`, `CloseReason`, `TextBad` or `TextCut`, with that reason.
     #[inline(always)]
-    pub fn feed(self, piece: &[u8], fin: bool, last: bool) -> Result<PayloadCheck, BadByte>
-        requires { 0 < length piece.now }
-        ensures within { IfErr result (λ bad. bad.at ≤ length piece.now) }
+    pub fn feed(self, chunk: &[u8], fin: bool, last: bool) -> Result<PayloadCheck, BadByte>
+        requires { 0 < length chunk.now }
+        ensures within { IfErr result (λ bad. bad.at ≤ length chunk.now) }
         ensures checked { (group : List Frame) (first total : ℕ) (before : List ℕ) → HasChecked group first self before
-            → fin_bit first ≡ fin → (last ≡ true ↔ (length before + length piece.now ≡ total))
-            → length before + length piece.now ≤ total → IsChecked group first total before piece.now result }
+            → fin_bit first ≡ fin → (last ≡ true ↔ (length before + length chunk.now ≡ total))
+            → length before + length chunk.now ≤ total → IsChecked group first total before chunk.now result }
     {
         match self {
             PayloadCheck::Free => Ok(PayloadCheck::Free),
             PayloadCheck::Text(utf8) => {
-                let utf8 = feed_text(utf8, piece, fin && last, Reason::TextBad, Reason::TextCut)?;
+                let utf8 = feed_text(utf8, chunk, fin && last, Reason::TextBad, Reason::TextCut)?;
                 Ok(PayloadCheck::Text(utf8))
             }
-            PayloadCheck::Close(body) => body.feed(piece, last),
+            PayloadCheck::Close(body) => body.feed(chunk, last),
         }
     }
 
     /// Checks the next bytes of the payload in place, as [`PayloadCheck::feed`] does, and returns whether none of them is
     /// evidence. Otherwise nothing changes.
     #[inline(always)]
-    pub fn take(&mut self, piece: &[u8], fin: bool, last: bool) -> bool
-        requires { 0 < length piece.now }
+    pub fn take(&mut self, chunk: &[u8], fin: bool, last: bool) -> bool
+        requires { 0 < length chunk.now }
         ensures taken { result ≡ true → (group : List Frame) (first total : ℕ) (before : List ℕ) →
             HasChecked group first self.old before → fin_bit first ≡ fin
-            → (last ≡ true ↔ (length before + length piece.now ≡ total)) → length before + length piece.now ≤ total
-            → IsChecked group first total before piece.now (Ok self.new) }
+            → (last ≡ true ↔ (length before + length chunk.now ≡ total)) → length before + length chunk.now ≤ total
+            → IsChecked group first total before chunk.now (Ok self.new) }
         ensures evident { result ≡ false → (group : List Frame) (first total : ℕ) (before : List ℕ) →
             HasChecked group first self.old before → fin_bit first ≡ fin
-            → (last ≡ true ↔ (length before + length piece.now ≡ total)) → length before + length piece.now ≤ total
-            → (bad : BadByte) × IsChecked group first total before piece.now (Err bad) }
+            → (last ≡ true ↔ (length before + length chunk.now ≡ total)) → length before + length chunk.now ≤ total
+            → (bad : BadByte) × IsChecked group first total before chunk.now (Err bad) }
         ensures unchanged { result ≡ false → self.new ≡ self.old }
     {
         match self {
             PayloadCheck::Free => true,
             PayloadCheck::Text(utf8) => {
                 let (bad, cut) = (Reason::TextBad, Reason::TextCut);
-                match feed_text(*utf8, piece, fin && last, bad, cut) {
+                match feed_text(*utf8, chunk, fin && last, bad, cut) {
                     Ok(fed) => {
                         *utf8 = fed;
                         true
@@ -117,7 +117,7 @@ impl PayloadCheck {
                     Err(_) => false,
                 }
             }
-            PayloadCheck::Close(body) => match body.feed(piece, last) {
+            PayloadCheck::Close(body) => match body.feed(chunk, last) {
                 Ok(check) => {
                     *self = check;
                     true
@@ -155,28 +155,28 @@ impl CloseBody {
 
     /// Checks the next bytes of the body, as [`PayloadCheck::feed`] does.
     #[tactic(none)]
-    fn feed(self, piece: &[u8], last: bool) -> Result<PayloadCheck, BadByte>
-        requires { 0 < length piece.now }
-        ensures within { IfErr result (λ bad. bad.at ≤ length piece.now) }
-        ensures checked { (before : List ℕ) → IsBody self before → IsBodyChecked before piece.now last result }
+    fn feed(self, chunk: &[u8], last: bool) -> Result<PayloadCheck, BadByte>
+        requires { 0 < length chunk.now }
+        ensures within { IfErr result (λ bad. bad.at ≤ length chunk.now) }
+        ensures checked { (before : List ℕ) → IsBody self before → IsBodyChecked before chunk.now last result }
     {
         match self {
-            CloseBody::Empty if piece.len() == 1 => {
-                let high = piece[0];
+            CloseBody::Empty if chunk.len() == 1 => {
+                let high = chunk[0];
                 Ok(PayloadCheck::Close(CloseBody::HalfCode(high)))
             }
-            CloseBody::Empty => feed_code([piece[0], piece[1]], 1, &piece[2..], last),
-            CloseBody::HalfCode(high) => feed_code([high, piece[0]], 0, &piece[1..], last),
+            CloseBody::Empty => feed_code([chunk[0], chunk[1]], 1, &chunk[2..], last),
+            CloseBody::HalfCode(high) => feed_code([high, chunk[0]], 0, &chunk[1..], last),
             CloseBody::Code(code, reason) => {
-                let reason = feed_reason(reason, piece, last)?;
+                let reason = feed_reason(reason, chunk, last)?;
                 Ok(PayloadCheck::Close(CloseBody::Code(code, reason)))
             }
         }
     }
 }
 
-/// Checks a Close's code (RFC 6455 section 7.4), whose second byte is at offset `at` of a piece, and the `rest` of that
-/// piece.
+/// Checks a Close's code (RFC 6455 section 7.4), whose second byte is at offset `at` of a chunk, and the `rest` of that
+/// chunk.
 fn feed_code(code: [u8; 2], at: usize, rest: &[u8], last: bool) -> Result<PayloadCheck, BadByte>
     requires { at + length rest.now < 2 ^ 63 }
     ensures within { IfErr result (λ bad. bad.at ≤ at + 1 + length rest.now) }
@@ -203,36 +203,36 @@ fn feed_code(code: [u8; 2], at: usize, rest: &[u8], last: bool) -> Result<Payloa
 }
 
 /// Checks more of a Close's reason (RFC 6455 section 5.5.1).
-fn feed_reason(reason: Utf8, piece: &[u8], last: bool) -> Result<Utf8, BadByte>
-    requires { 0 < length piece.now }
-    ensures within { IfErr result (λ bad. bad.at ≤ length piece.now) }
+fn feed_reason(reason: Utf8, chunk: &[u8], last: bool) -> Result<Utf8, BadByte>
+    requires { 0 < length chunk.now }
+    ensures within { IfErr result (λ bad. bad.at ≤ length chunk.now) }
     ensures taken { (taken : List ℕ) → HasValidated reason taken → BeginsText taken
-        → IsTextConsumed taken piece.now last CloseReason CloseReason result }
+        → IsTextConsumed taken chunk.now last CloseReason CloseReason result }
 {
     let is_evident = Reason::CloseReason;
-    feed_text(reason, piece, last, is_evident, is_evident)
+    feed_text(reason, chunk, last, is_evident, is_evident)
 }
 
-/// Checks more of a text, which ends with this piece if `ends` is true. The reason of an error is `bad` at a byte that
+/// Checks more of a text, which ends with this chunk if `ends` is true. The reason of an error is `bad` at a byte that
 /// cannot follow, and `cut` if the text ends inside a character (RFC 6455 section 8.1).
 #[inline(always)]
 #[tactic(none)]
 fn feed_text(
     mut utf8: Utf8,
-    piece: &[u8],
+    chunk: &[u8],
     ends: bool,
     bad: Reason,
     cut: Reason,
 ) -> Result<Utf8, BadByte>
-    requires { 0 < length piece.now }
-    ensures within { IfErr result (λ bad. bad.at ≤ length piece.now) }
+    requires { 0 < length chunk.now }
+    ensures within { IfErr result (λ bad. bad.at ≤ length chunk.now) }
     ensures taken { (taken : List ℕ) → HasValidated utf8 taken → BeginsText taken
-        → IsTextConsumed taken piece.now ends bad cut result }
+        → IsTextConsumed taken chunk.now ends bad cut result }
 {
-    utf8.feed(piece).map_err(|at| BadByte { at, reason: bad })?;
+    utf8.feed(chunk).map_err(|at| BadByte { at, reason: bad })?;
     if ends && !utf8.is_whole() {
         return Err(BadByte {
-            at: piece.len() - 1,
+            at: chunk.len() - 1,
             reason: cut,
         });
     }

@@ -3,13 +3,13 @@ use Rattle.std.specs.Prelude.{◌≡◌, ℕ, ◌+◌, ◌%◌, ◌<◌, ◌≤�
 use Rattle.std.specs.Char.{is_ascii_hexdigit}
 use Rattle.std.specs.List.{AllByRecursion, Contains, take_while}
 use Rattle.wsn_wire.specs.declared.endpoint.Role.{Role}
-use Rattle.wsn_wire.specs.declared.length_forms.Lengths.TheVariants.{Shortest}
 use Rattle.wsn_wire.specs.declared.endpoint.Role.TheVariants.{Client, Server}
 use Rattle.wsn_wire.specs.declared.refusal.Reason.{Reason}
 use Rattle.wsn_wire.specs.declared.refusal.Reason.TheVariants.{ReservedBits, MaskMissing, MaskPresent}
 use Rattle.wsn_wire.specs.Frame.{Frame}
 use Rattle.wsn_rules.specs.declared.verdict.Verdict.{Verdict}
 use Rattle.wsn_rules.specs.Limits.{Limits}
+use Rattle.wsn_rules.specs.Examples.{greatest}
 use Rattle.wsn_rules.specs.Verdict.{IsRefused, IsVerdict}
 use Rattle.wsn_scan.specs.Judging.{IsUnrefused}
 use Rattle.wsn_hint.specs.declared.hint.Hint.{Hint}
@@ -56,13 +56,9 @@ BeginsHttp bytes =
     ⊎ Begins (codes "CONNECT ") bytes ⊎ Begins (codes "OPTIONS ") bytes ⊎ Begins (codes "TRACE ") bytes
     ⊎ Begins (codes "PATCH ") bytes
 
--- the greatest limits, with the shortest encoding of each length
-abbrev pub greatest_limits : Limits
-greatest_limits = record { message = 16777216; input = 1099511627776; frames = None; lengths = Shortest }
-
 -- There are at least two bytes, and an endpoint may have sent the first two, under the greatest limits.
 abbrev pub MayBeStream : List ℕ → Type 0
-MayBeStream bytes = (2 ≤ length bytes) × ((role : Role) × IsUnrefused role greatest_limits (take 2 bytes))
+MayBeStream bytes = (2 ≤ length bytes) × ((role : Role) × IsUnrefused role greatest (take 2 bytes))
 
 -- The first byte of the head of a text or binary frame, in one frame or more, without RSV bits (RFC 6455 section 5.2).
 abbrev pub IsDataHead : ℕ → Type 0
@@ -211,29 +207,29 @@ BeginsCapture bytes = BeginsLine bytes ⊎ BeginsEndMark bytes ⊎ Begins (35 �
 -- What the hint says is so of an input that begins with these bytes: a mark or the text of a first line is at the front;
 -- the first two bytes are what an endpoint may send; or all of them are of a text, or one is of none. No other hint is
 -- given.
-abbrev pub Fits : Limits → List ℕ → Hint → Type 0
-Fits limits bytes Empty = bytes ≡ []
-Fits limits bytes Pcap = BeginsPcap bytes
-Fits limits bytes PcapNg = Begins (0x0a ∷ 0x0d ∷ 0x0d ∷ 0x0a ∷ []) bytes
-Fits limits bytes Gzip = Begins (0x1f ∷ 0x8b ∷ 8 ∷ []) bytes
-Fits limits bytes Tls = BeginsTls bytes
-Fits limits bytes ByteOrderMark = Begins (0xef ∷ 0xbb ∷ 0xbf ∷ []) bytes
-Fits limits bytes (OtherRole other) = IsUnrefused other limits (take 2 bytes)
-Fits limits bytes Stream = MayBeStream bytes
-Fits limits bytes Compressed = (role : Role) × BeginsCompressed role limits bytes
-Fits limits bytes Hexadecimal = IsHexText bytes
-Fits limits bytes Text = IsText bytes
-Fits limits bytes Capture = BeginsCapture bytes
-Fits limits bytes Json = BeginsNoLine bytes × Begins (0x7b ∷ []) bytes
-Fits limits bytes SmallLetters = BeginsSmall bytes
-Fits limits bytes Blanks = BeginsBlanks bytes
-Fits limits bytes CaptureToShow = BeginsCapture bytes
-Fits limits bytes HttpHead = BeginsHttp bytes
-Fits limits bytes HexDump = BeginsHexDump bytes
-Fits limits bytes OffsetDump = BeginsOffsetDump bytes
-Fits limits bytes OtherText = BeginsNoLine bytes × IsText bytes
-Fits limits bytes Binary = BeginsNoLine bytes × HasControl bytes
-Fits limits bytes hint = ⊥
+abbrev pub HintFits : Limits → List ℕ → Hint → Type 0
+HintFits limits bytes Empty = bytes ≡ []
+HintFits limits bytes Pcap = BeginsPcap bytes
+HintFits limits bytes PcapNg = Begins (0x0a ∷ 0x0d ∷ 0x0d ∷ 0x0a ∷ []) bytes
+HintFits limits bytes Gzip = Begins (0x1f ∷ 0x8b ∷ 8 ∷ []) bytes
+HintFits limits bytes Tls = BeginsTls bytes
+HintFits limits bytes ByteOrderMark = Begins (0xef ∷ 0xbb ∷ 0xbf ∷ []) bytes
+HintFits limits bytes (OtherRole other) = IsUnrefused other limits (take 2 bytes)
+HintFits limits bytes Stream = MayBeStream bytes
+HintFits limits bytes Compressed = (role : Role) × BeginsCompressed role limits bytes
+HintFits limits bytes Hexadecimal = IsHexText bytes
+HintFits limits bytes Text = IsText bytes
+HintFits limits bytes Capture = BeginsCapture bytes
+HintFits limits bytes Json = BeginsNoLine bytes × Begins (0x7b ∷ []) bytes
+HintFits limits bytes SmallLetters = BeginsSmall bytes
+HintFits limits bytes Blanks = BeginsBlanks bytes
+HintFits limits bytes CaptureToShow = BeginsCapture bytes
+HintFits limits bytes HttpHead = BeginsHttp bytes
+HintFits limits bytes HexDump = BeginsHexDump bytes
+HintFits limits bytes OffsetDump = BeginsOffsetDump bytes
+HintFits limits bytes OtherText = BeginsNoLine bytes × IsText bytes
+HintFits limits bytes Binary = BeginsNoLine bytes × HasControl bytes
+HintFits limits bytes hint = ⊥
 
 -- The hint fits a stream that begins with these bytes and is refused for this reason, where this endpoint is said to
 -- have sent it. Compressed frames are no text; frames of the other endpoint are refused for their masking.
@@ -244,7 +240,7 @@ FitsRefused role limits reason bytes (OtherRole Server) =
     (reason ≡ MaskMissing) × IsUnrefused Server limits (take 2 bytes)
 FitsRefused role limits reason bytes (OtherRole Client) =
     (reason ≡ MaskPresent) × IsUnrefused Client limits (take 2 bytes)
-FitsRefused role limits reason bytes hint = Fits limits bytes hint
+FitsRefused role limits reason bytes hint = HintFits limits bytes hint
 
 -- ---- which hint is given
 

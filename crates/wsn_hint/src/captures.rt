@@ -1,6 +1,6 @@
 ghost use Rattle.std.specs.Prelude.{◌↔◌, IsTrue, IfSome, [], ◌∷◌};
 ghost use Rattle.wsn_rules.specs.Limits.{Limits};
-ghost use Rattle.wsn_hint.specs.Hints.{Fits, IsFirstFit, BeginsNoLine, HasBlank, HasControl, IsControl, MayBeStream, MayBeginLine, capture_hints};
+ghost use Rattle.wsn_hint.specs.Hints.{HintFits, IsFirstFit, BeginsNoLine, HasBlank, HasControl, IsControl, MayBeStream, MayBeginLine, capture_hints};
 ghost use Rattle.wsn_hint.specs.declared.hint.Hint.TheVariants.{Binary, Blanks, Json, OtherText, SmallLetters};
 
 use crate::early_verdict::is_lawful_start;
@@ -14,8 +14,8 @@ use wsn_wire::Role;
 /// read and a line isn't accepted: the first of `capture_hints` (specs/Hints.antt) that fits them. `None` if none fits,
 /// as for the bytes of a capture.
 pub fn capture_hint_of(first: &[u8]) -> Option<Hint>
-    ensures first { (limits : Limits) → IsFirstFit (Fits limits first.now) capture_hints result }
-    ensures fits { (limits : Limits) → IfSome result (Fits limits first.now) }
+    ensures first { (limits : Limits) → IsFirstFit (HintFits limits first.now) capture_hints result }
+    ensures fits { (limits : Limits) → IfSome result (HintFits limits first.now) }
 {
     match format_of(first) {
         Some(hint) => Some(hint),
@@ -27,7 +27,7 @@ pub fn capture_hint_of(first: &[u8]) -> Option<Hint>
 
 /// The hint for a first line that is nearly one of a capture.
 fn line_hint(first: &[u8]) -> Option<Hint>
-    ensures { (limits : Limits) → IsFirstFit (Fits limits first.now) (Blanks ∷ []) result }
+    ensures { (limits : Limits) → IsFirstFit (HintFits limits first.now) (Blanks ∷ []) result }
 {
     match first {
         [b'C' | b'S', b' ', rest @ ..] if has_blank(rest) => Some(Hint::Blanks),
@@ -39,7 +39,7 @@ fn line_hint(first: &[u8]) -> Option<Hint>
 /// binary file.
 fn file_hint(first: &[u8]) -> Option<Hint>
     requires { BeginsNoLine first.now }
-    ensures { (limits : Limits) → IsFirstFit (Fits limits first.now)
+    ensures { (limits : Limits) → IsFirstFit (HintFits limits first.now)
         (Json ∷ SmallLetters ∷ OtherText ∷ Binary ∷ []) result }
 {
     match first {

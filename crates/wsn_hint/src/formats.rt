@@ -1,13 +1,13 @@
 ghost use Rattle.std.specs.Prelude.{◌≡◌, ◌↔◌, ◌≤◌, IsTrue, length};
 ghost use Rattle.std.specs.List.{AllByRecursion};
 ghost use Rattle.wsn_rules.specs.Limits.{Limits};
-ghost use Rattle.wsn_hint.specs.Hints.{Fits, IsFirstFit, BeginsByte, BeginsGroup, BeginsHexDump, BeginsHttp, BeginsOffsetDump, BeginsSpacedByte, IsHexByte, IsHexDigit, IsHexText, after_digits, digits_at_start, format_hints, marked_hints, written_hints};
+ghost use Rattle.wsn_hint.specs.Hints.{HintFits, IsFirstFit, BeginsByte, BeginsGroup, BeginsHexDump, BeginsHttp, BeginsOffsetDump, BeginsSpacedByte, IsHexByte, IsHexDigit, IsHexText, after_digits, digits_at_start, format_hints, marked_hints, written_hints};
 
 use crate::hint::Hint;
 
 /// The file format or text that begins with these bytes, other than a capture. `None` if they begin no known one.
 pub fn format_of(first: &[u8]) -> Option<Hint>
-    ensures { (limits : Limits) → IsFirstFit (Fits limits first.now) format_hints result }
+    ensures { (limits : Limits) → IsFirstFit (HintFits limits first.now) format_hints result }
 {
     match marked_format_of(first) {
         Some(hint) => Some(hint),
@@ -17,7 +17,7 @@ pub fn format_of(first: &[u8]) -> Option<Hint>
 
 /// The format whose mark is at the front.
 fn marked_format_of(first: &[u8]) -> Option<Hint>
-    ensures { (limits : Limits) → IsFirstFit (Fits limits first.now) marked_hints result }
+    ensures { (limits : Limits) → IsFirstFit (HintFits limits first.now) marked_hints result }
 {
     match first {
         [0xef, 0xbb, 0xbf, ..] => Some(Hint::ByteOrderMark),
@@ -34,7 +34,7 @@ fn marked_format_of(first: &[u8]) -> Option<Hint>
 
 /// The format of a text that begins with these bytes: the head of an HTTP message, a dump or hexadecimal digits.
 fn written_format_of(first: &[u8]) -> Option<Hint>
-    ensures { (limits : Limits) → IsFirstFit (Fits limits first.now) written_hints result }
+    ensures { (limits : Limits) → IsFirstFit (HintFits limits first.now) written_hints result }
 {
     match first {
         _ if is_http_head(first) => Some(Hint::HttpHead),

@@ -126,11 +126,11 @@ fn skip<R: Read>(input: &mut Input<R>, count: u64) -> bool
     ensures { result ≡ true → (passed : List ℕ) × (length passed ≡ count)
         × Consumes input.old.remaining input.new.remaining passed }
 {
-    let mut chunk = [0; CHUNK];
+    let mut buffer = [0; CHUNK];
     let mut left = count;
     while left > 0 {
-        let piece = &mut chunk[..left.min(CHUNK as u64) as usize];
-        match input.read(piece) {
+        let chunk = &mut buffer[..left.min(CHUNK as u64) as usize];
+        match input.read(chunk) {
             Some(read) if read > 0 => left -= read as u64,
             _ => return false,
         }
@@ -143,15 +143,15 @@ fn read_text<R: Read>(input: &mut Input<R>, most: u64) -> Option<u64>
     ensures { IfSome result (λ count. (bytes : List ℕ) → input.old.remaining ≡ Some bytes →
         BeginsInAscii most count bytes) }
 {
-    let mut chunk = [0; CHUNK];
+    let mut buffer = [0; CHUNK];
     let mut left = most;
     while left > 0 {
-        let piece = &mut chunk[..left.min(CHUNK as u64) as usize];
-        let read = match input.read(piece) {
+        let chunk = &mut buffer[..left.min(CHUNK as u64) as usize];
+        let read = match input.read(chunk) {
             Some(read) if read > 0 => read,
             _ => return Some(most - left),
         };
-        if !is_text(&piece[..read]) {
+        if !is_text(&chunk[..read]) {
             return None;
         }
         left -= read as u64;

@@ -3,7 +3,7 @@ ghost use Rattle.std.specs.List.{AllByRecursion};
 ghost use Rattle.wsn_rules.specs.declared.verdict.Refusal.{Refusal};
 ghost use Rattle.wsn_rules.specs.declared.verdict.Verdict.TheVariants.{Refused};
 ghost use Rattle.wsn_hint.specs.declared.hint.Hint.TheVariants.{Empty};
-ghost use Rattle.wsn_hint.specs.Hints.{HasVerdict, IsRefusedEarly, Fits, FitsRefused, IsFirstFit, frame_hints, stream_hints, IsDataHead, BeginsCompressed, BeginsCapture, IsTextByte};
+ghost use Rattle.wsn_hint.specs.Hints.{HasVerdict, IsRefusedEarly, HintFits, FitsRefused, IsFirstFit, frame_hints, stream_hints, IsDataHead, BeginsCompressed, BeginsCapture, IsTextByte};
 
 use crate::early_verdict::{early_refusal, is_lawful_start};
 use crate::formats::format_of;
@@ -21,7 +21,7 @@ pub fn hint_of(first: &[u8], role: Role, limits: Limits) -> Option<Hint>
     ensures refused { IsSome result → (first.now ≡ [])
         ⊎ ((later : List ℕ) → IsRefusedEarly role limits (first.now ++ later)) }
     ensures empty { first.now ≡ [] → result ≡ Some Empty }
-    ensures fits { IfSome result (Fits limits first.now) }
+    ensures fits { IfSome result (HintFits limits first.now) }
     ensures first { 2 ≤ limits.input → (refusal : Refusal)
         → HasVerdict role limits (take 2 first.now) (Refused refusal)
         → IsFirstFit (FitsRefused role limits refusal.reason first.now) stream_hints result }
@@ -44,7 +44,7 @@ pub fn hint_of(first: &[u8], role: Role, limits: Limits) -> Option<Hint>
 /// The hint for a stream that is refused at offset 0 or 1 for this reason, and is of no known format: compressed, the
 /// other endpoint's, or a text.
 fn frame_hint(first: &[u8], reason: Reason, role: Role, limits: Limits) -> Option<Hint>
-    ensures fits { IfSome result (Fits limits first.now) }
+    ensures fits { IfSome result (HintFits limits first.now) }
     ensures first { 2 ≤ limits.input
         → IsFirstFit (FitsRefused role limits reason first.now) frame_hints result }
 {

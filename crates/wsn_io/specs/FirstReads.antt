@@ -1,14 +1,10 @@
 -- A reader that keeps the first bytes that it returns.
-use Rattle.std.specs.Prelude.{◌≡◌, ℕ, Option, Result, Ok, Err, List, [], take}
+use Rattle.std.specs.Prelude.{ℕ, Option, Result, Ok, Err, List, [], take}
 
 -- The bytes that are left to be read, if they are known, and the bytes that are kept.
 pub record FirstRead : Type 0 where
   pub remaining : Option (List ℕ)
   pub kept : List ℕ
-
--- These are the first 16 of the bytes that were returned, or all of them if there are fewer.
-abbrev pub AreFirst : List ℕ → List ℕ → Type 0
-AreFirst kept returned = kept ≡ take 16 returned
 
 -- The bytes that a read returned in a buffer: none if it failed.
 abbrev pub returned_in : {E : Type 0} → Result ℕ E → List ℕ → List ℕ

@@ -1,5 +1,5 @@
 -- The states of an input and of an output, and what it means that bytes were received or written.
-use Rattle.std.specs.Prelude.{◌≡◌, ℕ, ◌+◌, ◌≤◌, ◌⊎◌, Bool, true, false, List, Option, length, take}
+use Rattle.std.specs.Prelude.{◌≡◌, ℕ, ◌+◌, ◌≤◌, ◌⊎◌, ◌++◌, Bool, true, false, List, Option, length, take}
 use Rattle.std.specs.Io.KnownBytes.{Appends, Consumes, Keeps}
 
 -- An input: the bytes that are to come, if they are known; how many have come; whether a read has failed; and whether
@@ -52,3 +52,17 @@ IsPartlyWritten before after bytes =
 -- All these bytes were written, or a prefix of them before a write failed.
 abbrev pub IsWrittenUpToFailure : Outgoing → Outgoing → List ℕ → Type 0
 IsWrittenUpToFailure before after bytes = IsWritten before after bytes ⊎ IsPartlyWritten before after bytes
+
+-- All of a text of this kind was written, and perhaps more.
+abbrev pub IsWrittenAtLeast : (List ℕ → Type 0) → Outgoing → Outgoing → Type 0
+IsWrittenAtLeast IsText before after =
+    (text more : List ℕ) × IsText text × Appends before.written after.written (text ++ more)
+
+-- Of all but the last bytes that came, at most `most`, the text was written, and perhaps more.
+pub record IsWrittenBut (most : ℕ) (IsTextOf : List ℕ → List ℕ → Type 0) (came : List ℕ) (before after : Outgoing)
+    : Type 0 where
+  pub done : List ℕ
+  pub last : List ℕ
+  pub whole : came ≡ done ++ last
+  pub short : length last ≤ most
+  pub written : IsWrittenAtLeast (IsTextOf done) before after

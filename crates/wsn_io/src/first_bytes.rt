@@ -22,8 +22,7 @@ impl<R: Read> Model for FirstBytes<R> {
 }
 
 impl<R: Read> FirstBytes<R> {
-    ghost use Rattle.std.specs.Prelude.{◌≡◌, ℕ, List, [], ◌++◌};
-    ghost use Rattle.wsn_io.specs.FirstReads.{AreFirst};
+    ghost use Rattle.std.specs.Prelude.{◌≡◌, ℕ, List, [], ◌++◌, take};
 
     /// A reader of all that `reader` has left. No byte has been returned yet.
     pub fn new(reader: R) -> Self
@@ -46,8 +45,8 @@ impl<R: Read> FirstBytes<R> {
     /// Keeps as many of these bytes as there is room for. They come after all that were returned.
     fn keep(&mut self, bytes: &[u8])
         ensures remaining { self.new.remaining ≡ self.old.remaining }
-        ensures kept { (returned : List ℕ) → AreFirst self.old.kept returned →
-            AreFirst self.new.kept (returned ++ bytes.now) }
+        ensures kept { (returned : List ℕ) → self.old.kept ≡ take 16 returned →
+            self.new.kept ≡ take 16 (returned ++ bytes.now) }
     {
         let room = self.kept.remaining_capacity();
         let _fits = self
@@ -57,18 +56,18 @@ impl<R: Read> FirstBytes<R> {
 }
 
 impl<R: Read> Read for FirstBytes<R> {
-    ghost use Rattle.std.specs.Prelude.{ℕ, List, ◌++◌};
+    ghost use Rattle.std.specs.Prelude.{◌≡◌, ℕ, List, ◌++◌, take};
     ghost use Rattle.std.specs.Io.{ReadsAtMost};
     ghost use Rattle.std.specs.Io.KnownBytes.{ReadConsumes};
-    ghost use Rattle.wsn_io.specs.FirstReads.{AreFirst, returned_in};
+    ghost use Rattle.wsn_io.specs.FirstReads.{returned_in};
 
     ghost remaining = { λ f. f.remaining };
 
     fn read(&mut self, into: &mut [u8]) -> io::Result<usize>
         ensures bound { ReadsAtMost result into.new }
         ensures bytes { ReadConsumes self.old.remaining self.new.remaining result into.new }
-        ensures kept { (returned : List ℕ) → AreFirst self.old.kept returned →
-            AreFirst self.new.kept (returned ++ returned_in result into.new) }
+        ensures kept { (returned : List ℕ) → self.old.kept ≡ take 16 returned →
+            self.new.kept ≡ take 16 (returned ++ returned_in result into.new) }
     {
         let count = self.reader.read(into)?;
         self.keep(&into[..count]);

@@ -10,20 +10,21 @@ use Rattle.wsn_rules.specs.declared.verdict.Verdict.{Verdict}
 use Rattle.wsn_capture.specs.declared.capture_report.CaptureReport.{CaptureReport}
 use Rattle.wsn_print.specs.declared.format.Format.{Format}
 use Rattle.wsn_show.specs.declared.showing.ShowStop.{ShowStop}
-use Rattle.wsn_show.specs.declared.showing.ShowStop.TheVariants.{Capture, Write}
+use Rattle.wsn_show.specs.declared.showing.ShowStop.TheVariants.{Write}
 use Rattle.wsn_plan.specs.declared.planning.PlanAnswer.{PlanAnswer}
 use Rattle.wsn_plan.specs.declared.planning.PlanAnswer.TheVariants as planning
 use Rattle.wsn_command.specs.declared.comparison.Comparison.{Comparison}
 use Rattle.wsn_command.specs.declared.answered.Ran.{Ran}
 use Rattle.wsn_command.specs.declared.job.Job.{Job}
 use Rattle.wsn_command.specs.declared.job.Job.TheVariants.{Judge, Frames, Normal, Redact, Plan, Recut, Payload, ShowStream, Closing, Show, RedactCapture}
-use Rattle.wsn_job.specs.Channels.{Channels}
-use Rattle.wsn_job.specs.ComparedChannels.{ComparedChannels}
+use Rattle.wsn_job.specs.Channels.{Channels, ComparedChannels}
 use Rattle.wsn_job.specs.Closings.{IsReportPrinted}
 use Rattle.wsn_job.specs.Comparisons.{IsComparisonPrinted}
-use Rattle.wsn_job.specs.Jobs.{IsRun}
 use Rattle.wsn_job.specs.Plans.{IsPlanPrinted}
 use Rattle.wsn_job.specs.Verdicts.{IsVerdictPrinted}
+use Rattle.wsn_job.specs.Work.{IsDone, IsRun}
+use Rattle.wsn_job.specs.declared.done.Done.{Done}
+use Rattle.wsn_job.specs.declared.done.Done.TheVariants as done
 
 -- No read of this input failed.
 abbrev IsRead : Incoming → Incoming → Type 0
@@ -52,11 +53,22 @@ report_is_read : (format : Format) (limits : Limits) (old new : Incoming) (befor
 report_is_read format limits old new before after (Err Write) printed = received_is_read _ old new _ printed.1.received
 report_is_read format limits old new before after _ printed = received_is_read _ old new _ printed.0.received
 
+done_is_read : {A : Type 0} (job : Job A) (old new : Incoming) (before after : Outgoing) (d : Done A) → IsDone job old new before after d → IsRead old new
+done_is_read (Judge role limits format) old new before after (done.Judge answer) is = verdict_is_read format role limits old new before after answer is
+done_is_read (Frames role limits format) old new before after (done.Frames answer) is = received_is_read _ old new _ is.received
+done_is_read (Normal role limits) old new before after (done.Normal answer) is = received_is_read _ old new _ is.received
+done_is_read (Redact role limits) old new before after (done.Redact answer) is = received_is_read _ old new _ is.received
+done_is_read (Plan role limits) old new before after (done.Plan answer) is = plan_is_read role limits old new before after answer is
+done_is_read (Recut role limits how) old new before after (done.Recut answer) is = received_is_read _ old new _ is.received
+done_is_read (Payload role limits at) old new before after (done.Payload place answer) is = received_is_read _ old new _ is.1.received
+done_is_read (ShowStream role limits style) old new before after (done.ShowStream answer) is = received_is_read _ old new _ is.received
+done_is_read (Closing limits format) old new before after (done.Closing answer) is = report_is_read format limits old new before after answer is
+done_is_read (Show limits style) old new before after (done.Show answer) is = received_is_read _ old new _ is.received
+done_is_read (RedactCapture limits) old new before after (done.RedactCapture answer) is = received_is_read _ old new _ is.received
+done_is_read job old new before after d is = absurd is
+
 pub run_is_read : {A : Type 0} (job : Job A) (before after : Channels) (ran : Ran) → IsRun job before after ran → IsRead before.input after.input
-run_is_read (Judge role limits format) before after ran run = verdict_is_read format role limits _ _ _ _ run.0 run.1
-run_is_read (Plan role limits) before after ran run = plan_is_read role limits _ _ _ _ run.0 run.1
-run_is_read (Closing limits format) before after ran run = report_is_read format limits _ _ _ _ run.0 run.1
-run_is_read _ before after ran run = received_is_read _ _ _ _ run.1.received
+run_is_read job before after ran run = done_is_read job before.input after.input before.output after.output run.0 run.1
 
 -- No read of either failed.
 abbrev AreRead : ComparedChannels → ComparedChannels → Type 0

@@ -6,10 +6,9 @@ use Rattle.wsn_io.specs.declared.stop.Stop.{Stop}
 use Rattle.wsn_io.specs.declared.stop.Stop.TheVariants as stop
 use Rattle.wsn_rules.specs.Limits.{Limits}
 use Rattle.wsn_rules.specs.declared.verdict.Verdict.{Verdict}
-use Rattle.wsn_rules.specs.declared.verdict.Verdict.TheVariants.{Accepted, Cut, Refused}
+use Rattle.wsn_rules.specs.declared.verdict.Verdict.TheVariants.{Accepted}
 use Rattle.wsn_print.specs.declared.format.Format.{Format}
-use Rattle.wsn_print.specs.FaultText.{line_fault_line}
-use Rattle.wsn_print.specs.StopText.{stop_line}
+use Rattle.wsn_print.specs.FaultText.{line_fault_line, stop_line}
 use Rattle.wsn_capture.specs.declared.line_fault.LineFault.{LineFault}
 use Rattle.wsn_capture.specs.LineFaults.{fault_word}
 use Rattle.wsn_scan.specs.Judging.{IsReached, IsJudged}
@@ -32,21 +31,18 @@ use Rattle.wsn_job.specs.declared.done.Done.{Done}
 use Rattle.wsn_job.specs.declared.done.Done.TheVariants as done
 use Rattle.wsn_job.specs.Channels.{Channels, channels}
 use Rattle.wsn_print.specs.Statuses.{verdict_status}
-use Rattle.wsn_job.specs.Answers.{ran_with, verdict_answer}
-use Rattle.wsn_job.specs.OtherAnswers.{plan_answer, recut_answer, payload_answer}
-use Rattle.wsn_job.specs.Diagnostics.{IsDiagnosed, IsStopDiagnosed}
-use Rattle.wsn_job.specs.Jobs.{IsRun}
+use Rattle.wsn_job.specs.Answers.{ran_with, verdict_answer, plan_answer, recut_answer, payload_answer}
+use Rattle.wsn_job.specs.Diagnostics.{IsDiagnosed, IsStopDiagnosed, IsVerdictDiagnosed}
 use Rattle.wsn_job.specs.Redactions.{redact_status}
 use Rattle.wsn_job.specs.Plans.{IsPlanPrinted, IsPlanDiagnosed, plan_status}
-use Rattle.wsn_payload.specs.declared.answer.Payload.TheVariants.{Whole, Unfinished, Inside, Head, Nothing}
+use Rattle.wsn_payload.specs.declared.answer.Payload.TheVariants.{Unfinished, Inside, Head, Nothing}
 use Rattle.wsn_payload.specs.declared.answer.Payload.{Payload as Taken}
 use Rattle.wsn_payload.specs.Payloads.{IsPayloadTaken}
 use Rattle.wsn_job.specs.Payloads.{IsPayloadDiagnosed, payload_status}
 use Rattle.wsn_job.specs.Recuts.{IsRecutDiagnosed, planned_by, recut_status}
 use Rattle.wsn_job.specs.Sides.{MayRunOnSide, IsFaultySide, IsRunOnSide}
 use Rattle.wsn_job.specs.Verdicts.{IsVerdictPrinted}
-use Rattle.wsn_job.specs.NormalForms.{IsVerdictDiagnosed}
-use Rattle.wsn_job.specs.Work.{IsDone, IsDoneDiagnosed, done_ran, done_status}
+use Rattle.wsn_job.specs.Work.{IsDone, IsDoneDiagnosed, IsRun, done_ran, done_status}
 use Rattle.wsn_job.proofs.Runs.{run_of_done}
 
 module _ (role : Role) (limits : Limits) (old new : Incoming) (failed : new.failed ≡ true) where
@@ -152,28 +148,28 @@ pub run_of_failed_read : {A : Type 0} (job : Job A) (before after : Channels) (d
     IsRun job before (record after { errors = errors }) (ran_with (done_status d) Stopped)
 run_of_failed_read (Judge role limits format) before after (done.Judge answer) may is failed errors said =
     let stopped = verdict_printed role limits before.input after.input failed format before.output after.output answer is in
-    (answer, is, no_answer verdict_status verdict_answer answer refl stopped, subst (λ (a : Result Verdict Stop). IsStopDiagnosed a before.errors errors) (sym stopped) said)
+    (done.Judge answer, is, no_answer verdict_status verdict_answer answer refl stopped, subst (λ (a : Result Verdict Stop). IsStopDiagnosed a before.errors errors) (sym stopped) said)
 run_of_failed_read (Frames role limits format) before after (done.Frames answer) may is failed errors said =
     let stopped = listed role limits before.input after.input failed format before.output after.output answer is in
-    (answer, is, no_answer verdict_status verdict_answer answer refl stopped, subst (λ (a : Result Verdict Stop). IsStopDiagnosed a before.errors errors) (sym stopped) said)
+    (done.Frames answer, is, no_answer verdict_status verdict_answer answer refl stopped, subst (λ (a : Result Verdict Stop). IsStopDiagnosed a before.errors errors) (sym stopped) said)
 run_of_failed_read (Normal role limits) before after (done.Normal answer) may is failed errors said =
     let stopped = normalised role limits before.input after.input failed before.output after.output answer is in
-    (answer, is, no_answer verdict_status verdict_answer answer refl stopped, subst (λ (a : Result Verdict Stop). IsVerdictDiagnosed a before.errors errors) (sym stopped) said)
+    (done.Normal answer, is, no_answer verdict_status verdict_answer answer refl stopped, subst (λ (a : Result Verdict Stop). IsVerdictDiagnosed a before.errors errors) (sym stopped) said)
 run_of_failed_read (Redact role limits) before after (done.Redact answer) may is failed errors said =
     let stopped = redacted role limits before.input after.input failed before.output after.output answer is in
-    (answer, is, no_answer redact_status verdict_answer answer refl stopped, subst (λ (a : Result Verdict Stop). IsStopDiagnosed a before.errors errors) (sym stopped) said)
+    (done.Redact answer, is, no_answer redact_status verdict_answer answer refl stopped, subst (λ (a : Result Verdict Stop). IsStopDiagnosed a before.errors errors) (sym stopped) said)
 run_of_failed_read {A} (Plan role limits) before after (done.Plan answer) may is failed errors said =
     let stopped = plan_printed role limits before.input after.input failed before.output after.output answer is in
-    (answer, is, no_answer plan_status plan_answer answer refl stopped, subst (λ (a : Result (PlanAnswer A) Stop). IsPlanDiagnosed a before.errors errors) (sym stopped) said)
+    (done.Plan answer, is, no_answer plan_status plan_answer answer refl stopped, subst (λ (a : Result (PlanAnswer A) Stop). IsPlanDiagnosed a before.errors errors) (sym stopped) said)
 run_of_failed_read (Recut role limits how) before after (done.Recut answer) may is failed errors said =
     let stopped = recut role limits before.input after.input failed (planned_by how) before.output after.output answer is in
-    (answer, is, no_answer recut_status recut_answer answer refl stopped, subst (λ (a : Result RecutAnswer Stop). IsRecutDiagnosed a before.errors errors) (sym stopped) said)
+    (done.Recut answer, is, no_answer recut_status recut_answer answer refl stopped, subst (λ (a : Result RecutAnswer Stop). IsRecutDiagnosed a before.errors errors) (sym stopped) said)
 run_of_failed_read (Payload role limits at) before after (done.Payload place answer) may is failed errors said =
     let stopped = payload_taken role limits before.input after.input failed at before.output after.output answer is.1 in
-    (answer, is.1, no_answer payload_status payload_answer answer refl stopped, subst (λ (a : Result Taken Stop). IsPayloadDiagnosed at a before.errors errors) (sym stopped) said)
+    (done.Payload place answer, is, no_answer payload_status payload_answer answer refl stopped, subst (λ (a : Result Taken Stop). IsPayloadDiagnosed place a before.errors errors) (sym stopped) said)
 run_of_failed_read (ShowStream role limits style) before after (done.ShowStream answer) may is failed errors said =
     let stopped = stream_shown role limits before.input after.input failed style before.output after.output answer is in
-    (answer, is, no_answer verdict_status verdict_answer answer refl stopped, subst (λ (a : Result Verdict Stop). IsStopDiagnosed a before.errors errors) (sym stopped) said)
+    (done.ShowStream answer, is, no_answer verdict_status verdict_answer answer refl stopped, subst (λ (a : Result Verdict Stop). IsStopDiagnosed a before.errors errors) (sym stopped) said)
 run_of_failed_read (Closing limits format) before after d may is failed errors said = let h : false ≡ true = may.1 in absurd cc
 run_of_failed_read (Show limits style) before after d may is failed errors said = let h : false ≡ true = may.1 in absurd cc
 run_of_failed_read (RedactCapture limits) before after d may is failed errors said = let h : false ≡ true = may.1 in absurd cc

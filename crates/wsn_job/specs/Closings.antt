@@ -4,23 +4,17 @@ use Rattle.wsn_io.specs.Transfer.{Incoming, Outgoing, IsWritten, IsPartlyWritten
 use Rattle.wsn_rules.specs.Limits.{Limits}
 use Rattle.wsn_rules.specs.declared.report.Report.{Report}
 use Rattle.wsn_capture.specs.declared.capture_report.CaptureReport.{CaptureReport}
-use Rattle.wsn_capture.specs.declared.capture_stop.CaptureStop.TheVariants as capture
 use Rattle.wsn_capture.specs.CaptureAnswers.{IsCaptureJudged}
-use Rattle.wsn_capture.specs.LineFaults.{fault_word}
 use Rattle.wsn_io.specs.declared.stop.Stop.TheVariants as stop
-use Rattle.wsn_print.specs.FaultText.{line_fault_line}
 use Rattle.wsn_print.specs.declared.format.Format.{Format}
 use Rattle.wsn_print.specs.Formats.{report_text}
 use Rattle.wsn_print.specs.NamedReportText.{named_report_text}
 use Rattle.wsn_print.specs.Statuses.{outcome_status}
-use Rattle.wsn_print.specs.StopText.{stop_line}
+use Rattle.wsn_print.specs.FaultText.{stop_line}
 use Rattle.wsn_show.specs.declared.showing.ShowStop.{ShowStop}
 use Rattle.wsn_show.specs.declared.showing.ShowStop.TheVariants.{Capture, Write}
-use Rattle.wsn_command.specs.declared.answered.Ran.{Ran}
 use Rattle.wsn_job.specs.Channels.{Channels}
-use Rattle.wsn_job.specs.Answers.{ran_with}
-use Rattle.wsn_job.specs.OtherAnswers.{report_answer}
-use Rattle.wsn_job.specs.Diagnostics.{IsDiagnosed}
+use Rattle.wsn_job.specs.Diagnostics.{IsDiagnosed, capture_stop_line}
 
 -- The text of the report was printed; before a stop, nothing was. If a write failed, there is a report, and a prefix of
 -- its text was printed.
@@ -48,22 +42,15 @@ abbrev pub closing_status : Result CaptureReport ShowStop → ℕ
 closing_status (Ok read) = outcome_status read.report.outcome
 closing_status (Err stopped) = 2
 
--- the line for a stop; lines of the capture are counted from 1
+-- the line for a stop
 abbrev pub closing_stop_line : ShowStop → List ℕ
-closing_stop_line (Capture capture.Read) = stop_line stop.Read
-closing_stop_line (Capture (capture.Line number fault)) = line_fault_line number (fault_word fault)
+closing_stop_line (Capture stopped) = capture_stop_line stopped
 closing_stop_line Write = stop_line stop.Write
 
 -- A stop is reported in its line; for a report nothing is written to standard error.
 abbrev pub IsClosingDiagnosed : Result CaptureReport ShowStop → Outgoing → Outgoing → Type 0
 IsClosingDiagnosed (Ok read) old new = new ≡ old
 IsClosingDiagnosed (Err stopped) old new = IsDiagnosed old new (closing_stop_line stopped)
-
--- `closing`: its channels before and after, and what it came to, are of one answer.
-abbrev pub IsClosingRun : Format → Limits → Channels → Channels → Ran → Type 0
-IsClosingRun format limits before after ran = (done : Result CaptureReport ShowStop)
-    × IsReportPrinted format limits before.input after.input before.output after.output done
-    × (ran ≡ ran_with (closing_status done) (report_answer done)) × IsClosingDiagnosed done before.errors after.errors
 
 -- `closing` of one of several captures: the same, but for the text.
 abbrev pub IsNamedClosingRun : Format → List ℕ → Limits → Channels → Channels → ℕ → Type 0

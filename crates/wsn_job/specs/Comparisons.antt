@@ -12,7 +12,7 @@ use Rattle.wsn_rules.specs.declared.compared.Compared.{Compared}
 use Rattle.wsn_rules.specs.declared.compared.Compared.TheVariants.{Different}
 use Rattle.wsn_events.specs.Comparing.{IsComparedBy}
 use Rattle.wsn_command.specs.declared.comparison.Comparison.{Comparison}
-use Rattle.wsn_job.specs.ComparedChannels.{ComparedChannels}
+use Rattle.wsn_job.specs.Channels.{ComparedChannels}
 
 -- This answer or stop is of the two inputs: of their meanings without what the comparison leaves out.
 abbrev pub IsComparisonAnswer : Comparison → ComparedChannels → ComparedChannels → Result Compared Stop → Type 0

@@ -1,19 +1,12 @@
 -- What `payload` says on standard error, and its exit status.
 use Rattle.std.specs.Prelude.{◌≡◌, ℕ, Result, Ok, Err}
-use Rattle.wsn_wire.specs.declared.endpoint.Role.{Role}
 use Rattle.wsn_io.specs.Transfer.{Outgoing}
 use Rattle.wsn_io.specs.declared.stop.Stop.{Stop}
-use Rattle.wsn_rules.specs.Limits.{Limits}
-use Rattle.wsn_print.specs.StopText.{stop_line}
+use Rattle.wsn_print.specs.FaultText.{stop_line}
 use Rattle.wsn_print.specs.VerdictText.{verdict_line}
 use Rattle.wsn_print.specs.PayloadText.{inside_line, begun_head_line, nothing_line}
 use Rattle.wsn_payload.specs.declared.answer.Payload.{Payload}
 use Rattle.wsn_payload.specs.declared.answer.Payload.TheVariants.{Whole, Unfinished, Inside, Head, Nothing}
-use Rattle.wsn_payload.specs.Payloads.{IsPayloadTaken}
-use Rattle.wsn_command.specs.declared.answered.Ran.{Ran}
-use Rattle.wsn_job.specs.Channels.{Channels}
-use Rattle.wsn_job.specs.Answers.{ran_with}
-use Rattle.wsn_job.specs.OtherAnswers.{payload_answer}
 use Rattle.wsn_job.specs.Diagnostics.{IsDiagnosed}
 
 -- the exit status: 0 if the event is complete, 1 if it isn't, 2 if none begins at the offset, and for a stop
@@ -32,9 +25,3 @@ IsPayloadDiagnosed at (Ok (Inside event)) old new = IsDiagnosed old new (inside_
 IsPayloadDiagnosed at (Ok (Head start verdict)) old new = IsDiagnosed old new (begun_head_line at start verdict)
 IsPayloadDiagnosed at (Ok (Nothing verdict)) old new = IsDiagnosed old new (nothing_line at verdict)
 IsPayloadDiagnosed at (Err stopped) old new = IsDiagnosed old new (stop_line stopped)
-
--- `payload`: its channels before and after, and what it came to, are of one answer.
-abbrev pub IsPayloadRun : Role → Limits → ℕ → Channels → Channels → Ran → Type 0
-IsPayloadRun role limits at before after ran = (done : Result Payload Stop)
-    × IsPayloadTaken role limits at before.input after.input before.output after.output done
-    × (ran ≡ ran_with (payload_status done) (payload_answer done)) × IsPayloadDiagnosed at done before.errors after.errors

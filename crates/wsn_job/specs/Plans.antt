@@ -4,7 +4,7 @@ use Rattle.wsn_wire.specs.declared.endpoint.Role.{Role}
 use Rattle.wsn_io.specs.Transfer.{Incoming, Outgoing, IsWritten, IsPartlyWritten}
 use Rattle.wsn_rules.specs.declared.step.Step.{Step}
 use Rattle.wsn_rules.specs.Limits.{Limits}
-use Rattle.wsn_print.specs.FaultText.{unfinished_line}
+use Rattle.wsn_print.specs.FaultText.{unfinished_line, stop_line}
 use Rattle.wsn_print.specs.VerdictText.{verdict_line}
 use Rattle.wsn_io.specs.declared.stop.Stop.{Stop}
 use Rattle.wsn_io.specs.declared.stop.Stop.TheVariants as stop
@@ -12,12 +12,7 @@ use Rattle.wsn_plan.specs.declared.planning.PlanAnswer.{PlanAnswer}
 use Rattle.wsn_plan.specs.declared.planning.PlanAnswer.TheVariants.{Plan, NotAccepted, Unfinished}
 use Rattle.wsn_plan.specs.Planning.{IsPlanned}
 use Rattle.wsn_plan_text.specs.PlanText.{plan_text}
-use Rattle.wsn_command.specs.declared.answered.Ran.{Ran}
-use Rattle.wsn_job.specs.Channels.{Channels}
-use Rattle.wsn_job.specs.Answers.{ran_with}
-use Rattle.wsn_job.specs.OtherAnswers.{plan_answer}
 use Rattle.wsn_job.specs.Diagnostics.{IsDiagnosed}
-use Rattle.wsn_print.specs.StopText.{stop_line}
 
 -- A plan's text was printed; with any other answer or a stop, nothing was. If a write failed, there is a plan, and a
 -- prefix of its text was printed.
@@ -41,9 +36,3 @@ IsPlanDiagnosed (Ok (Plan plan)) old new = new ≡ old
 IsPlanDiagnosed (Ok (NotAccepted verdict)) old new = IsDiagnosed old new (verdict_line verdict)
 IsPlanDiagnosed (Ok Unfinished) old new = IsDiagnosed old new unfinished_line
 IsPlanDiagnosed (Err stopped) old new = IsDiagnosed old new (stop_line stopped)
-
--- `plan`: its channels before and after, and what it came to, are of one answer.
-abbrev pub IsPlanRun : (A : Type 0) → Role → Limits → Channels → Channels → Ran → Type 0
-IsPlanRun A role limits before after ran = (done : Result (PlanAnswer A) Stop)
-    × IsPlanPrinted role limits before.input after.input before.output after.output done
-    × (ran ≡ ran_with (plan_status done) (plan_answer done)) × IsPlanDiagnosed done before.errors after.errors

@@ -1,23 +1,16 @@
 -- What `recut` prints on standard output and standard error, and its exit status.
-use Rattle.std.specs.Prelude.{◌≡◌, ℕ, Result, Ok, Err, List}
-use Rattle.wsn_wire.specs.declared.endpoint.Role.{Role}
+use Rattle.std.specs.Prelude.{◌≡◌, ℕ, Result, Ok, Err}
 use Rattle.wsn_io.specs.Transfer.{Outgoing}
-use Rattle.wsn_rules.specs.Limits.{Limits}
-use Rattle.wsn_print.specs.FaultText.{recut_fault_line}
+use Rattle.wsn_print.specs.FaultText.{recut_fault_line, stop_line}
 use Rattle.wsn_print.specs.VerdictText.{verdict_line}
 use Rattle.wsn_rules.specs.UniformPlan.{uniform_plan}
 use Rattle.wsn_io.specs.declared.stop.Stop.{Stop}
 use Rattle.wsn_plan.specs.declared.recutting.RecutAnswer.{RecutAnswer}
 use Rattle.wsn_plan.specs.declared.recutting.RecutAnswer.TheVariants.{Done, NotAccepted, Fault}
-use Rattle.wsn_plan.specs.Recutting.{Planner, IsRecut}
+use Rattle.wsn_plan.specs.Recutting.{Planner}
 use Rattle.wsn_command.specs.declared.job.How.{How}
 use Rattle.wsn_command.specs.declared.job.How.TheVariants.{ByPlan, BySize}
-use Rattle.wsn_command.specs.declared.answered.Ran.{Ran}
-use Rattle.wsn_job.specs.Channels.{Channels}
-use Rattle.wsn_job.specs.Answers.{ran_with}
-use Rattle.wsn_job.specs.OtherAnswers.{recut_answer}
 use Rattle.wsn_job.specs.Diagnostics.{IsDiagnosed}
-use Rattle.wsn_print.specs.StopText.{stop_line}
 
 -- the plan by which a stream of the given events is recut
 abbrev pub planned_by : {A : Type 0} → How A → Planner
@@ -36,9 +29,3 @@ IsRecutDiagnosed (Ok Done) old new = new ≡ old
 IsRecutDiagnosed (Ok (NotAccepted verdict)) old new = IsDiagnosed old new (verdict_line verdict)
 IsRecutDiagnosed (Ok (Fault step why)) old new = IsDiagnosed old new (recut_fault_line step why)
 IsRecutDiagnosed (Err stopped) old new = IsDiagnosed old new (stop_line stopped)
-
--- `recut`: its channels before and after, and what it came to, are of one answer.
-abbrev pub IsRecutRun : {A : Type 0} → Role → Limits → How A → Channels → Channels → Ran → Type 0
-IsRecutRun role limits how before after ran = (done : Result RecutAnswer Stop)
-    × IsRecut role limits (planned_by how) before.input after.input before.output after.output done
-    × (ran ≡ ran_with (recut_status done) (recut_answer done)) × IsRecutDiagnosed done before.errors after.errors

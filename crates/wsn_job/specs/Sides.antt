@@ -4,8 +4,7 @@ use Rattle.wsn_io.specs.Transfer.{Incoming, Outgoing}
 use Rattle.wsn_io.specs.declared.stop.Stop.{Stop}
 use Rattle.wsn_io.specs.declared.stop.Stop.TheVariants as stop
 use Rattle.wsn_rules.specs.declared.compared.Compared.{Compared}
-use Rattle.wsn_print.specs.FaultText.{line_fault_line}
-use Rattle.wsn_print.specs.StopText.{stop_line}
+use Rattle.wsn_print.specs.FaultText.{line_fault_line, stop_line}
 use Rattle.wsn_capture.specs.declared.line_fault.LineFault.{LineFault}
 use Rattle.wsn_capture.specs.LineFaults.{fault_word}
 use Rattle.wsn_capture.specs.SideTexts.{sentinel}
@@ -14,11 +13,10 @@ use Rattle.wsn_command.specs.declared.answered.Answer.{Answer}
 use Rattle.wsn_command.specs.declared.answered.Answer.TheVariants.{FaultyLine, Stopped}
 use Rattle.wsn_command.specs.declared.answered.Ran.{Ran}
 use Rattle.wsn_job.specs.Channels.{Channels}
-use Rattle.wsn_job.specs.OtherAnswers.{compared_answer}
-use Rattle.wsn_job.specs.Answers.{ran_with}
+use Rattle.wsn_job.specs.Answers.{compared_answer, ran_with}
 use Rattle.wsn_job.specs.Diagnostics.{IsDiagnosed, IsStopDiagnosed}
 use Rattle.wsn_command.specs.Jobs.{MayRun, job_role}
-use Rattle.wsn_job.specs.Jobs.{IsRun}
+use Rattle.wsn_job.specs.Work.{IsRun}
 
 -- The job may be run on a side: it reads one endpoint's stream. `closing` reads both.
 abbrev pub MayRunOnSide : {A : Type 0} → Job A → Type 0

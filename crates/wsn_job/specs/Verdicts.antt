@@ -4,16 +4,11 @@ use Rattle.wsn_wire.specs.declared.endpoint.Role.{Role}
 use Rattle.wsn_io.specs.Transfer.{Incoming, Outgoing, IsWritten, IsPartlyWritten}
 use Rattle.wsn_rules.specs.declared.verdict.Verdict.{Verdict}
 use Rattle.wsn_rules.specs.Limits.{Limits}
-use Rattle.wsn_print.specs.Statuses.{verdict_status}
 use Rattle.wsn_print.specs.declared.format.Format.{Format}
 use Rattle.wsn_print.specs.Formats.{verdict_text}
 use Rattle.wsn_io.specs.declared.stop.Stop.{Stop}
 use Rattle.wsn_io.specs.declared.stop.Stop.TheVariants as stop
 use Rattle.wsn_scan.specs.Judging.{IsJudged}
-use Rattle.wsn_command.specs.declared.answered.Ran.{Ran}
-use Rattle.wsn_job.specs.Channels.{Channels}
-use Rattle.wsn_job.specs.Answers.{ran_with, verdict_answer}
-use Rattle.wsn_job.specs.Diagnostics.{IsStopDiagnosed}
 
 -- The verdict was printed, in this format; before a stop, nothing was. If a write failed, there is a verdict, and a
 -- prefix of its line was printed.
@@ -26,10 +21,3 @@ IsVerdictPrinted format role limits old new before after (Err stop.Write) =
     × IsPartlyWritten before after (verdict_text format verdict)
 IsVerdictPrinted format role limits old new before after (Err stopped) =
     IsJudged role limits old new (Err stopped) × (after ≡ before)
-
--- The command's run, by its channels before and after and what it came to: the verdict was printed.
-abbrev pub IsJudgeRun : Format → Role → Limits → Channels → Channels → Ran → Type 0
-IsJudgeRun format role limits before after ran = (done : Result Verdict Stop)
-    × IsVerdictPrinted format role limits before.input after.input before.output after.output done
-    × (ran ≡ ran_with (verdict_status done) (verdict_answer done))
-    × IsStopDiagnosed done before.errors after.errors

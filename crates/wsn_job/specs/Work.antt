@@ -1,4 +1,4 @@
--- What a job's work came to, before standard error is written.
+-- What a job's run did: what its work came to, and what it said on standard error.
 use Rattle.std.specs.Prelude.{◌≡◌, ℕ}
 use Rattle.wsn_io.specs.Transfer.{Incoming, Outgoing}
 use Rattle.wsn_print.specs.Statuses.{verdict_status}
@@ -12,12 +12,11 @@ use Rattle.wsn_command.specs.declared.answered.Answer.{Answer}
 use Rattle.wsn_command.specs.declared.answered.Ran.{Ran}
 use Rattle.wsn_job.specs.declared.done.Done.{Done}
 use Rattle.wsn_job.specs.declared.done.Done.TheVariants as done
-use Rattle.wsn_job.specs.Answers.{ran_with, verdict_answer}
-use Rattle.wsn_job.specs.OtherAnswers.{plan_answer, recut_answer, payload_answer, report_answer, redacted_answer}
-use Rattle.wsn_job.specs.Diagnostics.{IsStopDiagnosed}
+use Rattle.wsn_job.specs.Channels.{Channels}
+use Rattle.wsn_job.specs.Answers.{ran_with, verdict_answer, plan_answer, recut_answer, payload_answer, report_answer, redacted_answer}
+use Rattle.wsn_job.specs.Diagnostics.{IsStopDiagnosed, IsVerdictDiagnosed}
 use Rattle.wsn_job.specs.Verdicts.{IsVerdictPrinted}
-use Rattle.wsn_job.specs.NormalForms.{IsVerdictDiagnosed}
-use Rattle.wsn_job.specs.Redactions.{redact_status, redact_capture_status, IsRedactDiagnosed}
+use Rattle.wsn_job.specs.Redactions.{redact_status, IsRedactDiagnosed}
 use Rattle.wsn_job.specs.Plans.{IsPlanPrinted, IsPlanDiagnosed, plan_status}
 use Rattle.wsn_plan.specs.Recutting.{IsRecut}
 use Rattle.wsn_job.specs.Recuts.{IsRecutDiagnosed, planned_by, recut_status}
@@ -63,7 +62,7 @@ done_status (done.Payload at answer) = payload_status answer
 done_status (done.ShowStream answer) = verdict_status answer
 done_status (done.Closing answer) = closing_status answer
 done_status (done.Show answer) = closing_status answer
-done_status (done.RedactCapture answer) = redact_capture_status answer
+done_status (done.RedactCapture answer) = redact_status answer
 
 -- the answer
 abbrev pub done_answer : {A : Type 0} → Done A → Answer
@@ -96,3 +95,8 @@ IsDoneDiagnosed (done.ShowStream answer) old new = IsStopDiagnosed answer old ne
 IsDoneDiagnosed (done.Closing answer) old new = IsClosingDiagnosed answer old new
 IsDoneDiagnosed (done.Show answer) old new = IsClosingDiagnosed answer old new
 IsDoneDiagnosed (done.RedactCapture answer) old new = IsRedactDiagnosed answer old new
+
+-- The job's run: its channels before and after, and what it came to, are of one answer.
+abbrev pub IsRun : {A : Type 0} → Job A → Channels → Channels → Ran → Type 0
+IsRun {A} job before after ran = (d : Done A) × IsDone job before.input after.input before.output after.output d
+    × (ran ≡ done_ran d) × IsDoneDiagnosed d before.errors after.errors

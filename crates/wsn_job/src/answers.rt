@@ -1,8 +1,7 @@
 //! What a run answered, by what its work came to.
 
 ghost use Rattle.std.specs.Prelude.{◌≡◌};
-ghost use Rattle.wsn_job.specs.Answers.{verdict_answer};
-ghost use Rattle.wsn_job.specs.OtherAnswers.{plan_answer, recut_answer, payload_answer, report_answer, redacted_answer, compared_answer};
+ghost use Rattle.wsn_job.specs.Answers.{verdict_answer, plan_answer, recut_answer, payload_answer, report_answer, redacted_answer, compared_answer};
 
 use std::alloc::Allocator;
 use wsn_capture::{CaptureReport, CaptureStop};

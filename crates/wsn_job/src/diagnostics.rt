@@ -1,5 +1,8 @@
 ghost use Rattle.std.specs.Prelude.{◌≡◌, false};
-ghost use Rattle.wsn_job.specs.Words.{verdict_line, IsDiagnosed, IsStopDiagnosed, stop_line, line_fault_line, fault_word};
+ghost use Rattle.wsn_print.specs.VerdictText.{verdict_line};
+ghost use Rattle.wsn_job.specs.Diagnostics.{IsDiagnosed, IsStopDiagnosed};
+ghost use Rattle.wsn_print.specs.FaultText.{stop_line, line_fault_line};
+ghost use Rattle.wsn_capture.specs.LineFaults.{fault_word};
 
 use std::io::Write;
 use wsn_capture::LineFault;

@@ -3,7 +3,7 @@
 //!
 //! [`run`] does a [`Job`], the work of a command that reads one input; [`run_same`] compares two inputs.
 //! [`run_on_side`] and [`run_same_on_sides`] do the same over one endpoint's side of a capture, and report a line that
-//! isn't accepted; [`run_named_closing`] judges one of several captures. `specs/Jobs.antt` defines what a run does, from
+//! isn't accepted; [`run_named_closing`] judges one of several captures. `specs/Work.antt` defines what a run does, from
 //! the definitions of the single commands beside it, and `specs/Sides.antt` what a run over a side does.
 //! [`status_examples`] has exit statuses that are computed from them.
 #![tactic(auto)]

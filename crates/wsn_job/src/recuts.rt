@@ -1,5 +1,7 @@
 ghost use Rattle.std.specs.Prelude.{◌≡◌, false};
-ghost use Rattle.wsn_job.specs.Words.{IsRecut, IsRecutDiagnosed, MayRecut, planned_by, recut_status};
+ghost use Rattle.wsn_plan.specs.Recutting.{IsRecut};
+ghost use Rattle.wsn_job.specs.Recuts.{IsRecutDiagnosed, planned_by, recut_status};
+ghost use Rattle.wsn_command.specs.Jobs.{MayRecut};
 
 use crate::diagnostics::{diagnose, diagnose_stop, diagnose_verdict};
 use std::alloc::Allocator;

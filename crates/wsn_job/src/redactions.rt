@@ -1,6 +1,6 @@
 ghost use Rattle.std.specs.Prelude.{◌≡◌};
 ghost use Rattle.wsn_job.specs.Diagnostics.{IsDiagnosed};
-ghost use Rattle.wsn_job.specs.Redactions.{IsRedactDiagnosed, redact_capture_status, redact_status, redact_stop_line};
+ghost use Rattle.wsn_job.specs.Redactions.{IsRedactDiagnosed, redact_status, redact_stop_line};
 
 use crate::diagnostics::{diagnose_line_fault, diagnose_stop};
 use std::io::Write;
@@ -21,7 +21,7 @@ pub(crate) fn status(done: Result<Verdict, Stop>) -> u8
 
 /// The program's exit status for a capture.
 pub(crate) fn capture_status(done: Result<(), RedactStop>) -> u8
-    ensures { result ≡ redact_capture_status done }
+    ensures { result ≡ redact_status done }
 {
     match done {
         Ok(()) => 0,

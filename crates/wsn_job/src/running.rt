@@ -1,8 +1,7 @@
 ghost use Rattle.std.specs.Prelude.{◌≡◌, ◌⊎◌, false, true};
 ghost use Rattle.wsn_command.specs.Jobs.{MayRun};
-ghost use Rattle.wsn_job.specs.Jobs.{IsRun};
 ghost use Rattle.wsn_job.specs.Channels.{channels};
-ghost use Rattle.wsn_job.specs.Work.{IsDone, done_status};
+ghost use Rattle.wsn_job.specs.Work.{IsDone, IsRun, done_status};
 
 use crate::closings::print_report;
 use crate::done::Done;

@@ -1,8 +1,10 @@
 ghost use Rattle.std.specs.Prelude.{◌≡◌, ◌⊎◌, false, true, Result, IfSome};
-ghost use Rattle.wsn_job.specs.Channels.{channels};
-ghost use Rattle.wsn_job.specs.ComparedChannels.{compared_channels};
+ghost use Rattle.wsn_job.specs.Channels.{channels, compared_channels};
 ghost use Rattle.wsn_job.specs.Sides.{MayRunOnSide, IsRunOnSide, IsFaultySide, IsFirstFaultySide, IsSameDiagnosed};
-ghost use Rattle.wsn_job.specs.Words.{Stop, Compared, IsComparisonPrinted, comparison_status};
+ghost use Rattle.wsn_io.specs.declared.stop.Stop.{Stop};
+ghost use Rattle.wsn_rules.specs.declared.compared.Compared.{Compared};
+ghost use Rattle.wsn_job.specs.Comparisons.{IsComparisonPrinted};
+ghost use Rattle.wsn_print.specs.Statuses.{comparison_status};
 
 use crate::answers;
 use crate::comparisons::print_comparison;
@@ -25,7 +27,9 @@ struct FaultyLine {
 }
 
 impl FaultyLine {
-    ghost use Rattle.wsn_job.specs.Words.{IsDiagnosed, line_fault_line, fault_word};
+    ghost use Rattle.wsn_job.specs.Diagnostics.{IsDiagnosed};
+    ghost use Rattle.wsn_print.specs.FaultText.{line_fault_line};
+    ghost use Rattle.wsn_capture.specs.LineFaults.{fault_word};
 
     /// Writes `line N: WORD` to `errors`.
     #[tactic(none)]

@@ -1,5 +1,6 @@
 ghost use Rattle.std.specs.Prelude.{◌≡◌, false};
-ghost use Rattle.wsn_job.specs.Words.{IsVerdictPrinted, IsVerdictDiagnosed};
+ghost use Rattle.wsn_job.specs.Verdicts.{IsVerdictPrinted};
+ghost use Rattle.wsn_job.specs.Diagnostics.{IsVerdictDiagnosed};
 
 use crate::diagnostics::{diagnose_stop, diagnose_verdict};
 use std::io::{Read, Write};

@@ -5,7 +5,7 @@ use Rattle.std.proofs.Math.Seq.{take-append-add}
 use Rattle.std.proofs.KnownBytes.{Appends-trans}
 use Rattle.std.specs.Io.KnownBytes.{Appends}
 use Rattle.wsn_wire.specs.declared.endpoint.Role.{Role}
-use Rattle.wsn_io.specs.Transfer.{Incoming, Outgoing, IsWrittenUpToFailure}
+use Rattle.wsn_io.specs.Transfer.{Incoming, Outgoing, IsWrittenUpToFailure, IsWrittenBut}
 use Rattle.wsn_rules.specs.declared.head_info.HeadInfo.{HeadInfo}
 use Rattle.wsn_rules.specs.declared.verdict.Refusal.{Refusal}
 use Rattle.wsn_rules.specs.declared.verdict.Verdict.{Verdict}
@@ -23,7 +23,7 @@ use Rattle.wsn_scan.specs.ChunkReaders.{HasCome, IsEndOf, IsHaltOf}
 use Rattle.wsn_scan.specs.Judging.{HasVerdictAndHeads, IsJudgedOf, IsReached, chunk_size}
 use Rattle.wsn_print.specs.declared.format.Format.{Format}
 use Rattle.wsn_print.specs.Formats.{heads_text, verdict_text}
-use Rattle.wsn_list.specs.Listing.{listing, IsReadUpToRefusal, IsEnded, IsListedChunk, IsListedButChunk, IsListedAs}
+use Rattle.wsn_list.specs.Listing.{listing, IsReadUpToRefusal, IsEnded, IsListedChunk, IsListedAs, IsHeadsText}
 use Rattle.wsn_rules.proofs.OneVerdict.{one_verdict}
 use Rattle.wsn_scan.proofs.ChunksSoFar.{received, within_limit}
 use Rattle.wsn_scan.proofs.Unrefused.{place_after, reported_so_far, reported_refused}
@@ -124,10 +124,12 @@ module _ (format : Format) (role : Role) (limits : Limits) where
           last = [];
           whole = sym (append-nil came);
           short = omega arith;
-          heads = heads;
-          are_heads = (verdict, reported);
-          more = take is_end.1.1.0 (verdict_text format verdict);
-          written = Appends-trans before.written mid.written after.written (heads_text format heads) (take is_end.1.1.0 (verdict_text format verdict)) lines is_end.1.1.1;
+          written = (
+            heads_text format heads,
+            take is_end.1.1.0 (verdict_text format verdict),
+            (heads, (verdict, reported), refl),
+            Appends-trans before.written mid.written after.written (heads_text format heads) (take is_end.1.1.0 (verdict_text format verdict)) lines is_end.1.1.1,
+          );
         };
       })
 
@@ -144,36 +146,36 @@ module _ (format : Format) (role : Role) (limits : Limits) where
   -- The scan got the next chunk.
   module _ (old mid new : Incoming) (before mid_out after : Outgoing) (chunks later_chunks : ChunkReader) (scan next : Scan) (came : List ℕ) (heads : List HeadInfo) (read : HasRead role limits old mid chunks scan came heads)
       (lines : Appends before.written mid_out.written (heads_text format heads)) (unfailed : mid_out.failed ≡ false)
-      (piece : List ℕ) (come : HasCome limits old new later_chunks (came ++ piece)) (short : length piece + length come.past ≤ chunk_size) where
+      (chunk : List ℕ) (come : HasCome limits old new later_chunks (came ++ chunk)) (short : length chunk + length come.past ≤ chunk_size) where
     abbrev all_came : List ℕ
-    all_came = (came ++ piece) ++ come.past
+    all_came = (came ++ chunk) ++ come.past
 
-    after_came : all_came ≡ came ++ (piece ++ come.past)
-    after_came = append_assoc came piece come.past
+    after_came : all_came ≡ came ++ (chunk ++ come.past)
+    after_came = append_assoc came chunk come.past
 
-    short_last : length (piece ++ come.past) ≤ chunk_size
-    short_last = omega (arith, short, length-append piece come.past)
+    short_last : length (chunk ++ come.past) ≤ chunk_size
+    short_last = omega (arith, short, length-append chunk come.past)
 
     -- a refusal stays, whatever follows what the scan has consumed
-    reported_after : (refusal : Refusal) (fed : HasFed scan next piece (Some refusal)) (later : List ℕ) → HasVerdictAndHeads role limits ((came ++ take fed.count piece) ++ later) (heads ++ fed.heads) (Refused refusal)
-    reported_after refusal fed later = reported_refused role limits next (came ++ take fed.count piece) later (heads ++ fed.heads) refusal (fed.consumes role limits came heads read.taken) (sym fed.answered)
+    reported_after : (refusal : Refusal) (fed : HasFed scan next chunk (Some refusal)) (later : List ℕ) → HasVerdictAndHeads role limits ((came ++ take fed.count chunk) ++ later) (heads ++ fed.heads) (Refused refusal)
+    reported_after refusal fed later = reported_refused role limits next (came ++ take fed.count chunk) later (heads ++ fed.heads) refusal (fed.consumes role limits came heads read.taken) (sym fed.answered)
 
     -- the scan refused the chunk
-    reported_refusal : (refusal : Refusal) (fed : HasFed scan next piece (Some refusal)) → HasVerdictAndHeads role limits (came ++ piece) (heads ++ fed.heads) (Refused refusal)
+    reported_refusal : (refusal : Refusal) (fed : HasFed scan next chunk (Some refusal)) → HasVerdictAndHeads role limits (came ++ chunk) (heads ++ fed.heads) (Refused refusal)
     reported_refusal refusal fed =
         subst (λ (bs : List ℕ). HasVerdictAndHeads role limits bs (heads ++ fed.heads) (Refused refusal))
-        (append_assoc came (take fed.count piece) (drop fed.count piece) ∙ ap (λ (bs : List ℕ). came ++ bs) (take-append-drop fed.count piece)) (reported_after refusal fed (drop fed.count piece))
+        (append_assoc came (take fed.count chunk) (drop fed.count chunk) ∙ ap (λ (bs : List ℕ). came ++ bs) (take-append-drop fed.count chunk)) (reported_after refusal fed (drop fed.count chunk))
 
-    reported_within : (refusal : Option Refusal) (fed : HasFed scan next piece refusal) → (verdict : Verdict) × HasVerdictAndHeads role limits (came ++ piece) (heads ++ fed.heads) verdict
-    reported_within None fed = reported_so_far role limits next (came ++ piece) (heads ++ fed.heads) (taken_whole role limits old mid chunks scan came heads read new later_chunks next piece come fed) (sym fed.answered)
+    reported_within : (refusal : Option Refusal) (fed : HasFed scan next chunk refusal) → (verdict : Verdict) × HasVerdictAndHeads role limits (came ++ chunk) (heads ++ fed.heads) verdict
+    reported_within None fed = reported_so_far role limits next (came ++ chunk) (heads ++ fed.heads) (taken_whole role limits old mid chunks scan came heads read new later_chunks next chunk come fed) (sym fed.answered)
     reported_within (Some refusal) fed = (Refused refusal, reported_refusal refusal fed)
 
-    all_lines : (refusal : Option Refusal) (listed : IsListedChunk format scan next mid_out after piece refusal) → IsWrittenUpToFailure before after (heads_text format (heads ++ listed.fed.heads))
+    all_lines : (refusal : Option Refusal) (listed : IsListedChunk format scan next mid_out after chunk refusal) → IsWrittenUpToFailure before after (heads_text format (heads ++ listed.fed.heads))
     all_lines refusal listed =
         lines_on format before after heads listed.fed.heads (prints_on before mid_out after (heads_text format heads) (heads_text format listed.fed.heads) unfailed (inl (unfailed, lines)) listed.printed)
 
     -- all of them, if no write has failed
-    sent : (refusal : Option Refusal) (listed : IsListedChunk format scan next mid_out after piece refusal) → after.failed ≡ false → Appends before.written after.written (heads_text format (heads ++ listed.fed.heads))
+    sent : (refusal : Option Refusal) (listed : IsListedChunk format scan next mid_out after chunk refusal) → after.failed ≡ false → Appends before.written after.written (heads_text format (heads ++ listed.fed.heads))
     sent refusal listed went = of (all_lines refusal listed)
       where
         of : IsWrittenUpToFailure before after (heads_text format (heads ++ listed.fed.heads)) → Appends before.written after.written (heads_text format (heads ++ listed.fed.heads))
@@ -181,43 +183,45 @@ module _ (format : Format) (role : Role) (limits : Limits) where
         of (inr front) = let both : true ≡ false = sym front.0 ∙ went in absurd cc
 
     -- the heads of the bytes within the limit
-    reported_limit : (more : List HeadInfo) (verdict : Verdict) → HasVerdictAndHeads role limits (came ++ piece) more verdict → HasVerdictAndHeads role limits (take limits.input all_came) more verdict
-    reported_limit more verdict reported = subst (λ (bs : List ℕ). HasVerdictAndHeads role limits bs more verdict) (sym (within_limit limits old new later_chunks (came ++ piece) come)) reported
+    reported_limit : (more : List HeadInfo) (verdict : Verdict) → HasVerdictAndHeads role limits (came ++ chunk) more verdict → HasVerdictAndHeads role limits (take limits.input all_came) more verdict
+    reported_limit more verdict reported = subst (λ (bs : List ℕ). HasVerdictAndHeads role limits bs more verdict) (sym (within_limit limits old new later_chunks (came ++ chunk) come)) reported
 
     -- the bytes before the chunk are not refused
     read_up : IsReadUpToRefusal role limits all_came
     read_up fs place reason refused =
         omega (
           arith,
-          place_after role limits came (piece ++ come.past) fs place reason (none_refused role limits old mid chunks scan came heads read) (subst (λ (bs : List ℕ). IsRefused role limits bs fs place reason) after_came refused),
-          length-append (came ++ piece) come.past,
-          length-append came piece,
+          place_after role limits came (chunk ++ come.past) fs place reason (none_refused role limits old mid chunks scan came heads read) (subst (λ (bs : List ℕ). IsRefused role limits bs fs place reason) after_came refused),
+          length-append (came ++ chunk) come.past,
+          length-append came chunk,
           short,
         )
 
     -- a write failed
-    pub list_failed : (refusal : Option Refusal) → IsListedChunk format scan next mid_out after piece refusal → after.failed ≡ true → IsListedAs format role limits old new before after (Err stop.Write)
+    pub list_failed : (refusal : Option Refusal) → IsListedChunk format scan next mid_out after chunk refusal → after.failed ≡ true → IsListedAs format role limits old new before after (Err stop.Write)
     list_failed refusal listed broke =
         let reported = reported_within refusal listed.fed in
         record {
           came = all_came;
-          received = received limits old new later_chunks (came ++ piece) come;
+          received = received limits old new later_chunks (came ++ chunk) come;
           answer = (come.unfailed, read_up);
           printed = (heads ++ listed.fed.heads, reported.0, reported_limit (heads ++ listed.fed.heads) reported.0 reported.1, (broke, of (all_lines refusal listed)));
           at_once = λ _. but_chunk listed.printed;
         }
       where
-        but_chunk : IsWrittenUpToFailure mid_out after (heads_text format listed.fed.heads) → IsListedButChunk format role limits all_came before after
+        but_chunk : IsWrittenUpToFailure mid_out after (heads_text format listed.fed.heads) → IsWrittenBut chunk_size (IsHeadsText format role limits) all_came before after
         but_chunk (inl all) = let both : true ≡ false = sym broke ∙ all.0 in absurd cc
         but_chunk (inr front) = record {
           done = came;
-          last = piece ++ come.past;
+          last = chunk ++ come.past;
           whole = after_came;
           short = short_last;
-          heads = heads;
-          are_heads = reported_so_far role limits scan came heads read.taken read.none;
-          more = take front.1.0 (heads_text format listed.fed.heads);
-          written = Appends-trans before.written mid_out.written after.written (heads_text format heads) (take front.1.0 (heads_text format listed.fed.heads)) lines front.1.1;
+          written = (
+            heads_text format heads,
+            take front.1.0 (heads_text format listed.fed.heads),
+            (heads, reported_so_far role limits scan came heads read.taken read.none, refl),
+            Appends-trans before.written mid_out.written after.written (heads_text format heads) (take front.1.0 (heads_text format listed.fed.heads)) lines front.1.1,
+          );
         }
 
         of : IsWrittenUpToFailure before after (heads_text format (heads ++ listed.fed.heads)) → (k : ℕ) × Appends before.written after.written (take k (listing format (heads ++ listed.fed.heads) (reported_within refusal listed.fed).0))
@@ -225,20 +229,20 @@ module _ (format : Format) (role : Role) (limits : Limits) where
         of (inr front) = front_of_listing before after (heads ++ listed.fed.heads) (reported_within refusal listed.fed).0 front.1.0 front.1.1
 
     -- a refusal
-    pub list_refused : (last : Outgoing) (refusal : Refusal) (result : Result Verdict Stop) → IsListedChunk format scan next mid_out after piece (Some refusal) → after.failed ≡ false
+    pub list_refused : (last : Outgoing) (refusal : Refusal) (result : Result Verdict Stop) → IsListedChunk format scan next mid_out after chunk (Some refusal) → after.failed ≡ false
         → IsEnded format after last (Refused refusal) result → IsListedAs format role limits old new before last result
     list_refused last refusal result listed went is_end =
         let fed = listed.fed in
         let cut = reported_refusal refusal fed in
-        let parts : (came ++ take fed.count piece) ++ (drop fed.count piece ++ come.past) ≡ all_came =
-        sym (append_assoc (came ++ take fed.count piece) (drop fed.count piece) come.past)
-        ∙ ap (λ (bs : List ℕ). bs ++ come.past) (append_assoc came (take fed.count piece) (drop fed.count piece) ∙ ap (λ (bs : List ℕ). came ++ bs) (take-append-drop fed.count piece)) in
+        let parts : (came ++ take fed.count chunk) ++ (drop fed.count chunk ++ come.past) ≡ all_came =
+        sym (append_assoc (came ++ take fed.count chunk) (drop fed.count chunk) come.past)
+        ∙ ap (λ (bs : List ℕ). bs ++ come.past) (append_assoc came (take fed.count chunk) (drop fed.count chunk) ∙ ap (λ (bs : List ℕ). came ++ bs) (take-append-drop fed.count chunk)) in
         prints_verdict old new before after last all_came (heads ++ fed.heads) (Refused refusal) result
-        (refuses_input role limits old mid chunks scan came heads read new later_chunks next piece come short refusal fed)
-        (subst (λ (bs : List ℕ). HasVerdictAndHeads role limits bs (heads ++ fed.heads) (Refused refusal)) parts (reported_after refusal fed (drop fed.count piece ++ come.past)))
+        (refuses_input role limits old mid chunks scan came heads read new later_chunks next chunk come short refusal fed)
+        (subst (λ (bs : List ℕ). HasVerdictAndHeads role limits bs (heads ++ fed.heads) (Refused refusal)) parts (reported_after refusal fed (drop fed.count chunk ++ come.past)))
         (reported_limit (heads ++ fed.heads) (Refused refusal) cut) (sent (Some refusal) listed went) is_end
 
     -- all was consumed
-    pub list_goes_on : IsListedChunk format scan next mid_out after piece None → after.failed ≡ false
+    pub list_goes_on : IsListedChunk format scan next mid_out after chunk None → after.failed ≡ false
         → (all : List ℕ) × (more : List HeadInfo) × HasRead role limits old new later_chunks next all more × Appends before.written after.written (heads_text format more)
-    list_goes_on listed went = (came ++ piece, heads ++ listed.fed.heads, goes_on role limits old mid chunks scan came heads read new later_chunks next piece come listed.fed, sent None listed went)
+    list_goes_on listed went = (came ++ chunk, heads ++ listed.fed.heads, goes_on role limits old mid chunks scan came heads read new later_chunks next chunk come listed.fed, sent None listed went)

@@ -1,10 +1,9 @@
 -- What is printed of a stream: a line for each of its heads, and one for its verdict, in a format.
 use Rattle.std.specs.Prelude.{◌≡◌, ℕ, ◌+◌, ◌<◌, ◌≤◌, false, Option, Result, Ok, Err, List, ◌++◌, length, take, ⊤}
-use Rattle.std.specs.Io.KnownBytes.{Appends}
 use Rattle.wsn_wire.specs.declared.endpoint.Role.{Role}
 use Rattle.wsn_wire.specs.declared.refusal.Reason.{Reason}
 use Rattle.wsn_wire.specs.Frame.{Frame}
-use Rattle.wsn_io.specs.Transfer.{Incoming, Outgoing, IsReceived, IsWritten, IsPartlyWritten, IsWrittenUpToFailure}
+use Rattle.wsn_io.specs.Transfer.{Incoming, Outgoing, IsReceived, IsWritten, IsPartlyWritten, IsWrittenUpToFailure, IsWrittenBut}
 use Rattle.wsn_rules.specs.declared.head_info.HeadInfo.{HeadInfo}
 use Rattle.wsn_rules.specs.declared.verdict.Verdict.{Verdict}
 use Rattle.wsn_io.specs.declared.stop.Stop.{Stop}
@@ -23,11 +22,11 @@ use Rattle.wsn_scan.specs.Judging.{HasVerdictAndHeads, IsJudgeAnswer, IsUnrefuse
 abbrev pub listing : Format → List HeadInfo → Verdict → List ℕ
 listing format heads verdict = heads_text format heads ++ verdict_text format verdict
 
--- The scan has consumed the piece up to a refusal, if there is one, and the lines of the heads that it reported were
+-- The scan has consumed the chunk up to a refusal, if there is one, and the lines of the heads that it reported were
 -- written, up to a failed write.
-pub record IsListedChunk (format : Format) (old new : Scan) (before after : Outgoing) (piece : List ℕ)
+pub record IsListedChunk (format : Format) (old new : Scan) (before after : Outgoing) (chunk : List ℕ)
     (refusal : Option Refusal) : Type 0 where
-  pub fed : HasFed old new piece refusal
+  pub fed : HasFed old new chunk refusal
   pub printed : IsWrittenUpToFailure before after (heads_text format fed.heads)
 
 -- This text was written after what was printed before, up to a failed write.
@@ -82,27 +81,20 @@ abbrev pub IsListAnswer : Role → Limits → Incoming → List ℕ → Result V
 IsListAnswer role limits new came (Err stop.Write) = (new.failed ≡ false) × IsReadUpToRefusal role limits came
 IsListAnswer role limits new came result = IsJudgeAnswer role limits new came result
 
--- All but at most the last chunk of these bytes was listed: the lines of all heads in the bytes before it were written.
-pub record IsListedButChunk (format : Format) (role : Role) (limits : Limits) (came : List ℕ) (before after : Outgoing)
-    : Type 0 where
-  pub done : List ℕ
-  pub last : List ℕ
-  pub whole : came ≡ done ++ last
-  pub short : length last ≤ chunk_size
-  pub heads : List HeadInfo
-  pub are_heads : (verdict : Verdict) × HasVerdictAndHeads role limits done heads verdict
-  pub more : List ℕ
-  pub written : Appends before.written after.written (heads_text format heads ++ more)
+-- This is the text of the lines of all heads in the bytes.
+abbrev pub IsHeadsText : Format → Role → Limits → List ℕ → List ℕ → Type 0
+IsHeadsText format role limits bytes text = (heads : List HeadInfo)
+    × ((verdict : Verdict) × HasVerdictAndHeads role limits bytes heads verdict) × (text ≡ heads_text format heads)
 
 -- These bytes came from the input, at most one past its limit. The answer is right for them, and this was printed of
--- them. After a failed write nothing more was read.
+-- them. After a failed write nothing more was read: of all but at most the last chunk, the heads' lines were written.
 pub record IsListedAs (format : Format) (role : Role) (limits : Limits) (old new : Incoming)
     (before after : Outgoing) (result : Result Verdict Stop) : Type 0 where
   pub came : List ℕ
   pub received : IsReceived (limits.input + 1) old new came
   pub answer : IsListAnswer role limits new came result
   pub printed : IsPrinted format role limits came before after result
-  pub at_once : result ≡ Err stop.Write → IsListedButChunk format role limits came before after
+  pub at_once : result ≡ Err stop.Write → IsWrittenBut chunk_size (IsHeadsText format role limits) came before after
 
 -- The same of a listing in words.
 abbrev pub IsListed :

@@ -76,62 +76,62 @@ fn end<W: Write>(output: &mut Output<W>, format: Format, verdict: Verdict) -> Re
     Ok(verdict)
 }
 
-/// Feeds the piece to the scan, all of it or the bytes up to a refusal, and prints the head of each frame that begins:
+/// Feeds the chunk to the scan, all of it or the bytes up to a refusal, and prints the head of each frame that begins:
 /// many lines by one write, and all of them before it returns. Returns the refusal, if there is one. `lines` is empty
 /// before and afterwards. After a failed write it scans on and prints nothing.
 #[tactic(none)]
 fn list_chunk<W: Write>(
     scan: &mut Scan,
-    piece: &mut [u8],
+    chunk: &mut [u8],
     lines: &mut HeadLines,
     output: &mut Output<W>,
     format: Format,
 ) -> Option<Refusal>
     requires begun { IsRunning scan.old }
-    requires fits { length piece.old ≤ room_of scan.old }
+    requires fits { length chunk.old ≤ room_of scan.old }
     requires writable { output.old.failed ≡ false }
     requires none_held { lines.old ≡ [] }
-    ensures listed { IsListedChunk format scan.old scan.new output.old output.new piece.old result }
+    ensures listed { IsListedChunk format scan.old scan.new output.old output.new chunk.old result }
     ensures none_held { lines.new ≡ [] }
 {
     let mut part = Part::new();
     let mut at = 0;
-    while at < piece.len() {
-        let (taken, found) = scan.next(&mut piece[at..], &mut part);
+    while at < chunk.len() {
+        let (taken, found) = scan.next(&mut chunk[at..], &mut part);
         at += taken;
         if let Taken::Refused = found {
             break;
         }
         list_head(found, &part, lines, output, format);
-        at += list_events(scan, &mut piece[at..], lines, output, format);
+        at += list_events(scan, &mut chunk[at..], lines, output, format);
     }
     print_lines(lines, output);
     scan.refusal()
 }
 
-/// Consumes frames at the start of the piece, up to the first that [`Scan::next_event`] leaves, and adds their heads to
+/// Consumes frames at the start of the chunk, up to the first that [`Scan::next_event`] leaves, and adds their heads to
 /// the lines. Returns the number of bytes.
 #[inline(always)]
 #[tactic(none)]
 fn list_events<W: Write>(
     scan: &mut Scan,
-    piece: &mut [u8],
+    chunk: &mut [u8],
     lines: &mut HeadLines,
     output: &mut Output<W>,
     format: Format,
 ) -> usize
-    requires { length piece.old ≤ room_of scan.old }
-    ensures listed { IsBytes piece.old → (heads : List HeadInfo)
-        × ConsumesPrefix scan.old scan.new piece.old result heads
+    requires { length chunk.old ≤ room_of scan.old }
+    ensures listed { IsBytes chunk.old → (heads : List HeadInfo)
+        × ConsumesPrefix scan.old scan.new chunk.old result heads
         × ListsMore format output.old output.new lines.old lines.new heads }
-    ensures within { result ≤ length piece.old }
-    ensures kept { drop result piece.new ≡ drop result piece.old }
+    ensures within { result ≤ length chunk.old }
+    ensures kept { drop result chunk.new ≡ drop result chunk.old }
     ensures room { room_of scan.new + result ≡ room_of scan.old }
 {
     if !scan.is_idle() {
         return 0;
     }
-    list_run(scan, piece, lines, output, format)
+    list_run(scan, chunk, lines, output, format)
 }
 
 /// Does what [`list_events`] does.
@@ -139,21 +139,21 @@ fn list_events<W: Write>(
 #[tactic(none)]
 fn list_run<W: Write>(
     scan: &mut Scan,
-    piece: &mut [u8],
+    chunk: &mut [u8],
     lines: &mut HeadLines,
     output: &mut Output<W>,
     format: Format,
 ) -> usize
-    requires { length piece.old ≤ room_of scan.old }
-    ensures listed { IsBytes piece.old → (heads : List HeadInfo)
-        × ConsumesPrefix scan.old scan.new piece.old result heads
+    requires { length chunk.old ≤ room_of scan.old }
+    ensures listed { IsBytes chunk.old → (heads : List HeadInfo)
+        × ConsumesPrefix scan.old scan.new chunk.old result heads
         × ListsMore format output.old output.new lines.old lines.new heads }
-    ensures within { result ≤ length piece.old }
-    ensures kept { drop result piece.new ≡ drop result piece.old }
+    ensures within { result ≤ length chunk.old }
+    ensures kept { drop result chunk.new ≡ drop result chunk.old }
     ensures room { room_of scan.new + result ≡ room_of scan.old }
 {
     let mut at = 0;
-    while let Some((taken, head)) = scan.next_event(&mut piece[at..]) {
+    while let Some((taken, head)) = scan.next_event(&mut chunk[at..]) {
         at += taken;
         make_room(lines, output);
         lines.add(format, &head);

@@ -1,11 +1,9 @@
 -- What settings ask for.
-use Rattle.std.specs.Prelude.{◌≡◌, ◌==◌, ◌^◌, ℕ, min, if◌then◌else◌, Option, None, Some}
+use Rattle.std.specs.Prelude.{◌≡◌, ◌==◌, ◌^◌, min, if◌then◌else◌, None, Some}
 use Rattle.wsn_wire.specs.declared.endpoint.Role.{Role}
 use Rattle.wsn_wire.specs.declared.endpoint.Role.TheVariants.{Client, Server}
-use Rattle.wsn_wire.specs.declared.length_forms.Lengths.{Lengths}
 use Rattle.wsn_wire.specs.declared.length_forms.Lengths.TheVariants.{Shortest, Any}
 use Rattle.wsn_rules.specs.Limits.{Limits}
-use Rattle.wsn_rules.specs.declared.detail.Detail.{Detail}
 use Rattle.wsn_rules.specs.declared.detail.Detail.TheVariants.{Events, Frames}
 use Rattle.wsn_print.specs.declared.format.Format.TheVariants.{Json}
 use Rattle.wsn_print.specs.declared.style.Style.{Style}
@@ -15,29 +13,17 @@ use Rattle.wsn_page.specs.declared.settings.Settings.{Settings}
 abbrev pub role_asked : Settings → Role
 role_asked settings = if settings.role == 0 then Client else Server
 
--- the accepted encodings of a length
-abbrev pub lengths_asked : Settings → Lengths
-lengths_asked settings = if settings.lengths == 0 then Shortest else Any
-
--- the maximum number of frames in a message; the number 0 stands for any number
-abbrev pub frames_asked : Settings → Option ℕ
-frames_asked settings = if settings.frames == 0 then None else Some settings.frames
-
--- the limits; an input may have 2^40 bytes
+-- the limits: 0 stands for any number of frames in a message, and an input may have 2^40 bytes
 abbrev pub limits_asked : Settings → Limits
 limits_asked settings = record {
   message = min settings.limit 16777216;
   input = 2 ^ 40;
-  frames = frames_asked settings;
-  lengths = lengths_asked settings;
+  frames = if settings.frames == 0 then None else Some settings.frames;
+  lengths = if settings.lengths == 0 then Shortest else Any;
 }
 
--- whether events or frames are shown
-abbrev pub detail_asked : Settings → Detail
-detail_asked settings = if settings.detail == 0 then Events else Frames
-
--- The style that is asked for: JSON objects, with as much of a payload as can be shown.
+-- The style that is asked for: JSON objects of events or of frames, with as much of a payload as can be shown.
 pub record IsStyleAsked (settings : Settings) (style : Style) : Type 0 where
   pub view : style.view ≡ 4096
-  pub detail : style.detail ≡ detail_asked settings
+  pub detail : style.detail ≡ (if settings.detail == 0 then Events else Frames)
   pub format : style.format ≡ Json

@@ -1,7 +1,9 @@
 ghost use Rattle.std.specs.Prelude.{◌≡◌};
-ghost use Rattle.wsn_page.specs.Calls.{Gives, call, fitted, capture_stop_line, redacted_message, shown_message, stream_message};
+ghost use Rattle.wsn_page.specs.Calls.{call, redacted_message, shown_message, stream_message};
+ghost use Rattle.wsn_job.specs.Calls.{Gives, fitted};
 ghost use Rattle.wsn_job.specs.Closings.{closing_status};
-ghost use Rattle.wsn_job.specs.Redactions.{redact_capture_status, redact_status};
+ghost use Rattle.wsn_job.specs.Diagnostics.{capture_stop_line};
+ghost use Rattle.wsn_job.specs.Redactions.{redact_status};
 ghost use Rattle.wsn_print.specs.Statuses.{verdict_status};
 
 use crate::answer::Answer;
@@ -62,7 +64,7 @@ pub(crate) fn give_redacted(
     message: &mut [u8],
 ) -> Answer
     ensures { Gives (call output.old output.new message.old message.new result) text.now (redacted_message done)
-        (redact_capture_status done) }
+        (redact_status done) }
 {
     match done {
         Ok(()) => give(0, text, b"", output, message),

@@ -137,9 +137,9 @@ module _ (role : Role) (limits : Limits) (bytes : List ℕ) where
     pub never_inside : (start : EventStart) (w : IsInsideAt role limits bytes place start) (extra : List Frame) → fs ≡ w.before ++ extra → ⊥
     never_inside start w [] goes =
         let past = (subst (λ (hs : List Frame). ArePast hs place) (sym parts ∙ goes ∙ append-nil w.before) (past_within before later f place final refl)).over in
-        let from = w.from in
+        let from = w.elsewhere.from in
         let there = (head_of_inside place start w).head.place in
         omega (arith, past, from, there)
     never_inside start w (x ∷ rest) goes =
         let is = head_of_next w.before w.info (head_of_inside place start w) x rest after (subst (IsLawful role limits) goes lawful) (whole ∙ ap (λ (hs : List Frame). stream hs ++ after) goes) in
-        elsewhere before later w.before rest f x w.info (sym parts ∙ goes) final is w.from w.to (λ same. w.elsewhere (w.is_start.offset ∙ same))
+        elsewhere before later w.before rest f x w.info (sym parts ∙ goes) final is w.elsewhere.from w.elsewhere.to (λ same. w.elsewhere.other (w.elsewhere.is_start.offset ∙ same))

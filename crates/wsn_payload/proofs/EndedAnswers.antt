@@ -1,6 +1,5 @@
 -- The answer where the stream has its verdict and no event has begun at the offset.
-use Rattle.std.proofs.Common.{◌≡◌, ◌≢◌, ℕ, ◌+◌, ◌<◌, ◌≤◌, ◌⊎◌, Bool, true, false, Option, None, Some, List, [], ◌∷◌, ◌++◌, length, take, if◌then◌else◌, inl, inr, refl, sym, ap, ◌∙◌, subst, arith, length-append, ltb-true, ltb-false, leb-true, leb-false}
-use Rattle.std.specs.Prelude.{nat_lt, nat_le}
+use Rattle.std.proofs.Common.{◌≡◌, ℕ, ◌+◌, ◌<◌, ◌≤◌, ◌⊎◌, Bool, true, false, Option, None, Some, List, length, inl, inr, refl, sym, ap, ◌∙◌, arith, ltb-true, ltb-false, leb-true, leb-false}
 use Rattle.std.proofs.lemmas.Bool.{cond-false}
 use Rattle.std.proofs.lemmas.List.{length-take-le, length-take}
 use Rattle.wsn_wire.specs.declared.endpoint.Role.{Role}
@@ -10,14 +9,14 @@ use Rattle.wsn_rules.specs.declared.verdict.Verdict.{Verdict}
 use Rattle.wsn_rules.specs.declared.verdict.Verdict.TheVariants.{Accepted, Cut, Refused}
 use Rattle.wsn_rules.specs.Accepted.{HasNoClose, EndsWithClose}
 use Rattle.wsn_rules.specs.Limits.{Limits}
-use Rattle.wsn_rules.specs.Verdict.{IsVerdict}
+use Rattle.wsn_rules.specs.Verdict.{IsVerdict, judged_bytes}
 use Rattle.wsn_rules.proofs.StaysRefused.{place_within}
 use Rattle.wsn_scan.specs.Positions.{Position, BetweenFrames, InFrame}
 use Rattle.wsn_payload.specs.declared.answer.Payload.{Payload}
 use Rattle.wsn_payload.specs.declared.answer.Payload.TheVariants.{Unfinished, Head, Nothing}
 use Rattle.wsn_payload.specs.declared.event_at.EventAt.{EventAt}
-use Rattle.wsn_payload.specs.EventsAt.{EndBefore, judged_bytes, AreApart, EndsBefore, IsInHeadAt, IsAfterAll}
-use Rattle.wsn_payload.specs.Following.{next_at, Keeps, is_judged, answer_without_event, ended_answer}
+use Rattle.wsn_payload.specs.EventsAt.{EndBefore, AreApart, EndsBefore, IsInHeadAt, IsAfterAll}
+use Rattle.wsn_payload.specs.Following.{next_at, KeepsEventAt, is_judged, answer_without_event, ended_answer}
 
 -- The offset is in the next frame's head, or it isn't.
 pub data IsAnswered (kept : EventAt) (v : Verdict) (answer : Payload) : Type 0 where
@@ -66,7 +65,7 @@ module _ (role : Role) (limits : Limits) (bytes : List ℕ) (fs : List Frame) (a
       let size = length-take-le (r.place + 1) bytes (place_within role limits fs bytes r.place r.reason is.is_evident) in
       inr (omega (arith, size, leb-false at r.place judged))
 
-  module _ (kept : EventAt) (position : Position) (payload : List ℕ) (k : Keeps kept at fs position payload) (v : Verdict) (a : AreApart role limits bytes v fs position) (end : EndBefore fs position at) where
+  module _ (kept : EventAt) (position : Position) (payload : List ℕ) (k : KeepsEventAt kept at fs position payload) (v : Verdict) (a : AreApart role limits bytes v fs position) (end : EndBefore fs position at) where
     abbrev ends : EndsBefore role limits bytes v at
     ends = record { frames = fs; position = position; are_apart = a; end = end }
 

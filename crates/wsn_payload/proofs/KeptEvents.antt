@@ -11,7 +11,7 @@ use Rattle.wsn_rules.specs.Limits.{Limits}
 use Rattle.wsn_rules.specs.Group.{is_data, unfinished, IsOpen, first_op, payload_of}
 use Rattle.wsn_rules.specs.Heads.{info_of}
 use Rattle.wsn_rules.specs.Lawful.{IsLawful}
-use Rattle.wsn_rules.specs.Meaning.{event_at}
+use Rattle.wsn_rules.specs.Meaning.{event_at, payload_in}
 use Rattle.wsn_rules.specs.ShownStream.{open_offset, event_offset, frame_so_far}
 use Rattle.wsn_rules.proofs.Groups.{unfinished_control, unfinished_final, unfinished_more}
 use Rattle.wsn_rules.proofs.MessageText.{text_of_push}
@@ -19,8 +19,8 @@ use Rattle.wsn_rules.proofs.OpenOffsets.{offset_of_none, offset_after_control, o
 use Rattle.wsn_scan.specs.Positions.{BetweenFrames, InFrame}
 use Rattle.wsn_payload.specs.declared.answer.EventStart.{EventStart}
 use Rattle.wsn_payload.specs.declared.event_at.EventAt.{EventAt}
-use Rattle.wsn_payload.specs.EventsAt.{content, IsOpenAt, IsBegunAt, end_of, EndBefore}
-use Rattle.wsn_payload.specs.Following.{KeepsOpen, KeepsFrame, HasBegunAt, Keeps, MayBegin, IsElsewhere, EndsEvent, own_part}
+use Rattle.wsn_payload.specs.EventsAt.{IsOpenAt, IsBegunAt, end_of, EndBefore, IsElsewhere, EndsEvent}
+use Rattle.wsn_payload.specs.Following.{KeepsOpen, KeepsFrame, HasBegunAt, KeepsEventAt, MayBegin, own_part}
 use Rattle.wsn_scan.proofs.FrameEnds.{first_alike}
 use Rattle.wsn_payload.proofs.OpenMessages.{open_or_not, open_before, offset_of_control, offset_of_data, offset_within, content_of_control, content_of_data, apart_from_control, first_of_more, control_is_final, frame_end}
 
@@ -55,7 +55,7 @@ pub record HasStarts (kept : EventAt) (info : HeadInfo) (message start : EventSt
   pub op : start.op ≡ (if is_control info.op then info.op else message.op)
   pub offset : start.offset ≡ (if is_control info.op then info.place else message.offset)
 
-module _ (kept : EventAt) (at : ℕ) (fs : List Frame) (info : HeadInfo) (text : List ℕ) (may : MayBegin fs info) (k : Keeps kept at fs BetweenFrames text)
+module _ (kept : EventAt) (at : ℕ) (fs : List Frame) (info : HeadInfo) (text : List ℕ) (may : MayBegin fs info) (k : KeepsEventAt kept at fs BetweenFrames text)
     (message start : EventStart) (s : HasStarts kept info message start) where
   abbrev f : Frame
   f = frame_so_far info []
@@ -108,13 +108,13 @@ module _ (kept : EventAt) (at : ℕ) (fs : List Frame) (info : HeadInfo) (text :
     frame_kept begun = (kept_open, joined, own_frame)
 
     -- the frame belongs to the event
-    pub begins_own : own ≡ true → Keeps (record { at = kept.at; message = message; own = own; begun = true; next = None }) at fs (InFrame info []) text
+    pub begins_own : own ≡ true → KeepsEventAt (record { at = kept.at; message = message; own = own; begun = true; next = None }) at fs (InFrame info []) text
     begins_own holds = record { sought = k.sought; frame = frame_kept true; next = refl; begun = inr (begins, by kept.begun k.begun) }
       where
         begins : event_offset fs f ≡ at
         begins = own_frame.0 holds
 
-        by : (b : Bool) → HasBegunAt b fs BetweenFrames at text → text ≡ content (event_at fs f)
+        by : (b : Bool) → HasBegunAt b fs BetweenFrames at text → text ≡ payload_in (event_at fs f)
         by true is =
             elim (cases_Bool (is_control info.op)) [
               | inl control ↦ absurd (apart_from_control fs f at control is.some is.begins begins)
@@ -130,7 +130,7 @@ module _ (kept : EventAt) (at : ℕ) (fs : List Frame) (info : HeadInfo) (text :
             ]
 
     -- it doesn't, and the event has begun
-    pub begins_other : own ≡ false → kept.begun ≡ true → Keeps (record { at = kept.at; message = message; own = own; begun = kept.begun; next = None }) at fs (InFrame info []) text
+    pub begins_other : own ≡ false → kept.begun ≡ true → KeepsEventAt (record { at = kept.at; message = message; own = own; begun = kept.begun; next = None }) at fs (InFrame info []) text
     begins_other fails begun = record { sought = k.sought; frame = frame_kept kept.begun; next = refl; begun = subst (λ (b : Bool). HasBegunAt b fs (InFrame info []) at text) (sym begun) within }
       where
         open_at : IsOpenAt fs at text
@@ -144,7 +144,7 @@ module _ (kept : EventAt) (at : ℕ) (fs : List Frame) (info : HeadInfo) (text :
             ]
 
     -- it ends before the offset
-    pub begins_before : kept.begun ≡ false → end_of info ≤ kept.at → Keeps (record { at = kept.at; message = message; own = own; begun = kept.begun; next = None }) at fs (InFrame info []) text
+    pub begins_before : kept.begun ≡ false → end_of info ≤ kept.at → KeepsEventAt (record { at = kept.at; message = message; own = own; begun = kept.begun; next = None }) at fs (InFrame info []) text
     begins_before none ends =
         let was : EndBefore fs BetweenFrames at × (text ≡ []) = subst (λ (b : Bool). HasBegunAt b fs BetweenFrames at text) none k.begun in
         record { sought = k.sought; frame = frame_kept kept.begun; next = refl; begun = subst (λ (b : Bool). HasBegunAt b fs (InFrame info []) at text) (sym none) (subst (λ (n : ℕ). end_of info ≤ n) k.sought ends, was.1) }
@@ -173,7 +173,7 @@ module _ (kept : EventAt) (at : ℕ) (fs : List Frame) (info : HeadInfo) (part m
   longer = frame_so_far info (part ++ more)
 
   -- the content of a longer frame
-  content_on : content (event_at fs longer) ≡ content (event_at fs here) ++ more
+  content_on : payload_in (event_at fs longer) ≡ payload_in (event_at fs here) ++ more
   content_on =
       elim (cases_Bool (is_control info.op)) [
         | inl control ↦ content_of_control fs longer control ∙ ap (λ (bs : List ℕ). bs ++ more) (sym (content_of_control fs here control))
@@ -182,7 +182,7 @@ module _ (kept : EventAt) (at : ℕ) (fs : List Frame) (info : HeadInfo) (part m
             ∙ ap (λ (bs : List ℕ). bs ++ more) (sym (content_of_data fs here other))
       ]
 
-  pub goes_on : info.place ≡ length (stream fs) → Keeps kept at fs (InFrame info part) text → Keeps kept at fs (InFrame info (part ++ more)) (text ++ own_part kept more)
+  pub goes_on : info.place ≡ length (stream fs) → KeepsEventAt kept at fs (InFrame info part) text → KeepsEventAt kept at fs (InFrame info (part ++ more)) (text ++ own_part kept more)
   goes_on place k = record {
     sought = k.sought;
     frame = (k.frame.0, λ other. ((k.frame.1 other).0, (k.frame.1 other).1 ∙ first_alike (unfinished fs) here longer refl), k.frame.2);
@@ -212,7 +212,7 @@ module _ (kept : EventAt) (at : ℕ) (fs : List Frame) (info : HeadInfo) (part m
 -- ---- a frame ends
 
 module _ (role : Role) (limits : Limits) (kept : EventAt) (at : ℕ) (fs : List Frame) (f : Frame) (text : List ℕ) (lawful : IsLawful role limits (fs ++ f ∷ []))
-    (k : Keeps kept at fs (InFrame (info_of (length (stream fs)) f) f.payload) text) where
+    (k : KeepsEventAt kept at fs (InFrame (info_of (length (stream fs)) f) f.payload) text) where
   abbrev info : HeadInfo
   info = info_of (length (stream fs)) f
 
@@ -222,10 +222,10 @@ module _ (role : Role) (limits : Limits) (kept : EventAt) (at : ℕ) (fs : List 
       let within = offset_within fs f in
       omega (arith, ends, within, same)
 
-  pub content_whole : event_offset fs f ≡ at → text ≡ content (event_at fs f)
+  pub content_whole : event_offset fs f ≡ at → text ≡ payload_in (event_at fs f)
   content_whole same = by kept.begun k.begun
     where
-      by : (b : Bool) → HasBegunAt b fs (InFrame info f.payload) at text → text ≡ content (event_at fs f)
+      by : (b : Bool) → HasBegunAt b fs (InFrame info f.payload) at text → text ≡ payload_in (event_at fs f)
       by true (inl is) = absurd (apart_from_control fs f at is.0 is.1.some is.1.begins same)
       by true (inr is) = is.1
       by false is = absurd (not_after same is.0)
@@ -272,7 +272,7 @@ module _ (role : Role) (limits : Limits) (kept : EventAt) (at : ℕ) (fs : List 
   abbrev after : EventAt
   after = record kept { own = false; next = Some (end_of info) }
 
-  pub ends_other : (kept.own ≡ true → f.fin ≡ false) → Keeps after at (fs ++ f ∷ []) BetweenFrames text
+  pub ends_other : (kept.own ≡ true → f.fin ≡ false) → KeepsEventAt after at (fs ++ f ∷ []) BetweenFrames text
   ends_other unless = record { sought = k.sought; frame = (open_after, refl); next = ap Some (frame_end fs f); begun = by kept.begun k.begun }
     where
       begun_after : IsBegunAt fs (InFrame info f.payload) at text → IsOpenAt (fs ++ f ∷ []) at text

@@ -3,7 +3,7 @@ pub mod KeptEvents
 pub mod TakenParts
 pub mod EndedAnswers
 pub mod SoughtSteps
-pub mod SoughtPieces
+pub mod SoughtChunks
 pub mod SoughtInputs
 pub mod OneEvent
 pub mod ElsewhereBegun

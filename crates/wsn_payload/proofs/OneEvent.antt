@@ -8,7 +8,7 @@ use Rattle.wsn_rules.specs.declared.verdict.Verdict.{Verdict}
 use Rattle.wsn_rules.specs.Limits.{Limits}
 use Rattle.wsn_rules.specs.Group.{IsOpen}
 use Rattle.wsn_rules.specs.Lawful.{IsLawful}
-use Rattle.wsn_rules.specs.Meaning.{event_at}
+use Rattle.wsn_rules.specs.Meaning.{event_at, payload_in}
 use Rattle.wsn_rules.specs.ShownStream.{open_offset, event_offset, frame_so_far}
 use Rattle.wsn_rules.specs.Verdict.{IsVerdict}
 use Rattle.wsn_rules.proofs.Groups.{unfinished_control, unfinished_final}
@@ -18,7 +18,7 @@ use Rattle.wsn_rules.proofs.OpenOffsets.{offset_of_none, offset_after_control, o
 use Rattle.wsn_rules.proofs.Prefixes.{push-append}
 use Rattle.wsn_rules.proofs.Walk.{stream-append}
 use Rattle.wsn_scan.specs.Positions.{Position, BetweenFrames, InFrame}
-use Rattle.wsn_payload.specs.EventsAt.{content, IsWholeAt, IsBegunAt, EndBefore, AreApart, IsUnfinishedAt, EndsBefore}
+use Rattle.wsn_payload.specs.EventsAt.{IsWholeAt, IsBegunAt, EndBefore, AreApart, IsUnfinishedAt, EndsBefore}
 use Rattle.wsn_payload.proofs.OpenMessages.{open_or_not, longer_by, frame_some, open_before, offset_of_control, offset_of_data, offset_within}
 
 -- Frames after the event that begins at an offset: they are past the offset, and the open message isn't that event.
@@ -126,7 +126,7 @@ module _ (role : Role) (limits : Limits) (bytes : List ℕ) (fs before later : L
       whole ∙ ap (λ (hs : List Frame). stream hs ++ rest) frames_apart ∙ ap (λ (bs : List ℕ). bs ++ rest) (stream-append (before ++ f ∷ []) later)
       ∙ append_assoc (stream (before ++ f ∷ [])) (stream later) rest
 
-  pub some_whole : (rest : List ℕ) → bytes ≡ stream fs ++ rest → length (stream (before ++ f ∷ [])) ≤ limits.input → IsWholeAt role limits bytes at (content (event_at before f))
+  pub some_whole : (rest : List ℕ) → bytes ≡ stream fs ++ rest → length (stream (before ++ f ∷ [])) ≤ limits.input → IsWholeAt role limits bytes at (payload_in (event_at before f))
   some_whole rest whole within = record {
     before = before;
     last = f;
@@ -134,15 +134,13 @@ module _ (role : Role) (limits : Limits) (bytes : List ℕ) (fs before later : L
     whole = first_whole rest whole;
     within = within;
     lawful = first_lawful;
-    final = final;
-    begins = refl;
-    payload_is = refl;
+    ends = record { final = final; begins = refl; payload_is = refl };
   }
 
   -- these lawful frames are the first of all
-  pub one_whole : (payload : List ℕ) (w : IsWholeAt role limits bytes at payload) (extra : List Frame) → fs ≡ (w.before ++ w.last ∷ []) ++ extra → payload ≡ content (event_at before f)
+  pub one_whole : (payload : List ℕ) (w : IsWholeAt role limits bytes at payload) (extra : List Frame) → fs ≡ (w.before ++ w.last ∷ []) ++ extra → payload ≡ payload_in (event_at before f)
   one_whole payload w extra goes =
-      w.payload_is ∙ ap content (sym (one_event before w.before later extra f w.last at (sym parts ∙ goes ∙ push-append w.before w.last extra) final w.final refl w.begins))
+      w.ends.payload_is ∙ ap payload_in (sym (one_event before w.before later extra f w.last at (sym parts ∙ goes ∙ push-append w.before w.last extra) final w.ends.final refl w.ends.begins))
 
   pub never_unfinished : (other : Verdict) (payload : List ℕ) → IsUnfinishedAt role limits bytes other at payload → ⊥
   never_unfinished other payload u =

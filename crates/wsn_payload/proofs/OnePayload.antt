@@ -17,9 +17,9 @@ use Rattle.wsn_rules.specs.Limits.{Limits}
 use Rattle.wsn_rules.specs.Group.{unfinished, first_op}
 use Rattle.wsn_rules.specs.Heads.{info_of, BeginsWithHead}
 use Rattle.wsn_rules.specs.Lawful.{IsLawful}
-use Rattle.wsn_rules.specs.Meaning.{event_at}
+use Rattle.wsn_rules.specs.Meaning.{event_at, payload_in}
 use Rattle.wsn_rules.specs.ShownStream.{event_offset, frame_so_far}
-use Rattle.wsn_rules.specs.Verdict.{IsVerdict}
+use Rattle.wsn_rules.specs.Verdict.{IsVerdict, judged_bytes}
 use Rattle.wsn_rules.proofs.OneHead.{one_begun, one_following}
 use Rattle.wsn_rules.proofs.OneVerdict.{AreAll, all_go_on, all_of_verdict, one_verdict}
 use Rattle.wsn_rules.proofs.Prefixes.{push-append, append_cancel, two_fronts}
@@ -29,7 +29,7 @@ use Rattle.wsn_scan.proofs.WholeInputs.{not_past}
 use Rattle.wsn_payload.specs.declared.answer.EventStart.{EventStart}
 use Rattle.wsn_payload.specs.declared.answer.Payload.{Payload}
 use Rattle.wsn_payload.specs.declared.answer.Payload.TheVariants.{Whole, Unfinished, Inside, Head, Nothing}
-use Rattle.wsn_payload.specs.EventsAt.{content, end_of, judged_bytes, IsWholeAt, IsRestAt, IsBegunAt, EndBefore, AreApart, IsUnfinishedAt, EndsBefore, IsInHeadAt, IsAfterAll, IsInsideAt}
+use Rattle.wsn_payload.specs.EventsAt.{end_of, IsWholeAt, IsRestAt, IsBegunAt, EndBefore, AreApart, IsUnfinishedAt, EndsBefore, IsInHeadAt, IsAfterAll, IsInsideAt}
 use Rattle.wsn_payload.specs.Payloads.{IsPartAt, IsPayloadOfAll}
 use Rattle.wsn_payload.proofs.OpenMessages.{open_before, offset_within, apart_from_control, frame_end}
 use Rattle.wsn_payload.proofs.OneEvent.{ArePast, past_more, past_within, one_event, not_begun, not_before, place_of}
@@ -141,13 +141,13 @@ module _ (role : Role) (limits : Limits) (bytes : List ℕ) where
 
     -- A complete event has one payload.
     pub one_whole : (payload other : List ℕ) → IsWholeAt role limits bytes at payload → IsWholeAt role limits bytes at other → payload ≡ other
-    one_whole payload other a b = a.payload_is ∙ ap content same ∙ sym b.payload_is
+    one_whole payload other a b = a.ends.payload_is ∙ ap payload_in same ∙ sym b.ends.payload_is
       where
         same : event_at a.before a.last ≡ event_at b.before b.last
         same =
             elim (one_goes_on (a.before ++ a.last ∷ []) (b.before ++ b.last ∷ []) a.later b.later a.lawful b.lawful a.whole b.whole) [
-              | inl p ↦ one_event a.before b.before p.0 [] a.last b.last at (sym (p.1 ∙ push-append a.before a.last p.0)) a.final b.final a.begins b.begins
-              | inr p ↦ one_event a.before b.before [] p.0 a.last b.last at (p.1 ∙ push-append b.before b.last p.0) a.final b.final a.begins b.begins
+              | inl p ↦ one_event a.before b.before p.0 [] a.last b.last at (sym (p.1 ∙ push-append a.before a.last p.0)) a.ends.final b.ends.final a.ends.begins b.ends.begins
+              | inr p ↦ one_event a.before b.before [] p.0 a.last b.last at (p.1 ∙ push-append b.before b.last p.0) a.ends.final b.ends.final a.ends.begins b.ends.begins
             ]
 
     -- A complete event is not unfinished, and not all frames end before it.
@@ -157,18 +157,18 @@ module _ (role : Role) (limits : Limits) (bytes : List ℕ) where
         past : (fs : List Frame) → IsVerdict role limits bytes fs v → ArePast fs at
         past fs verdict =
             let goes = all_go_on role limits bytes (w.before ++ w.last ∷ []) fs w.later w.lawful w.whole (all_of_verdict role limits bytes fs v verdict) in
-            subst (λ (hs : List Frame). ArePast hs at) (sym (goes.1 ∙ push-append w.before w.last goes.0)) (past_within w.before goes.0 w.last at w.final w.begins)
+            subst (λ (hs : List Frame). ArePast hs at) (sym (goes.1 ∙ push-append w.before w.last goes.0)) (past_within w.before goes.0 w.last at w.ends.final w.ends.begins)
 
     -- Its offset is in no frame of another event.
     pub whole_not_inside : (payload : List ℕ) (start : EventStart) → IsWholeAt role limits bytes at payload → IsInsideAt role limits bytes at start → ⊥
     whole_not_inside payload start w is =
         elim (one_goes_on (w.before ++ w.last ∷ []) i.before w.later head.rest w.lawful head.lawful w.whole head.whole) [
-          | inl p ↦ never_inside role limits bytes i.before w.before p.0 w.last (p.1 ∙ push-append w.before w.last p.0) w.final head.lawful head.rest head.whole start i [] (sym (append-nil i.before))
-          | inr p ↦ never_inside role limits bytes (w.before ++ w.last ∷ []) w.before [] w.last refl w.final w.lawful w.later w.whole start i p.0 p.1
+          | inl p ↦ never_inside role limits bytes i.before w.before p.0 w.last (p.1 ∙ push-append w.before w.last p.0) w.ends.final head.lawful head.rest head.whole start i [] (sym (append-nil i.before))
+          | inr p ↦ never_inside role limits bytes (w.before ++ w.last ∷ []) w.before [] w.last refl w.ends.final w.lawful w.later w.whole start i p.0 p.1
         ]
       where
         i : IsInsideAt role limits bytes (event_offset w.before w.last) start
-        i = subst (λ (n : ℕ). IsInsideAt role limits bytes n start) (sym w.begins) is
+        i = subst (λ (n : ℕ). IsInsideAt role limits bytes n start) (sym w.ends.begins) is
 
         head : IsHeadAfter role limits bytes i.before i.info
         head = head_of_inside role limits bytes (event_offset w.before w.last) start i
@@ -179,16 +179,16 @@ module _ (role : Role) (limits : Limits) (bytes : List ℕ) where
     past_frame : (start : EventStart) (w : IsInsideAt role limits bytes at start) (x : Frame) (xs : List Frame) (after : List ℕ) → IsLawful role limits (w.before ++ x ∷ xs) → bytes ≡ stream (w.before ++ x ∷ xs) ++ after → ArePast (w.before ++ x ∷ xs) at
     past_frame start w x xs after lawful whole =
         subst (λ (hs : List Frame). ArePast hs at) (push-append w.before x xs)
-        (past_more (w.before ++ x ∷ []) xs at (past_elsewhere w.before x at from to (subst (λ (i : HeadInfo). event_offset w.before (frame_so_far i []) ≢ at) is (λ same. w.elsewhere (w.is_start.offset ∙ same)))))
+        (past_more (w.before ++ x ∷ []) xs at (past_elsewhere w.before x at from to (subst (λ (i : HeadInfo). event_offset w.before (frame_so_far i []) ≢ at) is (λ same. w.elsewhere.other (w.elsewhere.is_start.offset ∙ same)))))
       where
         is : w.info ≡ info_of (length (stream w.before)) x
         is = head_of_next role limits bytes w.before w.info (head_of_inside role limits bytes at start w) x xs after lawful whole
 
         from : length (stream w.before) ≤ at
-        from = subst (λ (i : HeadInfo). i.place ≤ at) is w.from
+        from = subst (λ (i : HeadInfo). i.place ≤ at) is w.elsewhere.from
 
         to : at < length (stream (w.before ++ x ∷ []))
-        to = let there = subst (λ (i : HeadInfo). at < end_of i) is w.to in omega (arith, there, frame_end w.before x)
+        to = let there = subst (λ (i : HeadInfo). at < end_of i) is w.elsewhere.to in omega (arith, there, frame_end w.before x)
 
     -- If the offset is in two frames, they are the same.
     one_inside_after : (start other : EventStart) (w : IsInsideAt role limits bytes at start) (v : IsInsideAt role limits bytes at other) (more : List Frame) → v.before ≡ w.before ++ more → start ≡ other
@@ -213,16 +213,16 @@ module _ (role : Role) (limits : Limits) (bytes : List ℕ) where
         first fs info = if is_control info.op then info.op else first_op (unfinished fs ++ frame_so_far info [] ∷ [])
 
         op : start.op ≡ other.op
-        op = w.is_start.op ∙ (λ i. first (front i) (head i)) ∙ sym v.is_start.op
+        op = w.elsewhere.is_start.op ∙ (λ i. first (front i) (head i)) ∙ sym v.elsewhere.is_start.op
 
         offset : start.offset ≡ other.offset
-        offset = w.is_start.offset ∙ (λ i. event_offset (front i) (frame_so_far (head i) [])) ∙ sym v.is_start.offset
+        offset = w.elsewhere.is_start.offset ∙ (λ i. event_offset (front i) (frame_so_far (head i) [])) ∙ sym v.elsewhere.is_start.offset
     one_inside_after start other w v (x ∷ xs) goes =
         let k = head_of_inside role limits bytes at other v in
         let past = past_frame start w x xs k.rest (subst (IsLawful role limits) goes k.lawful) (k.whole ∙ ap (λ (hs : List Frame). stream hs ++ k.rest) goes) in
         let over = (subst (λ (hs : List Frame). ArePast hs at) (sym goes) past).over in
         let place = k.head.place in
-        let from = v.from in
+        let from = v.elsewhere.from in
         absurd (omega (arith, over, place, from))
 
     -- The offset is inside one event.
@@ -295,10 +295,10 @@ module _ (role : Role) (limits : Limits) (bytes : List ℕ) where
       head = head_of_inside role limits bytes at start w
 
       differs : event_offset w.before (frame_so_far w.info []) ≢ at
-      differs same = w.elsewhere (w.is_start.offset ∙ same)
+      differs same = w.elsewhere.other (w.elsewhere.is_start.offset ∙ same)
 
       from : length (stream w.before) ≤ at
-      from = let place = head.head.place in let first = w.from in omega (arith, place, first)
+      from = let place = head.head.place in let first = w.elsewhere.from in omega (arith, place, first)
 
       -- If the frame in which the offset is isn't whole, the event hasn't begun, and that frame doesn't end before the offset.
       there_is_no_part : (v : Verdict) (fs : List Frame) (position : Position) (payload : List ℕ) → AreApart role limits bytes v fs position → fs ≡ w.before → IsBegunAt fs position at payload ⊎ EndBefore fs position at → ⊥
@@ -309,7 +309,7 @@ module _ (role : Role) (limits : Limits) (bytes : List ℕ) where
 
           by : IsBegunAt fs (InFrame w.info place.0) at payload ⊎ (end_of w.info ≤ at) → ⊥
           by (inl begun) = begun_elsewhere w.before w.info place.0 payload from differs (subst (λ (hs : List Frame). IsBegunAt hs (InFrame w.info place.0) at payload) same begun)
-          by (inr ends) = let to = w.to in omega (arith, ends, to)
+          by (inr ends) = let to = w.elsewhere.to in omega (arith, ends, to)
 
       -- The same, whether that frame is whole or not.
       no_part_after : (v : Verdict) (fs : List Frame) (position : Position) (payload : List ℕ) → AreApart role limits bytes v fs position → (more : List Frame) → fs ≡ w.before ++ more → IsBegunAt fs position at payload ⊎ EndBefore fs position at → ⊥
@@ -359,9 +359,7 @@ module _ (role : Role) (limits : Limits) (at : ℕ) (all : List ℕ) where
     whole = ap (λ (bs : List ℕ). take limits.input bs) w.whole ∙ take_front (stream (w.before ++ w.last ∷ [])) w.later limits.input w.within;
     within = w.within;
     lawful = w.lawful;
-    final = w.final;
-    begins = w.begins;
-    payload_is = w.payload_is;
+    ends = w.ends;
   }
 
   -- So is a frame of another event.
@@ -375,9 +373,6 @@ module _ (role : Role) (limits : Limits) (at : ℕ) (all : List ℕ) where
     last = w.last;
     info = w.info;
     are_heads = w.are_heads;
-    from = w.from;
-    to = w.to;
-    is_start = w.is_start;
     elsewhere = w.elsewhere;
   }
 

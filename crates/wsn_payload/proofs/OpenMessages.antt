@@ -7,7 +7,7 @@ use Rattle.wsn_wire.proofs.FrameLemmas.{length-wire_payload}
 use Rattle.wsn_rules.specs.Limits.{Limits}
 use Rattle.wsn_rules.specs.Group.{is_data, unfinished, IsOpen, first_op, payload_of}
 use Rattle.wsn_rules.specs.Lawful.{IsLawful}
-use Rattle.wsn_rules.specs.Meaning.{event_at}
+use Rattle.wsn_rules.specs.Meaning.{event_at, payload_in}
 use Rattle.wsn_rules.specs.ShownStream.{open_offset, event_offset}
 use Rattle.wsn_rules.proofs.Groups.{unfinished_control, unfinished_final}
 use Rattle.wsn_rules.proofs.LawfulMeaning.{event_of_control, event_of_data}
@@ -16,7 +16,7 @@ use Rattle.wsn_rules.proofs.OpenOffsets.{offset_after_control, offset_after_frag
 use Rattle.wsn_rules.proofs.Prefixes.{push-append}
 use Rattle.wsn_rules.proofs.Walk.{stream_push}
 use Rattle.wsn_rules.specs.Heads.{info_of}
-use Rattle.wsn_payload.specs.EventsAt.{content, end_of}
+use Rattle.wsn_payload.specs.EventsAt.{end_of}
 
 pub open_or_not : (fs : List Frame) → (unfinished fs ≡ []) ⊎ IsOpen fs
 open_or_not fs = by (unfinished fs)
@@ -83,11 +83,11 @@ module _ (fs : List Frame) (f : Frame) where
         | inr other ↦ omega (arith, offset_of_data other)
       ]
 
-  pub content_of_control : is_control f.op ≡ true → content (event_at fs f) ≡ f.payload
-  content_of_control control = ap content (event_of_control fs f control)
+  pub content_of_control : is_control f.op ≡ true → payload_in (event_at fs f) ≡ f.payload
+  content_of_control control = ap payload_in (event_of_control fs f control)
 
-  pub content_of_data : is_control f.op ≡ false → content (event_at fs f) ≡ payload_of (unfinished fs) ++ f.payload
-  content_of_data other = ap content (event_of_data fs f other) ∙ text_of_push (unfinished fs) f
+  pub content_of_data : is_control f.op ≡ false → payload_in (event_at fs f) ≡ payload_of (unfinished fs) ++ f.payload
+  content_of_data other = ap payload_in (event_of_data fs f other) ∙ text_of_push (unfinished fs) f
 
 -- A control that belongs to the event that begins at an offset is no part of the open message.
 pub apart_from_control : (fs : List Frame) (f : Frame) (at : ℕ) → is_control f.op ≡ true → IsOpen fs → open_offset fs ≡ at → event_offset fs f ≡ at → ⊥

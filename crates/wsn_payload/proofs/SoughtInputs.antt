@@ -1,10 +1,10 @@
 -- An input of which a payload is taken: the answer is right for the bytes that came.
-use Rattle.std.proofs.Common.{◌≡◌, ℕ, ◌+◌, ◌<◌, ◌≤◌, ◌⊎◌, Bool, true, false, Option, None, Some, Result, Ok, Err, List, [], ◌∷◌, ◌++◌, length, take, drop, if◌then◌else◌, inl, inr, refl, sym, ap, ◌∙◌, subst, append_assoc, append-nil, length-append, take-append-drop, arith}
+use Rattle.std.proofs.Common.{◌≡◌, ℕ, ◌+◌, ◌<◌, ◌≤◌, ◌⊎◌, Bool, true, false, Option, None, Some, Result, Ok, Err, List, [], ◌∷◌, ◌++◌, length, take, drop, refl, sym, ap, ◌∙◌, subst, append_assoc, append-nil, length-append, take-append-drop, arith}
 use Rattle.std.proofs.KnownBytes.{Appends-nil}
-use Rattle.std.proofs.lemmas.Bool.{cond-true, cond-false}
+use Rattle.std.proofs.lemmas.Bool.{cond-true}
 use Rattle.std.proofs.lemmas.List.{take-append-le}
 use Rattle.std.specs.Io.KnownBytes.{Consumes, IsAtEnd}
-use Rattle.wsn_io.specs.Transfer.{Incoming, Outgoing, IsWritten}
+use Rattle.wsn_io.specs.Transfer.{Incoming, Outgoing, IsWritten, IsWrittenBut}
 use Rattle.wsn_io.specs.declared.stop.Stop.{Stop}
 use Rattle.wsn_io.specs.declared.stop.Stop.TheVariants as stop
 use Rattle.wsn_wire.specs.declared.endpoint.Role.{Role}
@@ -13,7 +13,7 @@ use Rattle.wsn_rules.specs.declared.verdict.Verdict.{Verdict}
 use Rattle.wsn_rules.specs.declared.verdict.Verdict.TheVariants.{Accepted, Cut, Refused}
 use Rattle.wsn_rules.specs.Accepted.{EndsWithClose}
 use Rattle.wsn_rules.specs.Limits.{Limits}
-use Rattle.wsn_rules.specs.Verdict.{IsRefused, IsVerdict}
+use Rattle.wsn_rules.specs.Verdict.{IsRefused, IsVerdict, judged_bytes}
 use Rattle.wsn_rules.proofs.StaysRefused.{place_within}
 use Rattle.wsn_scan.specs.declared.chunk_reader.ChunkReader.{ChunkReader}
 use Rattle.wsn_scan.specs.declared.scan.Scan.{Scan}
@@ -29,9 +29,9 @@ use Rattle.wsn_payload.specs.declared.answer.EventStart.{EventStart}
 use Rattle.wsn_payload.specs.declared.answer.Payload.{Payload}
 use Rattle.wsn_payload.specs.declared.answer.Payload.TheVariants.{Whole, Unfinished, Inside, Head, Nothing}
 use Rattle.wsn_payload.specs.declared.event_at.EventAt.{EventAt}
-use Rattle.wsn_payload.specs.EventsAt.{IsWholeAt, IsRestAt, judged_bytes, AreApart, IsUnfinishedAt, EndsBefore, IsInHeadAt, IsAfterAll, IsInsideAt}
-use Rattle.wsn_payload.specs.Following.{HasBegunAt, Keeps, is_judged, answer_without_event, ended_answer, HasSought, IsRefusedHere, IsAnsweredAt, SeeksThrough}
-use Rattle.wsn_payload.specs.Payloads.{IsPartAt, IsPayloadInFront, IsPayloadAnswer, IsPayloadTaken, IsPayloadOfAll, IsWrittenBut}
+use Rattle.wsn_payload.specs.EventsAt.{IsWholeAt, IsRestAt, AreApart, IsUnfinishedAt, EndsBefore, IsInHeadAt, IsAfterAll, IsInsideAt}
+use Rattle.wsn_payload.specs.Following.{HasBegunAt, KeepsEventAt, is_judged, answer_without_event, ended_answer, HasSought, IsRefusedHere, IsAnsweredAt, SeeksThrough}
+use Rattle.wsn_payload.specs.Payloads.{IsPartAt, IsPayloadInFront, IsPayloadAnswer, IsPayloadTaken, IsPayloadOfAll, IsPartOf}
 use Rattle.wsn_scan.proofs.FollowedScans.{unrefused_so_far, judged_so_far}
 use Rattle.wsn_payload.proofs.EndedAnswers.{IsAnswered, answered_without, in_head, after_all}
 use Rattle.wsn_payload.proofs.EndedAnswers.IsAnswered.{InHead, AfterAll}
@@ -47,9 +47,7 @@ whole_longer role limits bytes more at payload w = record {
   whole = ap (λ (bs : List ℕ). bs ++ more) w.whole ∙ append_assoc (stream (w.before ++ w.last ∷ [])) w.later more;
   within = w.within;
   lawful = w.lawful;
-  final = w.final;
-  begins = w.begins;
-  payload_is = w.payload_is;
+  ends = w.ends;
 }
 
 pub inside_longer : (role : Role) (limits : Limits) (bytes more : List ℕ) (at : ℕ) (start : EventStart) → IsInsideAt role limits bytes at start → IsInsideAt role limits (bytes ++ more) at start
@@ -62,9 +60,6 @@ inside_longer role limits bytes more at start w = record {
   last = w.last;
   info = w.info;
   are_heads = w.are_heads;
-  from = w.from;
-  to = w.to;
-  is_start = w.is_start;
   elsewhere = w.elsewhere;
 }
 
@@ -83,7 +78,7 @@ module _ (role : Role) (limits : Limits) (at : ℕ) where
     pub come : HasCome limits old mid chunks came
     pub sought : HasSought role limits at scan kept came first now
 
-  pub begins : (input : Incoming) (chunks : ChunkReader) (output : Outgoing) (scan : Scan) (kept : EventAt) → HasCome limits input input chunks [] → HasScanned role limits scan [] [] [] BetweenFrames → Keeps kept at [] BetweenFrames [] → output.failed ≡ false
+  pub begins : (input : Incoming) (chunks : ChunkReader) (output : Outgoing) (scan : Scan) (kept : EventAt) → HasCome limits input input chunks [] → HasScanned role limits scan [] [] [] BetweenFrames → KeepsEventAt kept at [] BetweenFrames [] → output.failed ≡ false
       → HasSoughtInput input input chunks output output scan kept []
   begins input chunks output scan kept come has_scanned keeps works = record {
     come = come;
@@ -165,33 +160,33 @@ module _ (role : Role) (limits : Limits) (at : ℕ) where
 
     -- ---- the next chunk came
 
-    module _ (new : Incoming) (later : ChunkReader) (piece : List ℕ) (come : HasCome limits old new later (came ++ piece)) (short : length piece + length come.past ≤ chunk_size) (next : Scan) (next_kept : EventAt) (after : Outgoing) where
+    module _ (new : Incoming) (later : ChunkReader) (chunk : List ℕ) (come : HasCome limits old new later (came ++ chunk)) (short : length chunk + length come.past ≤ chunk_size) (next : Scan) (next_kept : EventAt) (after : Outgoing) where
       abbrev all_came : List ℕ
-      all_came = (came ++ piece) ++ come.past
+      all_came = (came ++ chunk) ++ come.past
 
-      after_first : (n : ℕ) → all_came ≡ (came ++ take n piece) ++ (drop n piece ++ come.past)
+      after_first : (n : ℕ) → all_came ≡ (came ++ take n chunk) ++ (drop n chunk ++ come.past)
       after_first n =
-          ap (λ (bs : List ℕ). (came ++ bs) ++ come.past) (sym (take-append-drop n piece))
-          ∙ ap (λ (bs : List ℕ). bs ++ come.past) (sym (append_assoc came (take n piece) (drop n piece)))
-          ∙ append_assoc (came ++ take n piece) (drop n piece) come.past
+          ap (λ (bs : List ℕ). (came ++ bs) ++ come.past) (sym (take-append-drop n chunk))
+          ∙ ap (λ (bs : List ℕ). bs ++ come.past) (sym (append_assoc came (take n chunk) (drop n chunk)))
+          ∙ append_assoc (came ++ take n chunk) (drop n chunk) come.past
 
-      pub goes_on : SeeksThrough role limits at next next_kept came piece first after (Ok None) → HasSoughtInput old new later first after next next_kept (came ++ piece)
+      pub goes_on : SeeksThrough role limits at next next_kept came chunk first after (Ok None) → HasSoughtInput old new later first after next next_kept (came ++ chunk)
       goes_on sought = record { come = come; sought = sought }
 
-      pub write_failed : (stopped : Stop) → SeeksThrough role limits at next next_kept came piece first after (Err stopped) → IsPayloadTaken role limits at old new first after (Err stopped)
+      pub write_failed : (stopped : Stop) → SeeksThrough role limits at next next_kept came chunk first after (Err stopped) → IsPayloadTaken role limits at old new first after (Err stopped)
       write_failed stopped given =
           subst (λ (s : Stop). IsPayloadTaken role limits at old new first after (Err s)) (sym given.0)
           (record {
             came = all_came;
-            received = received limits old new later (came ++ piece) come;
-            answer = (given.1.0, front_longer role limits (came ++ piece) come.past at given.1.0 given.1.1, given.1.2, come.unfailed);
+            received = received limits old new later (came ++ chunk) come;
+            answer = (given.1.0, front_longer role limits (came ++ chunk) come.past at given.1.0 given.1.1, given.1.2, come.unfailed);
             at_once = λ is. at_once;
           })
         where
-          but : IsWrittenBut (length piece) role limits at (came ++ piece) first after
+          but : IsWrittenBut (length chunk) (IsPartOf role limits at) (came ++ chunk) first after
           but = given.2
 
-          at_once : IsWrittenBut chunk_size role limits at all_came first after
+          at_once : IsWrittenBut chunk_size (IsPartOf role limits at) all_came first after
           at_once = record {
             done = but.done;
             last = but.last ++ come.past;
@@ -200,35 +195,35 @@ module _ (role : Role) (limits : Limits) (at : ℕ) where
             written = but.written;
           }
 
-      -- the verdict is a refusal in the piece
-      refused_reached : (n : ℕ) (v : Verdict) → length (came ++ take n piece) ≤ limits.input → IsRefusedHere role limits (came ++ take n piece) v → IsReached role limits new all_came v
+      -- the verdict is a refusal in the chunk
+      refused_reached : (n : ℕ) (v : Verdict) → length (came ++ take n chunk) ≤ limits.input → IsRefusedHere role limits (came ++ take n chunk) v → IsReached role limits new all_came v
       refused_reached n v most r =
-          let rest = drop n piece ++ come.past in
+          let rest = drop n chunk ++ come.past in
           let place = r.place in
           let after_came : length came ≤ r.refusal.place =
-          place_after role limits came (take n piece) r.frames r.refusal.place r.refusal.reason none_refused (subst (λ (bs : List ℕ). IsRefused role limits bs r.frames r.refusal.place r.refusal.reason) (append-nil (came ++ take n piece)) (r.refused [])) in
+          place_after role limits came (take n chunk) r.frames r.refusal.place r.refusal.reason none_refused (subst (λ (bs : List ℕ). IsRefused role limits bs r.frames r.refusal.place r.refusal.reason) (append-nil (came ++ take n chunk)) (r.refused [])) in
           subst (λ (w : Verdict). IsReached role limits new all_came w) (sym r.is) (
             r.frames,
             λ more. subst (λ (bs : List ℕ). IsRefused role limits bs r.frames r.refusal.place r.refusal.reason)
-                (sym (append_assoc (came ++ take n piece) rest more) ∙ ap (λ (bs : List ℕ). bs ++ more) (sym (after_first n))) (r.refused (rest ++ more)),
-            omega (arith, length-append (came ++ piece) come.past, length-append came piece, short, after_came),
+                (sym (append_assoc (came ++ take n chunk) rest more) ∙ ap (λ (bs : List ℕ). bs ++ more) (sym (after_first n))) (r.refused (rest ++ more)),
+            omega (arith, length-append (came ++ chunk) come.past, length-append came chunk, short, after_came),
             omega (arith, most, place),
             come.unfailed,
           )
 
-      pub answered : (answer : Payload) → SeeksThrough role limits at next next_kept came piece first after (Ok (Some answer)) → IsPayloadTaken role limits at old new first after (Ok answer)
-      answered answer given = record { came = all_came; received = received limits old new later (came ++ piece) come; answer = by answer given.2.1; at_once = λ is. cc }
+      pub answered : (answer : Payload) → SeeksThrough role limits at next next_kept came chunk first after (Ok (Some answer)) → IsPayloadTaken role limits at old new first after (Ok answer)
+      answered answer given = record { came = all_came; received = received limits old new later (came ++ chunk) come; answer = by answer given.2.1; at_once = λ is. cc }
         where
           n : ℕ
           n = given.0
 
           rest : List ℕ
-          rest = drop n piece ++ come.past
+          rest = drop n chunk ++ come.past
 
-          by : (a : Payload) → IsAnsweredAt role limits at (came ++ take n piece) first after a → IsPayloadAnswer role limits at new all_came first after (Ok a)
-          by Whole w = (w.0, subst (λ (bs : List ℕ). IsWholeAt role limits bs at w.0) (sym (after_first n)) (whole_longer role limits (came ++ take n piece) rest at w.0 w.1), w.2, come.unfailed)
+          by : (a : Payload) → IsAnsweredAt role limits at (came ++ take n chunk) first after a → IsPayloadAnswer role limits at new all_came first after (Ok a)
+          by Whole w = (w.0, subst (λ (bs : List ℕ). IsWholeAt role limits bs at w.0) (sym (after_first n)) (whole_longer role limits (came ++ take n chunk) rest at w.0 w.1), w.2, come.unfailed)
           by (Unfinished v) w = (w.1.0, subst (λ (bs : List ℕ). IsUnfinishedAt role limits bs v at w.1.0) (sym (after_first n)) (w.1.1 rest), w.1.2, refused_reached n v given.2.0 w.0)
-          by (Inside start) w = (subst (λ (bs : List ℕ). IsInsideAt role limits bs at start) (sym (after_first n)) (inside_longer role limits (came ++ take n piece) rest at start w.0), w.1, come.unfailed)
+          by (Inside start) w = (subst (λ (bs : List ℕ). IsInsideAt role limits bs at start) (sym (after_first n)) (inside_longer role limits (came ++ take n chunk) rest at start w.0), w.1, come.unfailed)
           by (Head start v) w = (subst (λ (bs : List ℕ). IsInHeadAt role limits bs v at start) (sym (after_first n)) (w.1 rest), w.2, refused_reached n v given.2.0 w.0)
           by (Nothing v) w = (subst (λ (bs : List ℕ). IsAfterAll role limits bs v at) (sym (after_first n)) (w.1 rest), w.2, refused_reached n v given.2.0 w.0)
 

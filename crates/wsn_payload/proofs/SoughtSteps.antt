@@ -1,9 +1,9 @@
 -- What one call of the scan says of the event that begins at an offset.
-use Rattle.std.proofs.Common.{◌≡◌, ℕ, ◌+◌, ◌≤◌, ◌^◌, ◌⊎◌, Bool, true, false, not, Option, None, Some, Result, Ok, Err, List, [], ◌∷◌, ◌++◌, length, take, drop, if◌then◌else◌, inl, inr, refl, sym, ap, ◌∙◌, subst, append-nil, append_assoc, arith, length-append, take-append-drop, ◌-◌}
+use Rattle.std.proofs.Common.{◌≡◌, ℕ, ◌+◌, ◌≤◌, ◌^◌, ◌⊎◌, Bool, true, false, not, Option, None, Some, Result, Ok, Err, List, [], ◌∷◌, ◌++◌, length, take, drop, inl, inr, refl, sym, ap, ◌∙◌, subst, append-nil, append_assoc, arith, length-append, take-append-drop, ◌-◌}
 use Rattle.std.proofs.KnownBytes.{Appends-trans}
 use Rattle.std.proofs.lemmas.Bool.{cases_Bool, cond-true, cond-false}
 use Rattle.std.proofs.lemmas.List.{take_all, take-append-le, drop_at}
-use Rattle.wsn_io.specs.Transfer.{Outgoing, IsWritten, IsPartlyWritten}
+use Rattle.wsn_io.specs.Transfer.{Outgoing, IsWritten, IsPartlyWritten, IsWrittenBut}
 use Rattle.wsn_io.specs.declared.stop.Stop.{Stop}
 use Rattle.wsn_io.proofs.PutTexts.{put_both, put_front}
 use Rattle.wsn_wire.specs.declared.endpoint.Role.{Role}
@@ -23,7 +23,7 @@ use Rattle.wsn_rules.specs.Evidence.Evidence.{ByFirst}
 use Rattle.wsn_rules.specs.Heads.{heads_of, info_of, IsBegun, AreHeads}
 use Rattle.wsn_rules.specs.Lawful.{IsLawful}
 use Rattle.wsn_rules.specs.ShownStream.{frame_so_far}
-use Rattle.wsn_rules.specs.Verdict.{IsVerdict}
+use Rattle.wsn_rules.specs.Verdict.{IsVerdict, judged_bytes}
 use Rattle.wsn_rules.proofs.HeadsGoOn.{begins_longer}
 use Rattle.wsn_scan.specs.declared.part.Part.{Part}
 use Rattle.wsn_scan.specs.declared.part.Taken.{Taken}
@@ -36,10 +36,10 @@ use Rattle.wsn_scan.proofs.HeadsSoFar.{heads_reported}
 use Rattle.wsn_payload.specs.declared.answer.Payload.{Payload}
 use Rattle.wsn_payload.specs.declared.answer.Payload.TheVariants.{Whole, Unfinished, Inside, Head, Nothing}
 use Rattle.wsn_payload.specs.declared.event_at.EventAt.{EventAt}
-use Rattle.wsn_payload.specs.EventsAt.{IsWholeAt, IsRestAt, IsBegunAt, judged_bytes, AreApart, IsInsideAt}
+use Rattle.wsn_payload.specs.EventsAt.{IsWholeAt, IsRestAt, IsBegunAt, AreApart, IsInsideAt, EndsEvent}
 use Rattle.wsn_scan.specs.FollowedScans.{HasFollowed, IsCall}
-use Rattle.wsn_payload.specs.Following.{HasBegunAt, Keeps, MayBegin, EndsEvent, TakesPart, own_part, is_judged, answer_without_event, ended_answer, HasSought, IsRefusedHere, IsStepOf, SeeksOn}
-use Rattle.wsn_payload.specs.Payloads.{IsPartAt, IsPayloadInFront, IsWrittenBut}
+use Rattle.wsn_payload.specs.Following.{HasBegunAt, KeepsEventAt, MayBegin, TakesPart, own_part, is_judged, answer_without_event, ended_answer, HasSought, IsRefusedHere, IsStepOf, SeeksOn}
+use Rattle.wsn_payload.specs.Payloads.{IsPartAt, IsPayloadInFront, IsPartOf}
 use Rattle.wsn_scan.proofs.FollowedScans.{wire_payload_is, few, lawful_done, whole_is, rest_few, room_within, unrefused_so_far, judged_so_far, in_frame, between, reached, same_follows, reach, part_follows, refused_there, refused_begun}
 use Rattle.wsn_scan.proofs.FoundHeads.{heads_after}
 use Rattle.wsn_payload.proofs.EndedAnswers.{IsAnswered, answered_without, in_head, after_all}
@@ -99,16 +99,16 @@ part_of role limits at scan kept came first now h v is = by kept.begun h.keeps.b
     by false has = inr (record { frames = h.frames; position = h.position; are_apart = apart role limits scan came h.frames h.position h.rest h.followed v is; end = has.0 }, has.1)
 
 -- it was written, and then a prefix of more
-before_piece : (role : Role) (limits : Limits) (at : ℕ) (scan : Scan) (kept : EventAt) (came piece : List ℕ) (first now after : Outgoing) (h : HasSought role limits at scan kept came first now) (more : List ℕ) → IsPartlyWritten now after more
-    → IsWrittenBut (length piece) role limits at (came ++ piece) first after
-before_piece role limits at scan kept came piece first now after h more (failed, (k, put)) =
+before_chunk : (role : Role) (limits : Limits) (at : ℕ) (scan : Scan) (kept : EventAt) (came chunk : List ℕ) (first now after : Outgoing) (h : HasSought role limits at scan kept came first now) (more : List ℕ) → IsPartlyWritten now after more
+    → IsWrittenBut (length chunk) (IsPartOf role limits at) (came ++ chunk) first after
+before_chunk role limits at scan kept came chunk first now after h more (failed, (k, put)) =
     let v = judged_so_far role limits scan came h.frames h.position h.rest h.followed in
     record {
       done = came;
-      last = piece;
+      last = chunk;
       whole = refl;
       short = omega arith;
-      written = (v.0, h.payload, take k more, part_of role limits at scan kept came first now h v.0 v.1, Appends-trans first.written now.written after.written h.payload (take k more) h.written.1 put);
+      written = (h.payload, take k more, (v.0, part_of role limits at scan kept came first now h v.0 v.1), Appends-trans first.written now.written after.written h.payload (take k more) h.written.1 put);
     }
 
 -- a whole lawful frame may begin there
@@ -153,22 +153,22 @@ with_evidence (InFrame info payload) bytes = InFrame info (payload ++ bytes)
 
 -- ---- a call
 
-module _ (role : Role) (limits : Limits) (at : ℕ) (old new : Scan) (piece after : List ℕ) (n : ℕ) (part : Part) (came : List ℕ) (first now : Outgoing) (kept : EventAt)
+module _ (role : Role) (limits : Limits) (at : ℕ) (old new : Scan) (chunk after : List ℕ) (n : ℕ) (part : Part) (came : List ℕ) (first now : Outgoing) (kept : EventAt)
     (h : HasSought role limits at old kept came first now) where
   abbrev done : List Frame
   done = h.frames
 
   abbrev share : List ℕ
-  share = take n piece
+  share = take n chunk
 
   -- neither a part nor a refusal
-  pub quiet : (found : Taken) (call : IsCall old new piece after n found part) → (found ≡ taken.More) ⊎ (found ≡ taken.Closed) → HasSought role limits at new kept (came ++ share) first now
+  pub quiet : (found : Taken) (call : IsCall old new chunk after n found part) → (found ≡ taken.More) ⊎ (found ≡ taken.Closed) → HasSought role limits at new kept (came ++ share) first now
   quiet taken.More call is =
-      let r = (reached role limits old new piece after n taken.More part came done h.position h.rest h.followed call).0 in
-      record { frames = done; position = h.position; rest = h.rest ++ share; followed = same_follows role limits old new piece after n taken.More part came done h.position h.rest h.followed call r.found.0 r.found.1 (λ same. cc); payload = h.payload; keeps = h.keeps; written = h.written }
+      let r = (reached role limits old new chunk after n taken.More part came done h.position h.rest h.followed call).0 in
+      record { frames = done; position = h.position; rest = h.rest ++ share; followed = same_follows role limits old new chunk after n taken.More part came done h.position h.rest h.followed call r.found.0 r.found.1 (λ same. cc); payload = h.payload; keeps = h.keeps; written = h.written }
   quiet taken.Closed call is =
-      let r = (reached role limits old new piece after n taken.Closed part came done h.position h.rest h.followed call).0 in
-      record { frames = done; position = h.position; rest = h.rest ++ share; followed = same_follows role limits old new piece after n taken.Closed part came done h.position h.rest h.followed call r.found.0 r.found.1 (λ same. cc); payload = h.payload; keeps = h.keeps; written = h.written }
+      let r = (reached role limits old new chunk after n taken.Closed part came done h.position h.rest h.followed call).0 in
+      record { frames = done; position = h.position; rest = h.rest ++ share; followed = same_follows role limits old new chunk after n taken.Closed part came done h.position h.rest h.followed call r.found.0 r.found.1 (λ same. cc); payload = h.payload; keeps = h.keeps; written = h.written }
   quiet taken.Part call (inl is) = cc
   quiet taken.Part call (inr is) = cc
   quiet taken.Refused call (inl is) = cc
@@ -176,12 +176,12 @@ module _ (role : Role) (limits : Limits) (at : ℕ) (old new : Scan) (piece afte
 
   -- ---- a part
 
-  module _ (call : IsCall old new piece after n taken.Part part) where
+  module _ (call : IsCall old new chunk after n taken.Part part) where
     abbrev r : IsReachedBy role limits new (came ++ share) (IsPart done h.position part (drop part.start (take n after)))
-    r = reach role limits old new piece after n part came done h.position h.rest h.followed call
+    r = reach role limits old new chunk after n part came done h.position h.rest h.followed call
 
     follows_part : HasFollowed role limits new (came ++ share) r.frames r.position r.since
-    follows_part = part_follows role limits old new piece after n part came done h.position h.rest h.followed call
+    follows_part = part_follows role limits old new chunk after n part came done h.position h.rest h.followed call
 
     few_done : length (stream done) ≤ 2 ^ 40
     few_done =
@@ -211,8 +211,8 @@ module _ (role : Role) (limits : Limits) (at : ℕ) (old new : Scan) (piece afte
     heads_are : heads_of r.frames ++ begun_at r.position ≡ heads_of done ++ part.head ∷ []
     heads_are = heads_after done r.found.before part (drop part.start (take n after)) r.frames r.position r.found.goes_on
 
-    whole_piece : came ++ piece ≡ (came ++ share) ++ drop n piece
-    whole_piece = ap (λ (bs : List ℕ). came ++ bs) (sym (take-append-drop n piece)) ∙ sym (append_assoc came share (drop n piece))
+    whole_chunk : came ++ chunk ≡ (came ++ share) ++ drop n chunk
+    whole_chunk = ap (λ (bs : List ℕ). came ++ bs) (sym (take-append-drop n chunk)) ∙ sym (append_assoc came share (drop n chunk))
 
     ends_whole : (f : Frame) (payload : List ℕ) → r.frames ≡ done ++ f ∷ [] → EndsEvent done f at payload → IsWholeAt role limits (came ++ share) at payload
     ends_whole f payload are e =
@@ -227,16 +227,14 @@ module _ (role : Role) (limits : Limits) (at : ℕ) (old new : Scan) (piece afte
           whole = bytes ∙ ap (λ (fs : List Frame). stream fs ++ r.since) are;
           within = subst (λ (fs : List Frame). length (stream fs) ≤ limits.input) are short;
           lawful = subst (IsLawful role limits) are (lawful_done role limits new (came ++ share) r.frames r.position r.since follows_part);
-          final = e.final;
-          begins = e.begins;
-          payload_is = e.payload_is;
+          ends = e;
         }
 
-    in_front : (payload : List ℕ) → IsBegunAt r.frames r.position at payload ⊎ ((f : Frame) × (r.frames ≡ done ++ f ∷ []) × EndsEvent done f at payload) → IsPayloadInFront role limits (came ++ piece) at payload
+    in_front : (payload : List ℕ) → IsBegunAt r.frames r.position at payload ⊎ ((f : Frame) × (r.frames ≡ done ++ f ∷ []) × EndsEvent done f at payload) → IsPayloadInFront role limits (came ++ chunk) at payload
     in_front payload is = record {
       front = came ++ share;
-      later = drop n piece;
-      whole = whole_piece;
+      later = drop n chunk;
+      whole = whole_chunk;
       within = room_within role limits new (came ++ share) r.frames r.position r.since follows_part;
       is = elim is [
         | inl begun ↦
@@ -247,12 +245,12 @@ module _ (role : Role) (limits : Limits) (at : ℕ) (old new : Scan) (piece afte
     }
 
     pub part_step : (kept_after : EventAt) (out : Outgoing) (result : Result (Option Payload) Stop) → TakesPart kept_after at done part.head r.frames r.position h.payload now out result
-        → (given : Result (ℕ × Option Payload) Stop) → IsStepOf n result given → SeeksOn role limits at new kept_after came piece first out given
+        → (given : Result (ℕ × Option Payload) Stop) → IsStepOf n result given → SeeksOn role limits at new kept_after came chunk first out given
     part_step kept_after out (Ok None) t given is =
-        subst (SeeksOn role limits at new kept_after came piece first out) (sym is)
+        subst (SeeksOn role limits at new kept_after came chunk first out) (sym is)
         (record { frames = r.frames; position = r.position; rest = r.since; followed = follows_part; payload = h.payload ++ t.0; keeps = t.1; written = put_both first now out h.payload t.0 h.written t.2 })
     part_step kept_after out (Ok (Some Whole)) t given is =
-        subst (SeeksOn role limits at new kept_after came piece first out) (sym is)
+        subst (SeeksOn role limits at new kept_after came chunk first out) (sym is)
         (room_within role limits new (came ++ share) r.frames r.position r.since follows_part, (h.payload ++ t.0, ends_whole t.1 (h.payload ++ t.0) t.2 t.3, put_both first now out h.payload t.0 h.written t.4))
     part_step kept_after out (Ok (Some (Inside start))) t given is =
         let nothing : IsWritten first out [] = subst (IsWritten first out) t.1 (subst (λ (o : Outgoing). IsWritten first o h.payload) (sym t.2) h.written) in
@@ -268,25 +266,22 @@ module _ (role : Role) (limits : Limits) (at : ℕ) (old new : Scan) (piece afte
           last = last_frame.0;
           info = part.head;
           are_heads = heads;
-          from = t.0.from;
-          to = t.0.to;
-          is_start = t.0.is_start;
-          elsewhere = t.0.other;
+          elsewhere = t.0;
         } in
-        subst (SeeksOn role limits at new kept_after came piece first out) (sym is) (most, (there, nothing))
+        subst (SeeksOn role limits at new kept_after came chunk first out) (sym is) (most, (there, nothing))
     part_step kept_after out (Ok (Some (Unfinished v))) t given is = absurd t
     part_step kept_after out (Ok (Some (Head start v))) t given is = absurd t
     part_step kept_after out (Ok (Some (Nothing v))) t given is = absurd t
     part_step kept_after out (Err stopped) t given is =
-        subst (SeeksOn role limits at new kept_after came piece first out) (sym is) (
+        subst (SeeksOn role limits at new kept_after came chunk first out) (sym is) (
           t.0,
           (h.payload ++ t.1.0, in_front (h.payload ++ t.1.0) t.1.2, put_front first now out h.payload t.1.0 h.written t.1.1),
-          before_piece role limits at old kept came piece first now out h t.1.0 t.1.1,
+          before_chunk role limits at old kept came chunk first now out h t.1.0 t.1.1,
         )
 
   -- ---- a refusal
 
-  module _ (refusal : Refusal) (is : refusal_in new ≡ Some refusal) (call : IsCall old new piece after n taken.Refused part) where
+  module _ (refusal : Refusal) (is : refusal_in new ≡ Some refusal) (call : IsCall old new chunk after n taken.Refused part) where
     abbrev longer : List ℕ
     longer = h.rest ++ share
 
@@ -294,10 +289,10 @@ module _ (role : Role) (limits : Limits) (at : ℕ) (old new : Scan) (piece afte
     evidence = take n after
 
     reaches : (scanned : HasScanned role limits new (came ++ share) done longer h.position) × IsRefusedThere role limits refusal (came ++ share) done h.position
-    reaches = refused_there role limits old new piece after n part came done h.position h.rest h.followed refusal is call
+    reaches = refused_there role limits old new chunk after n part came done h.position h.rest h.followed refusal is call
 
     begun : IsBegun role limits done longer (begun_at h.position)
-    begun = refused_begun role limits old new piece after n part came done h.position h.rest h.followed refusal is call
+    begun = refused_begun role limits old new chunk after n part came done h.position h.rest h.followed refusal is call
 
     unmasked : evidence ≡ unmasked_at h.position share
     unmasked = call.refused refl role limits came h.rest done h.position h.followed.has_scanned
@@ -338,12 +333,12 @@ module _ (role : Role) (limits : Limits) (at : ℕ) (old new : Scan) (piece afte
     abbrev text : List ℕ
     text = h.payload ++ own_part kept evidence
 
-    with_it : (p : Position) → h.position ≡ p → Keeps kept at done p h.payload → Keeps kept at done (with_evidence p evidence) text
-    with_it BetweenFrames here k = subst (Keeps kept at done BetweenFrames) (sym (ap (λ (bs : List ℕ). h.payload ++ bs) (cond-false kept.own evidence [] k.frame.1) ∙ append-nil h.payload)) k
+    with_it : (p : Position) → h.position ≡ p → KeepsEventAt kept at done p h.payload → KeepsEventAt kept at done (with_evidence p evidence) text
+    with_it BetweenFrames here k = subst (KeepsEventAt kept at done BetweenFrames) (sym (ap (λ (bs : List ℕ). h.payload ++ bs) (cond-false kept.own evidence [] k.frame.1) ∙ append-nil h.payload)) k
     with_it (InFrame info payload) here k =
         goes_on kept at done info payload evidence h.payload (in_frame role limits old came done h.position h.rest h.followed info payload here).begins.place k
 
-    kept_here : Keeps kept at done (with_evidence h.position evidence) text
+    kept_here : KeepsEventAt kept at done (with_evidence h.position evidence) text
     kept_here = with_it h.position refl h.keeps
 
     here_refused : IsRefusedHere role limits (came ++ share) (Refused refusal)
@@ -353,38 +348,38 @@ module _ (role : Role) (limits : Limits) (at : ℕ) (old new : Scan) (piece afte
     most_refused = let room = reaches.0.has_consumed.room in omega (arith, room)
 
     pub refused_step : (out : Outgoing) → IsWritten now out (own_part kept evidence) → (answer : Payload) → answer ≡ ended_answer kept (Refused refusal)
-        → SeeksOn role limits at new kept came piece first out (Ok (n, Some answer))
+        → SeeksOn role limits at new kept came chunk first out (Ok (n, Some answer))
     refused_step out written answer answer_is = by kept.begun refl kept_here.begun
       where
         all : IsWritten first out text
         all = put_both first now out h.payload (own_part kept evidence) h.written written
 
-        by : (b : Bool) → kept.begun ≡ b → HasBegunAt b done (with_evidence h.position evidence) at text → SeeksOn role limits at new kept came piece first out (Ok (n, Some answer))
+        by : (b : Bool) → kept.begun ≡ b → HasBegunAt b done (with_evidence h.position evidence) at text → SeeksOn role limits at new kept came chunk first out (Ok (n, Some answer))
         by true is_begun has =
             let it : answer ≡ Unfinished (Refused refusal) = answer_is ∙ cond-true kept.begun (Unfinished (Refused refusal)) (answer_without_event kept.next (is_judged (Refused refusal) kept.at) (Refused refusal)) is_begun in
-            subst (λ (a : Payload). SeeksOn role limits at new kept came piece first out (Ok (n, Some a))) (sym it)
+            subst (λ (a : Payload). SeeksOn role limits at new kept came chunk first out (Ok (n, Some a))) (sym it)
             (most_refused, (here_refused, (text, (λ later. record { frames = done; position = with_evidence h.position evidence; are_apart = refused_apart later; is_begun = has }), all)))
         by false is_begun has = at_end (answered_without kept (Refused refusal) answer answer_is is_begun)
           where
             nothing : IsWritten first out []
             nothing = subst (IsWritten first out) has.1 all
 
-            at_end : IsAnswered kept (Refused refusal) answer → SeeksOn role limits at new kept came piece first out (Ok (n, Some answer))
+            at_end : IsAnswered kept (Refused refusal) answer → SeeksOn role limits at new kept came chunk first out (Ok (n, Some answer))
             at_end (InHead start next judged it) =
-                subst (λ (a : Payload). SeeksOn role limits at new kept came piece first out (Ok (n, Some a))) (sym it)
+                subst (λ (a : Payload). SeeksOn role limits at new kept came chunk first out (Ok (n, Some a))) (sym it)
                 (most_refused, (here_refused, (λ later. in_head role limits ((came ++ share) ++ later) done at kept (with_evidence h.position evidence) text kept_here (Refused refusal) (refused_apart later) has.0 start next judged), nothing))
             at_end (AfterAll why it) =
-                subst (λ (a : Payload). SeeksOn role limits at new kept came piece first out (Ok (n, Some a))) (sym it)
+                subst (λ (a : Payload). SeeksOn role limits at new kept came chunk first out (Ok (n, Some a))) (sym it)
                 (most_refused, (here_refused, (λ later. after_all role limits ((came ++ share) ++ later) done at kept (with_evidence h.position evidence) text kept_here (Refused refusal) (refused_apart later) has.0 why), nothing))
 
     pub refused_failed : (out : Outgoing) → kept.own ≡ true → IsPartlyWritten now out (own_part kept evidence)
-        → ((payload : List ℕ) × IsPayloadInFront role limits (came ++ piece) at payload × IsPartlyWritten first out payload) × IsWrittenBut (length piece) role limits at (came ++ piece) first out
+        → ((payload : List ℕ) × IsPayloadInFront role limits (came ++ chunk) at payload × IsPartlyWritten first out payload) × IsWrittenBut (length chunk) (IsPartOf role limits at) (came ++ chunk) first out
     refused_failed out own partly = (
       (text, in_refused, put_front first now out h.payload (own_part kept evidence) h.written partly),
-      before_piece role limits at old kept came piece first now out h (own_part kept evidence) partly,
+      before_chunk role limits at old kept came chunk first now out h (own_part kept evidence) partly,
     )
       where
-        has_begun : (p : Position) → with_evidence h.position evidence ≡ p → Keeps kept at done p text → IsBegunAt done p at text
+        has_begun : (p : Position) → with_evidence h.position evidence ≡ p → KeepsEventAt kept at done p text → IsBegunAt done p at text
         has_begun BetweenFrames here k = let both : true ≡ false = sym own ∙ k.frame.1 in absurd cc
         has_begun (InFrame info payload) here k = of kept.begun k.begun
           where
@@ -399,11 +394,11 @@ module _ (role : Role) (limits : Limits) (at : ℕ) (old new : Scan) (piece afte
                 let same = k.frame.2.0 own in
                 absurd (omega (arith, ends, within, same, place))
 
-        in_refused : IsPayloadInFront role limits (came ++ piece) at text
+        in_refused : IsPayloadInFront role limits (came ++ chunk) at text
         in_refused = record {
           front = came ++ share;
-          later = drop n piece;
-          whole = ap (λ (bs : List ℕ). came ++ bs) (sym (take-append-drop n piece)) ∙ sym (append_assoc came share (drop n piece));
+          later = drop n chunk;
+          whole = ap (λ (bs : List ℕ). came ++ bs) (sym (take-append-drop n chunk)) ∙ sym (append_assoc came share (drop n chunk));
           within = most_refused;
           is = inr (
             Refused refusal,

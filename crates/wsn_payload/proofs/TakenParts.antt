@@ -12,37 +12,37 @@ use Rattle.wsn_scan.specs.declared.part.Part.{Part}
 use Rattle.wsn_scan.specs.Parts.{IsPartAt}
 use Rattle.wsn_scan.specs.Positions.{Position, BetweenFrames, InFrame}
 use Rattle.wsn_payload.specs.declared.event_at.EventAt.{EventAt}
-use Rattle.wsn_payload.specs.EventsAt.{IsBegunAt, EndBefore}
+use Rattle.wsn_payload.specs.EventsAt.{IsBegunAt, EndBefore, EndsEvent}
 use Rattle.wsn_scan.specs.FollowedScans.{IsTaken}
 use Rattle.wsn_scan.proofs.FollowedScans.{begins_at, goes_on_at}
-use Rattle.wsn_payload.specs.Following.{HasBegunAt, Keeps, EndsEvent, EndsFrame, own_part}
+use Rattle.wsn_payload.specs.Following.{HasBegunAt, KeepsEventAt, EndsFrame, own_part}
 use Rattle.wsn_payload.proofs.OpenMessages.{offset_within}
 use Rattle.wsn_payload.proofs.KeptEvents.{goes_on, content_whole, begun_own}
 
 -- What is kept when the part's payload has been written: the frame has begun.
-pub into_frame : (kept : EventAt) (at : ℕ) (fs : List Frame) (from : Position) (part : Part) (before text : List ℕ) → part.begins ≡ false → IsPartAt from part before → Keeps kept at fs from text
-    → Keeps kept at fs (InFrame part.head before) text
-into_frame kept at fs from part before text goes is_at k = subst (λ (p : Position). Keeps kept at fs p text) (goes_on_at from part before is_at goes) k
+pub into_frame : (kept : EventAt) (at : ℕ) (fs : List Frame) (from : Position) (part : Part) (before text : List ℕ) → part.begins ≡ false → IsPartAt from part before → KeepsEventAt kept at fs from text
+    → KeepsEventAt kept at fs (InFrame part.head before) text
+into_frame kept at fs from part before text goes is_at k = subst (λ (p : Position). KeepsEventAt kept at fs p text) (goes_on_at from part before is_at goes) k
 
 -- A part that begins a frame comes between frames.
-pub begins_between : (kept : EventAt) (at : ℕ) (fs : List Frame) (from : Position) (part : Part) (before text : List ℕ) → part.begins ≡ true → IsPartAt from part before → Keeps kept at fs from text
-    → Keeps kept at fs BetweenFrames text × (before ≡ [])
-begins_between kept at fs from part before text begins is_at k = let is = begins_at from part before is_at begins in (subst (λ (p : Position). Keeps kept at fs p text) is.0 k, is.1)
+pub begins_between : (kept : EventAt) (at : ℕ) (fs : List Frame) (from : Position) (part : Part) (before text : List ℕ) → part.begins ≡ true → IsPartAt from part before → KeepsEventAt kept at fs from text
+    → KeepsEventAt kept at fs BetweenFrames text × (before ≡ [])
+begins_between kept at fs from part before text begins is_at k = let is = begins_at from part before is_at begins in (subst (λ (p : Position). KeepsEventAt kept at fs p text) is.0 k, is.1)
 
 module _ (role : Role) (limits : Limits) (kept : EventAt) (at : ℕ) (fs frames : List Frame) (position : Position) (rest before share since text : List ℕ) (part : Part) (payload : List ℕ)
     (t : IsTaken role limits fs rest before part payload share frames position since) (place : part.head.place ≡ length (stream fs))
-    (k : Keeps kept at fs (InFrame part.head before) text) where
+    (k : KeepsEventAt kept at fs (InFrame part.head before) text) where
   abbrev more : List ℕ
   more = own_part kept payload
 
-  further : Keeps kept at fs (InFrame part.head (before ++ payload)) (text ++ more)
+  further : KeepsEventAt kept at fs (InFrame part.head (before ++ payload)) (text ++ more)
   further = goes_on kept at fs part.head before payload text place k
 
   -- the frame isn't complete
-  pub within_frame : part.ends ≡ false → Keeps kept at frames position (text ++ more)
+  pub within_frame : part.ends ≡ false → KeepsEventAt kept at frames position (text ++ more)
   within_frame goes =
       let there = t.goes_on.within goes in
-      subst (λ (p : Position). Keeps kept at frames p (text ++ more)) (sym there.1) (subst (λ (hs : List Frame). Keeps kept at hs (InFrame part.head (before ++ payload)) (text ++ more)) (sym there.0) further)
+      subst (λ (p : Position). KeepsEventAt kept at frames p (text ++ more)) (sym there.1) (subst (λ (hs : List Frame). KeepsEventAt kept at hs (InFrame part.head (before ++ payload)) (text ++ more)) (sym there.0) further)
 
   -- the frame is complete
   module _ (ends : part.ends ≡ true) where
@@ -61,14 +61,14 @@ module _ (role : Role) (limits : Limits) (kept : EventAt) (at : ℕ) (fs frames 
     pub lawful : IsLawful role limits (fs ++ frame ∷ [])
     lawful = subst (IsLawful role limits) frames_are t.lawful
 
-    pub whole_frame : Keeps kept at fs (InFrame (info_of (length (stream fs)) frame) frame.payload) (text ++ more)
+    pub whole_frame : KeepsEventAt kept at fs (InFrame (info_of (length (stream fs)) frame) frame.payload) (text ++ more)
     whole_frame =
-        subst (λ (bs : List ℕ). Keeps kept at fs (InFrame (info_of (length (stream fs)) frame) bs) (text ++ more)) (sym (t.goes_on.ends ends).2)
-        (subst (λ (i : HeadInfo). Keeps kept at fs (InFrame i (before ++ payload)) (text ++ more)) head_is further)
+        subst (λ (bs : List ℕ). KeepsEventAt kept at fs (InFrame (info_of (length (stream fs)) frame) bs) (text ++ more)) (sym (t.goes_on.ends ends).2)
+        (subst (λ (i : HeadInfo). KeepsEventAt kept at fs (InFrame i (before ++ payload)) (text ++ more)) head_is further)
 
-    pub ended : (new : EventAt) → EndsFrame new at fs frame (text ++ more) false → Keeps new at frames position (text ++ more)
+    pub ended : (new : EventAt) → EndsFrame new at fs frame (text ++ more) false → KeepsEventAt new at frames position (text ++ more)
     ended new is =
-        subst (λ (p : Position). Keeps new at frames p (text ++ more)) (sym at_end) (subst (λ (hs : List Frame). Keeps new at hs BetweenFrames (text ++ more)) (sym frames_are) is)
+        subst (λ (p : Position). KeepsEventAt new at frames p (text ++ more)) (sym at_end) (subst (λ (hs : List Frame). KeepsEventAt new at hs BetweenFrames (text ++ more)) (sym frames_are) is)
 
   -- the frame belongs to the event, whose payload so far this is
   pub so_far : event_offset fs (frame_so_far part.head before) ≡ at → IsBegunAt frames position at (text ++ more) ⊎ ((f : Frame) × (frames ≡ fs ++ f ∷ []) × EndsEvent fs f at (text ++ more))

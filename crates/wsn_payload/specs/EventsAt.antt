@@ -1,28 +1,28 @@
 -- The event that begins at an offset of a stream: its payload, what has come of it, or where the offset is if no event
 -- begins there. RFC 6455 sections 5.4 to 5.6.
-use Rattle.std.specs.Prelude.{◌≡◌, ◌≢◌, ℕ, ◌+◌, ◌<◌, ◌≤◌, ◌⊎◌, true, List, [], ◌∷◌, ◌++◌, length, take, drop, if◌then◌else◌}
+use Rattle.std.specs.Prelude.{◌≡◌, ◌≢◌, ℕ, ◌+◌, ◌<◌, ◌≤◌, ◌⊎◌, true, List, [], ◌∷◌, ◌++◌, length, drop, if◌then◌else◌}
 use Rattle.wsn_wire.specs.declared.endpoint.Role.{Role}
 use Rattle.wsn_wire.specs.Frame.{Frame, is_control, head_bytes, stream, wire_payload}
 use Rattle.wsn_rules.specs.declared.head_info.HeadInfo.{HeadInfo}
 use Rattle.wsn_rules.specs.declared.verdict.Verdict.{Verdict}
-use Rattle.wsn_rules.specs.declared.verdict.Verdict.TheVariants.{Refused}
 use Rattle.wsn_rules.specs.Limits.{Limits}
 use Rattle.wsn_rules.specs.Group.{unfinished, IsOpen, first_op, payload_of}
 use Rattle.wsn_rules.specs.Lawful.{IsLawful}
 use Rattle.wsn_rules.specs.Accepted.{HasNoClose, EndsWithClose}
-use Rattle.wsn_rules.specs.Meaning.{MeantEvent, Message, Control, event_at}
+use Rattle.wsn_rules.specs.Meaning.{event_at, payload_in}
 use Rattle.wsn_rules.specs.Heads.{heads_of, BeginsWithHead, AreHeads}
 use Rattle.wsn_rules.specs.ShownStream.{open_offset, event_offset, frame_so_far}
-use Rattle.wsn_rules.specs.Verdict.{IsVerdict}
+use Rattle.wsn_rules.specs.Verdict.{IsVerdict, judged_bytes}
 use Rattle.wsn_scan.specs.Positions.{Position, BetweenFrames, InFrame}
 use Rattle.wsn_payload.specs.declared.answer.EventStart.{EventStart}
 
--- The payload of an event: a message's, joined from its frames, or a control's.
-abbrev pub content : MeantEvent → List ℕ
-content (Message kind payload) = payload
-content (Control op body) = body
-
 -- ---- complete
+
+-- The frame ends the event that begins at the offset, which has this payload.
+pub record EndsEvent (fs : List Frame) (f : Frame) (at : ℕ) (payload : List ℕ) : Type 0 where
+  pub final : f.fin ≡ true
+  pub begins : event_offset fs f ≡ at
+  pub payload_is : payload ≡ payload_in (event_at fs f)
 
 -- The bytes begin with lawful frames, within the input limit. The last of them ends the event that begins at this
 -- offset, and this is its payload.
@@ -33,9 +33,7 @@ pub record IsWholeAt (role : Role) (limits : Limits) (bytes : List ℕ) (at : �
   pub whole : bytes ≡ stream (before ++ last ∷ []) ++ later
   pub within : length (stream (before ++ last ∷ [])) ≤ limits.input
   pub lawful : IsLawful role limits (before ++ last ∷ [])
-  pub final : last.fin ≡ true
-  pub begins : event_offset before last ≡ at
-  pub payload_is : payload ≡ content (event_at before last)
+  pub ends : EndsEvent before last at payload
 
 -- ---- not complete
 
@@ -60,7 +58,7 @@ abbrev pub IsBegunAt : List Frame → Position → ℕ → List ℕ → Type 0
 IsBegunAt fs BetweenFrames at payload = IsOpenAt fs at payload
 IsBegunAt fs (InFrame info part) at payload =
     ((is_control info.op ≡ true) × IsOpenAt fs at payload)
-    ⊎ ((event_offset fs (frame_so_far info part) ≡ at) × (payload ≡ content (event_at fs (frame_so_far info part))))
+    ⊎ ((event_offset fs (frame_so_far info part) ≡ at) × (payload ≡ payload_in (event_at fs (frame_so_far info part))))
 
 -- The offset at which a frame with this head ends.
 abbrev pub end_of : HeadInfo → ℕ
@@ -70,11 +68,6 @@ end_of info = info.place + length (head_bytes info.fin info.op info.key info.for
 abbrev pub EndBefore : List Frame → Position → ℕ → Type 0
 EndBefore fs BetweenFrames at = length (stream fs) ≤ at
 EndBefore fs (InFrame info part) at = end_of info ≤ at
-
--- The bytes of which a verdict takes account: up to the offending byte, with it, or all.
-abbrev pub judged_bytes : Verdict → List ℕ → List ℕ
-judged_bytes (Refused refusal) bytes = take (refusal.place + 1) bytes
-judged_bytes verdict bytes = bytes
 
 -- The bytes have this verdict, and up to their end or to the offending byte they are these frames and then this.
 pub record AreApart (role : Role) (limits : Limits) (bytes : List ℕ) (verdict : Verdict) (fs : List Frame)
@@ -123,6 +116,13 @@ pub record IsStartOf (before : List Frame) (info : HeadInfo) (start : EventStart
   pub op : start.op ≡ (if is_control info.op then info.op else first_op (unfinished before ++ frame_so_far info [] ∷ []))
   pub offset : start.offset ≡ event_offset before (frame_so_far info [])
 
+-- The offset is in the frame with this head, after the frames fs, and its event begins elsewhere.
+pub record IsElsewhere (fs : List Frame) (info : HeadInfo) (at : ℕ) (start : EventStart) : Type 0 where
+  pub from : info.place ≤ at
+  pub to : at < end_of info
+  pub is_start : IsStartOf fs info start
+  pub other : start.offset ≢ at
+
 -- The offset is in a frame of this event, which begins elsewhere: the bytes begin with frames, within the input limit,
 -- and the head of the last of them, which is complete and valid so far, says so. The frame may be whole.
 pub record IsInsideAt (role : Role) (limits : Limits) (bytes : List ℕ) (at : ℕ) (start : EventStart) : Type 0 where
@@ -134,7 +134,4 @@ pub record IsInsideAt (role : Role) (limits : Limits) (bytes : List ℕ) (at : �
   pub last : List Frame
   pub info : HeadInfo
   pub are_heads : AreHeads role limits front (before ++ last) (heads_of before ++ info ∷ [])
-  pub from : info.place ≤ at
-  pub to : at < end_of info
-  pub is_start : IsStartOf before info start
-  pub elsewhere : start.offset ≢ at
+  pub elsewhere : IsElsewhere before info at start

@@ -1,6 +1,6 @@
 -- What is kept of the event that begins at an offset, while a scan takes the parts of frames.
-use Rattle.std.specs.Prelude.{◌≡◌, ◌≢◌, ℕ, ◌+◌, ◌^◌, ◌<◌, ◌≤◌, ◌↔◌, ◌⊎◌, nat_lt, nat_le, Bool, true, false, IfSome, Option, None, Some, Result, Ok, Err, List, [], ◌∷◌, ◌++◌, length, take, if◌then◌else◌}
-use Rattle.wsn_io.specs.Transfer.{Outgoing, IsWritten, IsPartlyWritten}
+use Rattle.std.specs.Prelude.{◌≡◌, ℕ, ◌+◌, ◌^◌, ◌<◌, ◌≤◌, ◌↔◌, ◌⊎◌, nat_lt, nat_le, Bool, true, false, IfSome, Option, None, Some, Result, Ok, Err, List, [], ◌∷◌, ◌++◌, length, take, if◌then◌else◌}
+use Rattle.wsn_io.specs.Transfer.{Outgoing, IsWritten, IsPartlyWritten, IsWrittenBut}
 use Rattle.wsn_io.specs.declared.stop.Stop.{Stop}
 use Rattle.wsn_io.specs.declared.stop.Stop.TheVariants as stop
 use Rattle.wsn_wire.specs.declared.endpoint.Role.{Role}
@@ -12,7 +12,6 @@ use Rattle.wsn_rules.specs.declared.verdict.Verdict.{Verdict}
 use Rattle.wsn_rules.specs.declared.verdict.Verdict.TheVariants.{Accepted, Cut, Refused}
 use Rattle.wsn_rules.specs.Limits.{Limits}
 use Rattle.wsn_rules.specs.Group.{unfinished, IsOpen, first_op}
-use Rattle.wsn_rules.specs.Meaning.{event_at}
 use Rattle.wsn_rules.specs.ShownStream.{open_offset, event_offset, frame_so_far}
 use Rattle.wsn_rules.specs.Verdict.{IsRefused}
 use Rattle.wsn_scan.specs.declared.scan.Scan.{Scan}
@@ -22,8 +21,8 @@ use Rattle.wsn_payload.specs.declared.answer.EventStart.{EventStart}
 use Rattle.wsn_payload.specs.declared.answer.Payload.{Payload}
 use Rattle.wsn_payload.specs.declared.answer.Payload.TheVariants.{Whole, Unfinished, Inside, Head, Nothing}
 use Rattle.wsn_payload.specs.declared.event_at.EventAt.{EventAt}
-use Rattle.wsn_payload.specs.EventsAt.{content, IsWholeAt, IsBegunAt, end_of, EndBefore, IsUnfinishedAt, IsInHeadAt, IsAfterAll, IsStartOf, IsInsideAt}
-use Rattle.wsn_payload.specs.Payloads.{IsPayloadInFront, IsWrittenBut}
+use Rattle.wsn_payload.specs.EventsAt.{IsWholeAt, IsBegunAt, EndBefore, IsUnfinishedAt, IsInHeadAt, IsAfterAll, IsInsideAt, EndsEvent, IsElsewhere}
+use Rattle.wsn_payload.specs.Payloads.{IsPayloadInFront, IsPartOf}
 
 -- The opcode and the offset of the first frame of the open message are kept, if one is open.
 abbrev pub KeepsOpen : EventAt → List Frame → Type 0
@@ -54,7 +53,7 @@ HasBegunAt true fs position at payload = IsBegunAt fs position at payload
 HasBegunAt false fs position at payload = EndBefore fs position at × (payload ≡ [])
 
 -- After these frames and at this position, all of that is kept, and this is the event's payload so far.
-pub record Keeps (kept : EventAt) (at : ℕ) (fs : List Frame) (position : Position) (payload : List ℕ) : Type 0 where
+pub record KeepsEventAt (kept : EventAt) (at : ℕ) (fs : List Frame) (position : Position) (payload : List ℕ) : Type 0 where
   pub sought : kept.at ≡ at
   pub frame : KeepsFrame kept fs position at
   pub next : kept.next ≡ next_at fs position
@@ -70,28 +69,15 @@ pub record MayBegin (fs : List Frame) (info : HeadInfo) : Type 0 where
   pub size : info.len < 2 ^ 63
   pub key : IfSome info.key IsKey
 
--- The offset is in the frame with this head, after the frames fs, and its event begins elsewhere.
-pub record IsElsewhere (fs : List Frame) (info : HeadInfo) (at : ℕ) (start : EventStart) : Type 0 where
-  pub from : info.place ≤ at
-  pub to : at < end_of info
-  pub is_start : IsStartOf fs info start
-  pub other : start.offset ≢ at
-
 -- After the frames fs a frame begins, and this is kept; or the offset is in it, and its event begins elsewhere.
 abbrev pub BeginsFrame : EventAt → ℕ → List Frame → HeadInfo → List ℕ → Option EventStart → Type 0
-BeginsFrame kept at fs info payload None = Keeps kept at fs (InFrame info []) payload
+BeginsFrame kept at fs info payload None = KeepsEventAt kept at fs (InFrame info []) payload
 BeginsFrame kept at fs info payload (Some start) = IsElsewhere fs info at start × (payload ≡ [])
-
--- The frame ends the event that begins at the offset, which has this payload.
-pub record EndsEvent (fs : List Frame) (f : Frame) (at : ℕ) (payload : List ℕ) : Type 0 where
-  pub final : f.fin ≡ true
-  pub begins : event_offset fs f ≡ at
-  pub payload_is : payload ≡ content (event_at fs f)
 
 -- After the frames fs the frame f has ended. It ends the event; or it doesn't, and this is kept.
 abbrev pub EndsFrame : EventAt → ℕ → List Frame → Frame → List ℕ → Bool → Type 0
 EndsFrame kept at fs f payload true = EndsEvent fs f at payload
-EndsFrame kept at fs f payload false = Keeps kept at (fs ++ f ∷ []) BetweenFrames payload
+EndsFrame kept at fs f payload false = KeepsEventAt kept at (fs ++ f ∷ []) BetweenFrames payload
 
 -- More payload of the frame that has begun was written, if it belongs to the event.
 abbrev pub own_part : EventAt → List ℕ → List ℕ
@@ -103,7 +89,7 @@ own_part kept part = if kept.own then part else []
 abbrev pub TakesPart : EventAt → ℕ → List Frame → HeadInfo → List Frame → Position → List ℕ → Outgoing → Outgoing →
     Result (Option Payload) Stop → Type 0
 TakesPart kept at fs info frames position payload before after (Ok None) =
-    (more : List ℕ) × Keeps kept at frames position (payload ++ more) × IsWritten before after more
+    (more : List ℕ) × KeepsEventAt kept at frames position (payload ++ more) × IsWritten before after more
 TakesPart kept at fs info frames position payload before after (Ok (Some Whole)) =
     (more : List ℕ) × (f : Frame) × (frames ≡ fs ++ f ∷ []) × EndsEvent fs f at (payload ++ more)
     × IsWritten before after more
@@ -147,7 +133,7 @@ pub record HasSought (role : Role) (limits : Limits) (at : ℕ) (scan : Scan) (k
   pub rest : List ℕ
   pub followed : HasFollowed role limits scan came frames position rest
   pub payload : List ℕ
-  pub keeps : Keeps kept at frames position payload
+  pub keeps : KeepsEventAt kept at frames position payload
   pub written : IsWritten first now payload
 
 -- Some bytes came, or none.
@@ -189,27 +175,27 @@ abbrev pub IsStepOf : ℕ → Result (Option Payload) Stop → Result (ℕ × Op
 IsStepOf n (Ok answer) given = given ≡ Ok (n, answer)
 IsStepOf n (Err stopped) given = given ≡ Err stopped
 
--- Of the bytes and then the first n of this piece, an answer; or what is kept. After a failed write, a prefix of the
--- payload in some of them was written, and all that came before the piece.
+-- Of the bytes and then the first n of this chunk, an answer; or what is kept. After a failed write, a prefix of the
+-- payload in some of them was written, and all that came before the chunk.
 abbrev pub SeeksOn : Role → Limits → ℕ → Scan → EventAt → List ℕ → List ℕ → Outgoing → Outgoing →
     Result (ℕ × Option Payload) Stop → Type 0
-SeeksOn role limits at scan kept came piece first now (Ok (n, None)) =
-    HasSought role limits at scan kept (came ++ take n piece) first now
-SeeksOn role limits at scan kept came piece first now (Ok (n, Some answer)) =
-    (length (came ++ take n piece) ≤ limits.input)
-    × IsAnsweredAt role limits at (came ++ take n piece) first now answer
-SeeksOn role limits at scan kept came piece first now (Err stopped) =
+SeeksOn role limits at scan kept came chunk first now (Ok (n, None)) =
+    HasSought role limits at scan kept (came ++ take n chunk) first now
+SeeksOn role limits at scan kept came chunk first now (Ok (n, Some answer)) =
+    (length (came ++ take n chunk) ≤ limits.input)
+    × IsAnsweredAt role limits at (came ++ take n chunk) first now answer
+SeeksOn role limits at scan kept came chunk first now (Err stopped) =
     (stopped ≡ stop.Write)
-    × ((payload : List ℕ) × IsPayloadInFront role limits (came ++ piece) at payload × IsPartlyWritten first now payload)
-    × IsWrittenBut (length piece) role limits at (came ++ piece) first now
+    × ((payload : List ℕ) × IsPayloadInFront role limits (came ++ chunk) at payload × IsPartlyWritten first now payload)
+    × IsWrittenBut (length chunk) (IsPartOf role limits at) (came ++ chunk) first now
 
--- The same of a whole piece, or of its bytes up to the answer.
+-- The same of a whole chunk, or of its bytes up to the answer.
 abbrev pub SeeksThrough : Role → Limits → ℕ → Scan → EventAt → List ℕ → List ℕ → Outgoing → Outgoing →
     Result (Option Payload) Stop → Type 0
-SeeksThrough role limits at scan kept came piece first now (Ok None) =
-    HasSought role limits at scan kept (came ++ piece) first now
-SeeksThrough role limits at scan kept came piece first now (Ok (Some answer)) =
-    (n : ℕ) × (n ≤ length piece)
-    × SeeksOn role limits at scan kept came piece first now (Ok (n, Some answer))
-SeeksThrough role limits at scan kept came piece first now (Err stopped) =
-    SeeksOn role limits at scan kept came piece first now (Err stopped)
+SeeksThrough role limits at scan kept came chunk first now (Ok None) =
+    HasSought role limits at scan kept (came ++ chunk) first now
+SeeksThrough role limits at scan kept came chunk first now (Ok (Some answer)) =
+    (n : ℕ) × (n ≤ length chunk)
+    × SeeksOn role limits at scan kept came chunk first now (Ok (n, Some answer))
+SeeksThrough role limits at scan kept came chunk first now (Err stopped) =
+    SeeksOn role limits at scan kept came chunk first now (Err stopped)

@@ -1,7 +1,6 @@
 -- What taking a payload out of a stream answers, what the answer says of the bytes that came, and what was written.
 use Rattle.std.specs.Prelude.{◌≡◌, ℕ, ◌+◌, ◌<◌, ◌≤◌, ◌⊎◌, ⊤, false, Result, Ok, Err, List, [], ◌++◌, length, take}
-use Rattle.std.specs.Io.KnownBytes.{Appends}
-use Rattle.wsn_io.specs.Transfer.{Incoming, Outgoing, IsReceived, IsWritten, IsPartlyWritten}
+use Rattle.wsn_io.specs.Transfer.{Incoming, Outgoing, IsReceived, IsWritten, IsPartlyWritten, IsWrittenBut}
 use Rattle.wsn_io.specs.declared.stop.Stop.{Stop}
 use Rattle.wsn_io.specs.declared.stop.Stop.TheVariants as stop
 use Rattle.wsn_wire.specs.declared.endpoint.Role.{Role}
@@ -19,6 +18,10 @@ IsPartAt role limits bytes verdict at payload =
     IsUnfinishedAt role limits bytes verdict at payload
     ⊎ (EndsBefore role limits bytes verdict at × (payload ≡ []))
 
+-- The same at their verdict.
+abbrev pub IsPartOf : Role → Limits → ℕ → List ℕ → List ℕ → Type 0
+IsPartOf role limits at bytes payload = (verdict : Verdict) × IsPartAt role limits bytes verdict at payload
+
 -- A prefix of the bytes, within the input limit, has this payload of the event that begins at the offset: all of it, or
 -- what has come of it.
 pub record IsPayloadInFront (role : Role) (limits : Limits) (bytes : List ℕ) (at : ℕ) (payload : List ℕ) : Type 0 where
@@ -28,20 +31,6 @@ pub record IsPayloadInFront (role : Role) (limits : Limits) (bytes : List ℕ) (
   pub within : length front ≤ limits.input
   pub is : IsWholeAt role limits front at payload
       ⊎ ((verdict : Verdict) × IsUnfinishedAt role limits front verdict at payload)
-
--- What has come in these bytes of the payload was written, and perhaps more.
-abbrev pub IsWrittenAtLeast : Role → Limits → ℕ → List ℕ → Outgoing → Outgoing → Type 0
-IsWrittenAtLeast role limits at bytes before after = (verdict : Verdict) × (payload more : List ℕ)
-    × IsPartAt role limits bytes verdict at payload × Appends before.written after.written (payload ++ more)
-
--- The same of all but the last bytes, at most this many.
-pub record IsWrittenBut (most : ℕ) (role : Role) (limits : Limits) (at : ℕ) (came : List ℕ) (before after : Outgoing)
-    : Type 0 where
-  pub done : List ℕ
-  pub last : List ℕ
-  pub whole : came ≡ done ++ last
-  pub short : length last ≤ most
-  pub written : IsWrittenAtLeast role limits at done before after
 
 -- The answer is right for the bytes that came, and this was written. The event is complete: all of its payload. It isn't,
 -- at the verdict: what has come of it. The offset is inside an event, in a head, or after all that came: nothing. After a
@@ -62,17 +51,17 @@ IsPayloadAnswer role limits at new came before after (Err stop.Write) =
     (payload : List ℕ) × IsPayloadInFront role limits came at payload × IsPartlyWritten before after payload
     × (new.failed ≡ false)
 IsPayloadAnswer role limits at new came before after (Err stopped) =
-    (payload : List ℕ) × ((verdict : Verdict) × IsPartAt role limits (take limits.input came) verdict at payload)
+    (payload : List ℕ) × IsPartOf role limits at (take limits.input came) payload
     × IsWritten before after payload × IsStopped role limits new came stopped
 
 -- These bytes came from the input, at most one past its limit; the answer is right for them, and this was written. After
--- a failed write nothing more was read.
+-- a failed write nothing more was read: what has come of the payload in all but at most the last chunk was written.
 pub record IsPayloadTaken (role : Role) (limits : Limits) (at : ℕ) (old new : Incoming) (before after : Outgoing)
     (result : Result Payload Stop) : Type 0 where
   pub came : List ℕ
   pub received : IsReceived (limits.input + 1) old new came
   pub answer : IsPayloadAnswer role limits at new came before after result
-  pub at_once : result ≡ Err stop.Write → IsWrittenBut chunk_size role limits at came before after
+  pub at_once : result ≡ Err stop.Write → IsWrittenBut chunk_size (IsPartOf role limits at) came before after
 
 -- ---- an input whose bytes are known
 
@@ -91,6 +80,6 @@ IsPayloadOfAll role limits at all before after (Ok (Head start verdict)) =
 IsPayloadOfAll role limits at all before after (Ok (Nothing verdict)) =
     IsAfterAll role limits all verdict at × IsWritten before after [] × IsWithinLimit limits all verdict
 IsPayloadOfAll role limits at all before after (Err stop.InputLimit) =
-    (payload : List ℕ) × ((verdict : Verdict) × IsPartAt role limits (take limits.input all) verdict at payload)
+    (payload : List ℕ) × IsPartOf role limits at (take limits.input all) payload
     × IsWritten before after payload × (limits.input < length all) × IsUnrefused role limits (take limits.input all)
 IsPayloadOfAll role limits at all before after (Err stopped) = ⊤

@@ -35,12 +35,12 @@ impl EventAt {
     ghost use Rattle.wsn_scan.specs.Parts.{IsPartAt};
     ghost use Rattle.wsn_scan.specs.Positions.{Position, BetweenFrames, InFrame};
     ghost use Rattle.wsn_scan.specs.FollowedScans.{IsTaken};
-    ghost use Rattle.wsn_payload.specs.Following.{Keeps, MayBegin, BeginsFrame, EndsFrame, TakesPart, own_part, ended_answer};
+    ghost use Rattle.wsn_payload.specs.Following.{KeepsEventAt, MayBegin, BeginsFrame, EndsFrame, TakesPart, own_part, ended_answer};
 
     /// No part has come.
     #[tactic(none)]
     pub fn new(at: u64) -> EventAt
-        ensures { Keeps result at [] BetweenFrames [] }
+        ensures { KeepsEventAt result at [] BetweenFrames [] }
     {
         EventAt {
             at,
@@ -67,7 +67,7 @@ impl EventAt {
         ensures { (role : Role) (limits : Limits) (at : ℕ) (fs frames : List Frame) (from position : Position)
             (rest before share since text : List ℕ) → MayBegin fs part.now.head → IsPartAt from part.now before →
             IsTaken role limits fs rest before part.now payload.now share frames position since →
-            Keeps self.old at fs from text →
+            KeepsEventAt self.old at fs from text →
             TakesPart self.new at fs part.now.head frames position text output.old output.new result }
     {
         if part.begins {
@@ -86,7 +86,7 @@ impl EventAt {
     #[tactic(none)]
     fn begin(&mut self, head: &HeadInfo) -> Option<EventStart>
         ensures { (at : ℕ) (fs : List Frame) (text : List ℕ) → MayBegin fs head.now →
-            Keeps self.old at fs BetweenFrames text → BeginsFrame self.new at fs head.now text result }
+            KeepsEventAt self.old at fs BetweenFrames text → BeginsFrame self.new at fs head.now text result }
     {
         self.message = self.joined(head);
         let start = self.start_of(head);
@@ -145,7 +145,7 @@ impl EventAt {
     fn end(&mut self, head: &HeadInfo) -> bool
         ensures { (role : Role) (limits : Limits) (at : ℕ) (fs : List Frame) (f : Frame) (text : List ℕ) →
             head.now ≡ info_of (length (stream fs)) f → MayBegin fs head.now → IsLawful role limits (fs ++ f ∷ []) →
-            Keeps self.old at fs (InFrame (info_of (length (stream fs)) f) f.payload) text →
+            KeepsEventAt self.old at fs (InFrame (info_of (length (stream fs)) f) f.payload) text →
             EndsFrame self.new at fs f text result }
     {
         let own = self.own;

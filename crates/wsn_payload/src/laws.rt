@@ -8,10 +8,10 @@ ghost use Rattle.wsn_wire.specs.declared.endpoint.Role.{Role};
 ghost use Rattle.wsn_wire.specs.Frame.{Frame, stream};
 ghost use Rattle.wsn_rules.specs.declared.verdict.Verdict.{Verdict};
 ghost use Rattle.wsn_rules.specs.Limits.{Limits};
-ghost use Rattle.wsn_rules.specs.Meaning.{event_at};
+ghost use Rattle.wsn_rules.specs.Meaning.{event_at, payload_in};
 ghost use Rattle.wsn_rules.specs.ShownStream.{event_offset};
 ghost use Rattle.wsn_rules.specs.Verdict.{IsVerdict};
-ghost use Rattle.wsn_payload.specs.EventsAt.{content, IsWholeAt, IsUnfinishedAt, EndsBefore, IsInHeadAt, IsInsideAt};
+ghost use Rattle.wsn_payload.specs.EventsAt.{IsWholeAt, IsUnfinishedAt, EndsBefore, IsInHeadAt, IsInsideAt};
 ghost use Rattle.wsn_payload.specs.Payloads.{IsPayloadOfAll};
 ghost use Rattle.wsn_payload.specs.declared.answer.EventStart.{EventStart};
 ghost use Rattle.wsn_payload.specs.declared.answer.Payload.{Payload};
@@ -25,11 +25,11 @@ pub fn law_payload_of_event()
         (verdict : Verdict) →
         IsVerdict role limits bytes fs verdict → fs ≡ before ++ f ∷ later → f.fin ≡ true →
         length (stream (before ++ f ∷ [])) ≤ limits.input →
-        IsWholeAt role limits bytes (event_offset before f) (content (event_at before f)) }
+        IsWholeAt role limits bytes (event_offset before f) (payload_in (event_at before f)) }
     ensures one { (role : Role) (limits : Limits) (bytes payload : List ℕ) (fs before later : List Frame) (f : Frame)
         (verdict : Verdict) →
         IsVerdict role limits bytes fs verdict → fs ≡ before ++ f ∷ later → f.fin ≡ true →
-        IsWholeAt role limits bytes (event_offset before f) payload → payload ≡ content (event_at before f) }
+        IsWholeAt role limits bytes (event_offset before f) payload → payload ≡ payload_in (event_at before f) }
     ensures finished { (role : Role) (limits : Limits) (bytes payload : List ℕ) (fs before later : List Frame)
         (f : Frame) (verdict other : Verdict) →
         IsVerdict role limits bytes fs verdict → fs ≡ before ++ f ∷ later → f.fin ≡ true →
@@ -56,7 +56,7 @@ pub fn law_whole_payload()
         IsVerdict role limits all fs verdict → fs ≡ before ++ f ∷ later → f.fin ≡ true →
         length (stream (before ++ f ∷ [])) ≤ limits.input → HasNoFailure result →
         IsPayloadOfAll role limits (event_offset before f) all first after result →
-        (result ≡ Ok Whole) × IsWritten first after (content (event_at before f)) }
+        (result ≡ Ok Whole) × IsWritten first after (payload_in (event_at before f)) }
 {}
 
 /// What [`payload`](crate::payload) answers for an input's bytes and an offset, and what it writes, is one thing, in whatever

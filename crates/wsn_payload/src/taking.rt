@@ -48,22 +48,22 @@ pub fn payload<R: Read, W: Write>(
     Ok(event.ended(scan.finish()))
 }
 
-/// Takes all parts of frames in the piece, up to an answer.
+/// Takes all parts of frames in the chunk, up to an answer.
 fn take_chunk<W: Write>(
     scan: &mut Scan,
     event: &mut EventAt,
-    piece: &mut [u8],
+    chunk: &mut [u8],
     output: &mut Output<W>,
 ) -> Result<Option<Payload>, Stop>
     requires begun { IsSeeking scan.old event.old output.old }
-    requires fits { length piece.old ≤ room_of scan.old }
+    requires fits { length chunk.old ≤ room_of scan.old }
     ensures { (role : Role) (limits : Limits) (at : ℕ) (came : List ℕ) (first : Outgoing) →
         HasSought role limits at scan.old event.old came first output.old →
-        SeeksThrough role limits at scan.new event.new came piece.old first output.new result }
+        SeeksThrough role limits at scan.new event.new came chunk.old first output.new result }
 {
     let mut at = 0;
-    while at < piece.len() {
-        match take_part(scan, event, &mut piece[at..], output)? {
+    while at < chunk.len() {
+        match take_part(scan, event, &mut chunk[at..], output)? {
             (_, Some(answer)) => return Ok(Some(answer)),
             (count, None) => at += count,
         }
@@ -76,24 +76,24 @@ fn take_chunk<W: Write>(
 fn take_part<W: Write>(
     scan: &mut Scan,
     event: &mut EventAt,
-    piece: &mut [u8],
+    chunk: &mut [u8],
     output: &mut Output<W>,
 ) -> Result<(usize, Option<Payload>), Stop>
-    requires fits { length piece.old ≤ room_of scan.old }
-    requires some { 0 < length piece.old }
+    requires fits { length chunk.old ≤ room_of scan.old }
+    requires some { 0 < length chunk.old }
     requires writable { output.old.failed ≡ false }
-    ensures within { IfOk result (λ step. step.0 ≤ length piece.old) }
-    ensures kept { IfOk result (λ step. drop step.0 piece.new ≡ drop step.0 piece.old) }
+    ensures within { IfOk result (λ step. step.0 ≤ length chunk.old) }
+    ensures kept { IfOk result (λ step. drop step.0 chunk.new ≡ drop step.0 chunk.old) }
     ensures room { IfOk result (λ step. room_of scan.new + step.0 ≡ room_of scan.old) }
     ensures seeks { (role : Role) (limits : Limits) (at : ℕ) (came : List ℕ) (first : Outgoing) →
         HasSought role limits at scan.old event.old came first output.old →
-        SeeksOn role limits at scan.new event.new came piece.old first output.new result }
+        SeeksOn role limits at scan.new event.new came chunk.old first output.new result }
     ensures progress { IsSeeking scan.old event.old output.old →
         IfOk result (λ step. IsNone step.1 → 0 < step.0) }
 {
     let mut part = Part::new();
-    let (count, found) = call(scan, piece, &mut part);
-    let bytes = &piece[..count];
+    let (count, found) = call(scan, chunk, &mut part);
+    let bytes = &chunk[..count];
     let answer = match found {
         Taken::More | Taken::Closed => None,
         Taken::Part => event.take(&part, &bytes[part.start..], output)?,
@@ -107,12 +107,12 @@ fn take_part<W: Write>(
 
 /// Calls the scan once, and returns how many bytes it consumed and what they are.
 #[inline(always)]
-fn call(scan: &mut Scan, piece: &mut [u8], part: &mut Part) -> (usize, Taken)
-    requires { length piece.old ≤ room_of scan.old }
-    ensures in_bytes { IsBytes piece.old }
-    ensures call { IsBytes piece.old → IsCall scan.old scan.new piece.old piece.new result.0 result.1 part.new }
-    ensures kept { drop result.0 piece.new ≡ drop result.0 piece.old }
+fn call(scan: &mut Scan, chunk: &mut [u8], part: &mut Part) -> (usize, Taken)
+    requires { length chunk.old ≤ room_of scan.old }
+    ensures in_bytes { IsBytes chunk.old }
+    ensures call { IsBytes chunk.old → IsCall scan.old scan.new chunk.old chunk.new result.0 result.1 part.new }
+    ensures kept { drop result.0 chunk.new ≡ drop result.0 chunk.old }
     ensures start { result.1 ≡ Taken.Part → part.new.start ≤ result.0 }
 {
-    scan.next(piece, part)
+    scan.next(chunk, part)
 }

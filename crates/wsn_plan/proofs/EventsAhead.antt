@@ -8,7 +8,7 @@ use Rattle.wsn_rules.specs.Plan.{next_text}
 use Rattle.wsn_rules.specs.Fault.{BeginsWithMessage, BeginsWithControl}
 use Rattle.wsn_plan.specs.declared.kept.Kept.{Kept}
 use Rattle.wsn_plan.specs.declared.kept.Kept.TheVariants as kepts
-use Rattle.wsn_plan.specs.KeptEvents.{kept_meant}
+use Rattle.wsn_plan.specs.Gathering.{kept_meant}
 use Rattle.wsn_plan.specs.declared.walking.Walk.{Walk}
 use Rattle.wsn_plan.specs.Walking.{from_message, IsPlaced, IsControl, IsMessageOf}
 

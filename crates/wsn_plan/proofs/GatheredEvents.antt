@@ -23,8 +23,7 @@ use Rattle.wsn_events.specs.Sources.{IsLast}
 use Rattle.wsn_events.specs.Turns.{TakesTurn, GivesEvent}
 use Rattle.wsn_plan.specs.declared.gathering.Gathered.{Gathered}
 use Rattle.wsn_plan.specs.declared.kept.Kept.{Kept}
-use Rattle.wsn_plan.specs.KeptEvents.{kept_meant}
-use Rattle.wsn_plan.specs.Gathering.{HasWholeFrame, IsStoppedAfter, IsGathered}
+use Rattle.wsn_plan.specs.Gathering.{kept_meant, HasWholeFrame, IsStoppedAfter, IsGathered}
 
 -- The source has read all that came, and these are the events that it gave.
 pub record HasGathered {A B : Type 0} (role : Role) (limits : Limits) (old new : Incoming) (source : EventReader A) (events : List (Kept B)) : Type 0 where

@@ -10,7 +10,7 @@ use Rattle.wsn_rules.specs.Plan.{next_text}
 use Rattle.wsn_rules.specs.Recut.{next_message}
 use Rattle.wsn_rules.proofs.Prefixes.{head_same}
 use Rattle.wsn_plan.specs.declared.kept.Kept.{Kept}
-use Rattle.wsn_plan.specs.KeptEvents.{kept_meant}
+use Rattle.wsn_plan.specs.Gathering.{kept_meant}
 use Rattle.wsn_plan.specs.declared.walking.Walk.{Walk}
 use Rattle.wsn_plan.specs.Walking.{from_message, IsPlaced}
 use Rattle.wsn_plan.proofs.EventsAhead.{stands_at, after_one}

@@ -19,7 +19,7 @@ use Rattle.wsn_scan.specs.Feeding.{HasScannedBytes, IsRunning, heads_in}
 use Rattle.wsn_scan.specs.Parts.{Finds}
 use Rattle.wsn_scan.specs.Positions.{Position}
 use Rattle.wsn_scan.specs.Scans.{HasScanned, AdvancesFrom, room_of, refusal_in}
-use Rattle.wsn_scan.proofs.FedPieces.{IsFedTo, bytes_after, share_is, fed_further}
+use Rattle.wsn_scan.proofs.FedChunks.{IsFedTo, bytes_after, share_is, fed_further}
 use Rattle.wsn_scan.proofs.FoundHeads.{takes_by, takes_some, runs_on}
 use Rattle.wsn_plan.specs.Gathering.{HasWholeFrame}
 use Rattle.wsn_plan.specs.Planning.{HasScannedPlan, PlansPrefix, HasFrameEnd, IsPlannedChunk, step_of_head}

@@ -22,9 +22,8 @@ use Rattle.wsn_scan.specs.declared.chunk_reader.ChunkReader.{ChunkReader}
 use Rattle.wsn_scan.specs.declared.scan.Scan.{Scan}
 use Rattle.wsn_scan.specs.ChunkReaders.{HasCome, IsEndOf, IsHaltOf, StopsAt}
 use Rattle.wsn_scan.specs.Feeding.{IsRunning}
-use Rattle.wsn_scan.specs.Judging.{IsStopped, IsWithinLimit}
+use Rattle.wsn_scan.specs.Judging.{IsStopped, IsWithinLimit, chunk_size}
 use Rattle.wsn_scan.specs.Positions.{Position, BetweenFrames}
-use Rattle.wsn_scan.specs.Refill.{chunk_size}
 use Rattle.wsn_scan.specs.Scans.{HasScanned, refusal_in, refusal_judged}
 use Rattle.wsn_scan.proofs.ChunksSoFar.{received, within_limit}
 use Rattle.wsn_scan.proofs.JudgedInputs.{HasRead, begins as read_none, stopped, ended, goes_on, refuses_input}
@@ -90,33 +89,33 @@ module _ (role : Role) (limits : Limits) (old : Incoming) where
     is_ended new verdict answer end verdict_is reported says = grind (arith, ended, received, answer_for)
 
     -- The scan got the next chunk.
-    module _ (new : Incoming) (later : ChunkReader) (next : Scan) (piece : List ℕ) (come : HasCome limits old new later (so_far.came ++ piece)) (after : List Step) where
+    module _ (new : Incoming) (later : ChunkReader) (next : Scan) (chunk : List ℕ) (come : HasCome limits old new later (so_far.came ++ chunk)) (after : List Step) where
       -- it has consumed all of it
-      pub has_more : IsPlannedChunk scan next piece plan after (Ok None) → HasPlanned role limits old new later next after
+      pub has_more : IsPlannedChunk scan next chunk plan after (Ok None) → HasPlanned role limits old new later next after
       has_more (fed, plans) = record {
-        came = so_far.came ++ piece;
+        came = so_far.came ++ chunk;
         heads = so_far.heads ++ fed.heads;
-        read = goes_on role limits old mid chunks scan so_far.came so_far.heads so_far.read new later next piece come fed;
-        planned = subst (λ (bs : List ℕ). HasScannedPlan role limits next (so_far.came ++ bs) after) (take_all fed.count piece (omega (arith, fed.all refl))) (plans role limits so_far.came so_far.planned);
+        read = goes_on role limits old mid chunks scan so_far.came so_far.heads so_far.read new later next chunk come fed;
+        planned = subst (λ (bs : List ℕ). HasScannedPlan role limits next (so_far.came ++ bs) after) (take_all fed.count chunk (omega (arith, fed.all refl))) (plans role limits so_far.came so_far.planned);
       }
 
       -- it refused
-      pub is_refused : {A : Type 0} → length piece + length come.past ≤ chunk_size → (refusal : Refusal) → IsPlannedChunk scan next piece plan after (Ok (Some refusal))
+      pub is_refused : {A : Type 0} → length chunk + length come.past ≤ chunk_size → (refusal : Refusal) → IsPlannedChunk scan next chunk plan after (Ok (Some refusal))
           → IsPlanned {A = A} role limits old new (Ok (NotAccepted (Refused refusal)))
       is_refused short refusal (fed, plans) =
-          let judged = refuses_input role limits old mid chunks scan so_far.came so_far.heads so_far.read new later next piece come short refusal fed in
+          let judged = refuses_input role limits old mid chunks scan so_far.came so_far.heads so_far.read new later next chunk come short refusal fed in
           let reached = judged.answer in
-          let all = (so_far.came ++ piece) ++ come.past in
+          let all = (so_far.came ++ chunk) ++ come.past in
           let is = subst (λ (bs : List ℕ). IsRefused role limits bs reached.0 refusal.place refusal.reason) (append-nil all) (reached.1 []) in
           record { came = all; received = judged.received; of_bytes = (Refused refusal, reached.0, reached, is, (refl, λ no. no)) }
 
       -- an allocation failed
-      pub is_out_of_memory : {A : Type 0} → HasFrameEnd scan piece → IsPlanned {A = A} role limits old new (Err stop.Memory)
+      pub is_out_of_memory : {A : Type 0} → HasFrameEnd scan chunk → IsPlanned {A = A} role limits old new (Err stop.Memory)
       is_out_of_memory has_end = record {
-        came = (so_far.came ++ piece) ++ come.past;
-        received = received limits old new later (so_far.came ++ piece) come;
+        came = (so_far.came ++ chunk) ++ come.past;
+        received = received limits old new later (so_far.came ++ chunk) come;
         of_bytes = (
-          subst (λ (bs : List ℕ). HasWholeFrame role limits bs) (sym (within_limit limits old new later (so_far.came ++ piece) come)) (has_end role limits so_far.came so_far.heads so_far.read.taken),
+          subst (λ (bs : List ℕ). HasWholeFrame role limits bs) (sym (within_limit limits old new later (so_far.came ++ chunk) come)) (has_end role limits so_far.came so_far.heads so_far.read.taken),
           come.unfailed,
         );
       }

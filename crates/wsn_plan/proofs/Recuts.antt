@@ -17,14 +17,13 @@ use Rattle.wsn_rules.proofs.LawfulMeaning.{lawful_meaning}
 use Rattle.wsn_io.specs.declared.stop.Stop.{Stop}
 use Rattle.wsn_io.specs.declared.stop.Stop.TheVariants as stop
 use Rattle.wsn_scan.specs.Judging.{IsReached, IsUnrefused}
-use Rattle.wsn_plan.specs.KeptEvents.{kept_meant}
+use Rattle.wsn_plan.specs.Gathering.{kept_meant, HasWholeFrame, IsStoppedAfter, IsGathered}
 use Rattle.wsn_events.specs.Normalised.{IsWithinLimit}
 use Rattle.wsn_events.specs.Sources.{IsMeaningOf}
 use Rattle.wsn_events.proofs.WholeNormalForms.{of_all}
 use Rattle.wsn_plan.specs.declared.gathering.Gathered.{Gathered}
 use Rattle.wsn_plan.specs.declared.recutting.RecutAnswer.{RecutAnswer}
 use Rattle.wsn_plan.specs.declared.recutting.RecutAnswer.TheVariants.{NotAccepted}
-use Rattle.wsn_plan.specs.Gathering.{HasWholeFrame, IsStoppedAfter, IsGathered}
 use Rattle.wsn_events.specs.Comparing.{IsAnAccepted}
 use Rattle.wsn_events.proofs.Comparisons.{not_accepted}
 use Rattle.wsn_plan.specs.Recutting.{IsAnswerTo, GoesOut, IsRefragmented, Planner, IsRecutOf, IsRecut, IsRecutWhole}

@@ -1,26 +1,13 @@
 -- The frame of a plan's next step, by the state of a walk over the events. RFC 6455 section 5.4.
-use Rattle.std.specs.Prelude.{ℕ, ◌-◌, ⊤, true, false, Option, List, take, drop, length}
+use Rattle.std.specs.Prelude.{ℕ, ◌-◌, ⊤, true, Option, List, length}
 use Rattle.wsn_wire.specs.declared.opcode.Op.{Op}
-use Rattle.wsn_wire.specs.declared.opcode.Kind.{Kind}
-use Rattle.wsn_wire.specs.declared.length_forms.Form.{Form}
 use Rattle.wsn_wire.specs.declared.length_forms.Form.TheVariants.{Shortest}
 use Rattle.wsn_wire.specs.Frame.{Frame, FormFits}
 use Rattle.wsn_rules.specs.declared.step.Step.{Step}
 use Rattle.wsn_rules.specs.declared.step.Step.TheVariants.{Piece, Last, Control}
 use Rattle.wsn_rules.specs.Meaning.{MeantEvent}
-use Rattle.wsn_rules.specs.Recut.{op_after, next_message, step_frame}
+use Rattle.wsn_rules.specs.Recut.{next_message, step_frame}
 use Rattle.wsn_plan.specs.declared.walking.Walk.{Walk}
-
--- the frame of a Piece of this message
-abbrev pub piece_frame : Walk → ℕ → Option (List ℕ) → Form → Kind → List ℕ → Frame
-piece_frame walk len key form kind text =
-    let part = take len (drop walk.held text) in
-    record { fin = false; op = op_after walk.pieces kind; key = key; form = form; payload = part }
-
--- the frame of a Last of this message
-abbrev pub last_frame : Walk → Option (List ℕ) → Form → Kind → List ℕ → Frame
-last_frame walk key form kind text =
-    record { fin = true; op = op_after walk.pieces kind; key = key; form = form; payload = drop walk.held text }
 
 -- the frame of a control
 abbrev pub control_frame : Option (List ℕ) → Op × List ℕ → Frame

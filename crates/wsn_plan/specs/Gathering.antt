@@ -8,9 +8,17 @@ use Rattle.wsn_rules.specs.Lawful.{IsLawful}
 use Rattle.wsn_io.specs.declared.stop.Stop.{Stop}
 use Rattle.wsn_io.specs.declared.stop.Stop.TheVariants as stop
 use Rattle.wsn_scan.specs.Judging.{IsStopped}
-use Rattle.wsn_plan.specs.KeptEvents.{kept_meant}
 use Rattle.wsn_events.specs.Sources.{HasDataPayload, IsLast}
 use Rattle.wsn_plan.specs.declared.gathering.Gathered.{Gathered}
+use Rattle.wsn_rules.specs.Meaning.{MeantEvent}
+use Rattle.wsn_rules.specs.Meaning as meant_event
+use Rattle.wsn_plan.specs.declared.kept.Kept.{Kept}
+use Rattle.wsn_plan.specs.declared.kept.Kept.TheVariants.{Message, Control}
+
+-- a message, or a control with its body
+abbrev pub kept_meant : {A : Type 0} → Kept A → MeantEvent
+kept_meant (Message kind bytes) = meant_event.Message kind bytes.items
+kept_meant (Control op body) = meant_event.Control op body.items
 
 -- The bytes have a whole frame: they begin with lawful frames, at least one.
 pub record HasWholeFrame (role : Role) (limits : Limits) (bytes : List ℕ) : Type 0 where

@@ -1,5 +1,4 @@
 -- for callers and private functions
-pub mod KeptEvents
 pub mod Gathering
 pub mod Walking
 pub mod Uniform
@@ -7,4 +6,3 @@ pub mod Framing
 pub mod Recutting
 pub mod Planning
 -- for the clauses in src/
-pub mod Words

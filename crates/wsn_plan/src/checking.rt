@@ -1,5 +1,9 @@
 ghost use Rattle.std.specs.Prelude.{MatchOption, map};
-ghost use Rattle.wsn_plan.specs.Words.{InRange, AreLawful, Fits, IsFault, kept_meant};
+ghost use Rattle.wsn_rules.specs.Limits.{InRange};
+ghost use Rattle.wsn_rules.specs.LawfulEvents.{AreLawful};
+ghost use Rattle.wsn_rules.specs.Fitting.{Fits};
+ghost use Rattle.wsn_rules.specs.Fault.{IsFault};
+ghost use Rattle.wsn_plan.specs.Gathering.{kept_meant};
 
 use crate::kept::Kept;
 use crate::walking::Walk;

@@ -1,6 +1,17 @@
-ghost use Rattle.std.specs.Prelude.{◌≡◌, ℕ, ◌+◌, ◌-◌, ◌<◌, ◌≤◌, ◌^◌, true, false, Option, Some, List, length, map, drop};
-ghost use Rattle.wsn_plan.specs.Words.{FormFits, frame_bytes, is_control, Kind, Message, AreLawful, next_text, Op, op_after, IsWrittenOrStops, kept_meant, close_body, IsPlaced, IsApplicable, control_frame, piece_frame, last_frame, frame_here, EncodesItsLength};
-ghost use Rattle.wsn_rules.specs.Meaning.{Control};
+ghost use Rattle.std.specs.Prelude.{◌≡◌, ℕ, ◌+◌, ◌-◌, ◌<◌, ◌≤◌, ◌^◌, true, false, Option, Some, List, [], ◌∷◌, length, map, drop};
+ghost use Rattle.wsn_wire.specs.Frame.{FormFits, frame_bytes, is_control};
+ghost use Rattle.wsn_wire.specs.declared.opcode.Kind.{Kind};
+ghost use Rattle.wsn_rules.specs.Meaning.{Message, Control};
+ghost use Rattle.wsn_rules.specs.LawfulEvents.{AreLawful};
+ghost use Rattle.wsn_rules.specs.Plan.{next_text};
+ghost use Rattle.wsn_wire.specs.declared.opcode.Op.{Op};
+ghost use Rattle.wsn_rules.specs.Recut.{op_after};
+ghost use Rattle.wsn_rules.specs.declared.step.Step.TheVariants.{Piece, Last};
+ghost use Rattle.wsn_io.specs.Stops.{IsWrittenOrStops};
+ghost use Rattle.wsn_plan.specs.Gathering.{kept_meant};
+ghost use Rattle.wsn_events.specs.EventsMeant.{close_body};
+ghost use Rattle.wsn_plan.specs.Walking.{IsPlaced, IsApplicable};
+ghost use Rattle.wsn_plan.specs.Framing.{control_frame, frame_here, EncodesItsLength};
 ghost use Rattle.wsn_frame.specs.Payloads.{unmasked_by};
 
 use crate::kept::Kept;
@@ -55,7 +66,7 @@ fn put_piece<A: Allocator, W: Write>(
         × (walk.now.held + len ≤ length text) × (length text < 2 ^ 63) }
     requires form { FormFits form len }
     ensures put { (kind : Kind) (text : List ℕ) → kept_meant event.old ≡ Message kind text →
-        IsWrittenOrStops output.old output.new (frame_bytes (piece_frame walk.now len key form kind text)) result }
+        IsWrittenOrStops output.old output.new (frame_bytes (frame_here walk.now (Message kind text ∷ []) (Piece len key form))) result }
     ensures same { kept_meant event.new ≡ kept_meant event.old }
 {
     let Kept::Message(kind, text) = event else {
@@ -86,7 +97,7 @@ fn put_last<A: Allocator, W: Write>(
         × (walk.now.held ≤ length text) × (length text < 2 ^ 63)
         × FormFits form (length text - walk.now.held) }
     ensures put { (kind : Kind) (text : List ℕ) → kept_meant event.old ≡ Message kind text →
-        IsWrittenOrStops output.old output.new (frame_bytes (last_frame walk.now key form kind text)) result }
+        IsWrittenOrStops output.old output.new (frame_bytes (frame_here walk.now (Message kind text ∷ []) (Last key form))) result }
     ensures same { kept_meant event.new ≡ kept_meant event.old }
 {
     let Kept::Message(kind, text) = event else {

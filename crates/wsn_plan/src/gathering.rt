@@ -1,8 +1,7 @@
 ghost use Rattle.std.specs.Prelude.{◌≡◌, [], ◌∷◌, ◌++◌, false, map, IfOk, IfErr};
 ghost use Rattle.wsn_rules.specs.Meaning.{Message};
 ghost use Rattle.wsn_events.specs.EventsMeant.{meant};
-ghost use Rattle.wsn_plan.specs.Gathering.{IsGathered};
-ghost use Rattle.wsn_plan.specs.KeptEvents.{kept_meant};
+ghost use Rattle.wsn_plan.specs.Gathering.{IsGathered, kept_meant};
 
 use crate::kept::{Kept, copy_of, to_keep};
 use std::alloc::Allocator;

@@ -2,7 +2,7 @@ ghost use Rattle.std.specs.Prelude.{◌≡◌, ◌++◌, IfSome};
 ghost use Rattle.std.specs.Int.{to_be_bytes, w16};
 ghost use Rattle.wsn_rules.specs.Meaning as meant_event;
 ghost use Rattle.wsn_events.specs.EventsMeant.{meant};
-ghost use Rattle.wsn_plan.specs.KeptEvents.{kept_meant};
+ghost use Rattle.wsn_plan.specs.Gathering.{kept_meant};
 
 use std::alloc::Allocator;
 use wsn_events::Event;

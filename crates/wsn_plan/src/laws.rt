@@ -1,7 +1,25 @@
 //! Laws about this crate's answers. Each function does nothing: its contract is the law.
 
 ghost use Rattle.std.specs.Prelude.{◌≡◌, ℕ, List, [], Result, Ok, false};
-ghost use Rattle.wsn_plan.specs.Words.{Role, Frame, stream, Outgoing, IsWritten, IsAccepted, unfinished, MeantEvent, meaning, IsPlan, Step, Verdict, Limits, InRange, Stop, IsNormalisedWhole, PlanAnswer, Plan, RecutAnswer, Done, HasNoFailure, IsPlannedWhole, IsRestored, IsRecutWhole, Planner};
+ghost use Rattle.wsn_wire.specs.declared.endpoint.Role.{Role};
+ghost use Rattle.wsn_wire.specs.Frame.{Frame, stream};
+ghost use Rattle.wsn_io.specs.Transfer.{Outgoing, IsWritten};
+ghost use Rattle.wsn_rules.specs.Accepted.{IsAccepted};
+ghost use Rattle.wsn_rules.specs.Group.{unfinished};
+ghost use Rattle.wsn_rules.specs.Meaning.{MeantEvent, meaning};
+ghost use Rattle.wsn_rules.specs.Plan.{IsPlan};
+ghost use Rattle.wsn_rules.specs.declared.step.Step.{Step};
+ghost use Rattle.wsn_rules.specs.declared.verdict.Verdict.{Verdict};
+ghost use Rattle.wsn_rules.specs.Limits.{Limits, InRange};
+ghost use Rattle.wsn_io.specs.declared.stop.Stop.{Stop};
+ghost use Rattle.wsn_events.specs.Normalised.{IsNormalisedWhole};
+ghost use Rattle.wsn_plan.specs.declared.planning.PlanAnswer.{PlanAnswer};
+ghost use Rattle.wsn_plan.specs.declared.planning.PlanAnswer.TheVariants.{Plan};
+ghost use Rattle.wsn_plan.specs.declared.recutting.RecutAnswer.{RecutAnswer};
+ghost use Rattle.wsn_plan.specs.declared.recutting.RecutAnswer.TheVariants.{Done};
+ghost use Rattle.wsn_io.specs.Stops.{HasNoFailure};
+ghost use Rattle.wsn_plan.specs.Planning.{IsPlannedWhole, IsRestored};
+ghost use Rattle.wsn_plan.specs.Recutting.{IsRecutWhole, Planner};
 
 use std::alloc::Allocator;
 pub use wsn_plan_text::laws::{law_one_line_fault, law_one_plan};

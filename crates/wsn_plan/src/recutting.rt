@@ -7,7 +7,7 @@ ghost use Rattle.wsn_rules.specs.LawfulEvents.{AreLawful};
 ghost use Rattle.wsn_rules.specs.Recut.{recut_bytes};
 ghost use Rattle.wsn_rules.specs.UniformPlan.{uniform_plan};
 ghost use Rattle.wsn_io.specs.Stops.{IsWrittenOrStops};
-ghost use Rattle.wsn_plan.specs.KeptEvents.{kept_meant};
+ghost use Rattle.wsn_plan.specs.Gathering.{kept_meant};
 ghost use Rattle.wsn_plan.specs.Recutting.{IsRecut, IsRecutWhole, IsRefragmented, FitsWithin};
 
 use crate::Plan;

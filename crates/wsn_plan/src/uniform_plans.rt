@@ -1,5 +1,11 @@
 ghost use Rattle.std.specs.Prelude.{◌≡◌, ℕ, ◌++◌, ◌≤◌, ◌<◌, ◌^◌, ◌↔◌, List, IfOk, IfErr, IsSome, MatchOption, length, map, replicate};
-ghost use Rattle.wsn_plan.specs.Words.{Client, Shortest, Piece, Last, Control, piece_count, ahead, uniform_plan, meant, kept_meant, message_steps};
+ghost use Rattle.wsn_wire.specs.declared.endpoint.Role.TheVariants.{Client};
+ghost use Rattle.wsn_wire.specs.declared.length_forms.Form.TheVariants.{Shortest};
+ghost use Rattle.wsn_rules.specs.declared.step.Step.TheVariants.{Piece, Last, Control};
+ghost use Rattle.wsn_rules.specs.UniformPlan.{piece_count, ahead, uniform_plan};
+ghost use Rattle.wsn_events.specs.EventsMeant.{meant};
+ghost use Rattle.wsn_plan.specs.Gathering.{kept_meant};
+ghost use Rattle.wsn_plan.specs.Uniform.{message_steps};
 ghost use Rattle.wsn_plan.specs.Walking.{IsControl, IsMessageOf};
 
 use crate::Plan;

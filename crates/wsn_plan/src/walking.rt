@@ -5,7 +5,7 @@ ghost use Rattle.wsn_rules.specs.declared.step.Step.TheVariants.{Piece, Last, Co
 ghost use Rattle.wsn_rules.specs.Plan.{next_text};
 ghost use Rattle.wsn_rules.specs.Fitting.{IsAllowedForm};
 ghost use Rattle.wsn_rules.specs.Fault.{Holds};
-ghost use Rattle.wsn_plan.specs.KeptEvents.{kept_meant};
+ghost use Rattle.wsn_plan.specs.Gathering.{kept_meant};
 ghost use Rattle.wsn_plan.specs.Walking.{from_message, IsPlaced, IsAgainst, IsFirstAgainst, IsApplicable, HasAdvancedBy, IsControl, IsMessageOf, held_after};
 
 use crate::kept::Kept;

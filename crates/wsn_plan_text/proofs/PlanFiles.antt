@@ -7,13 +7,13 @@ use Rattle.wsn_plan_text.specs.declared.plan_files.PlanFileFault.TheVariants.{Fa
 use Rattle.wsn_plan_text.specs.PlanFiles.{IsPlanFileRead}
 
 -- an allocation failed for the bytes of a read, after those that came before
-pub no_memory : (old mid new : Incoming) (text piece : List ℕ) (n : ℕ) → IsConsumed old mid text →
-    IsConsumed mid new (take n piece) → n ≤ length piece → length text + n ≤ 67108865 → 0 < n →
+pub no_memory : (old mid new : Incoming) (text chunk : List ℕ) (n : ℕ) → IsConsumed old mid text →
+    IsConsumed mid new (take n chunk) → n ≤ length chunk → length text + n ≤ 67108865 → 0 < n →
     new.failed ≡ false → IsPlanFileRead old new (Err (Faulty Memory))
-no_memory old mid new text piece n before came within few some unfailed =
-    let size : length (text ++ take n piece) ≡ length text + n =
-    omega (arith, length-append text (take n piece), length-take-le n piece within) in (
-      text ++ take n piece,
-      received_of 67108865 old new (text ++ take n piece) (consumed_on old mid new text (take n piece) before came) (omega arith),
+no_memory old mid new text chunk n before came within few some unfailed =
+    let size : length (text ++ take n chunk) ≡ length text + n =
+    omega (arith, length-append text (take n chunk), length-take-le n chunk within) in (
+      text ++ take n chunk,
+      received_of 67108865 old new (text ++ take n chunk) (consumed_on old mid new text (take n chunk) before came) (omega arith),
       (omega arith, unfailed),
     )

@@ -4,8 +4,7 @@ use Rattle.std.specs.Prelude.{IsTrue, ◌↔◌, IfSome, MatchOption, is_some}
 use Rattle.std.specs.Option.{option_copied}
 use Rattle.std.proofs.lemmas.Bool.{eqb-true, eqb-false}
 use Rattle.wsn_plan_text.specs.PlanText.{IsField, Fields, HasFields}
-use Rattle.wsn_plan_text.specs.Splits.{IsSplit, AreKeyAndForm, AreFieldsAfter}
-use Rattle.wsn_plan_text.specs.SeenFields.{seen}
+use Rattle.wsn_plan_text.specs.Splits.{IsSplit, AreKeyAndForm, AreFieldsAfter, seen}
 use Rattle.wsn_plan_text.specs.declared.line_fields.Fields as declared
 use Rattle.wsn_plan_text.proofs.FieldsAfterWords.{at_first_space, cut_is_no_field, uncut_is_clear, piece_at_cut, fields_from_cut, fields_after_cut}
 

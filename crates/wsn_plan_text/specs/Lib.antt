@@ -3,6 +3,4 @@ pub mod PlanText
 pub mod PlanFiles
 pub mod Plans
 pub mod Splits
-pub mod SeenFields
 -- for the clauses in src/
-pub mod Words

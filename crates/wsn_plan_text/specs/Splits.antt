@@ -1,6 +1,9 @@
 -- A text split at the first byte of a value, and the fields and lines that this gives.
 use Rattle.std.specs.Prelude.{◌≡◌, ◌≢◌, ℕ, ◌⊎◌, Option, List, [], ◌∷◌, ◌++◌, codes, IfSome}
 use Rattle.wsn_plan_text.specs.PlanText.{HasNo, preceded_by, IsField, Fields, OfPiece, OfLast, OfControl}
+use Rattle.std.specs.Option.{option_copied}
+use Rattle.wsn_plan_text.specs.declared.line_fields.Fields as declared
+use Rattle.wsn_plan_text.specs.declared.line_fields.Fields.TheVariants.{Piece, Last, Control}
 
 -- the text before the first such byte, and the text after it; without such a byte, the whole text
 abbrev pub IsSplit : ℕ → List ℕ → List ℕ → Option (List ℕ) → Type 0
@@ -37,3 +40,9 @@ AreFields (OfControl key) = IsField key
 -- A line of this word and this text after it has these fields.
 abbrev pub AreFieldsAfter : List ℕ → List ℕ → Fields → Type 0
 AreFieldsAfter word rest fields = AreFields fields × (first_word fields ≡ word) × (rest_of fields ≡ rest)
+
+-- the fields that the code's fields mean
+abbrev pub seen : declared.Fields → Fields
+seen (Piece number key form) = OfPiece number.now key.now (option_copied form)
+seen (Last key form) = OfLast key.now (option_copied form)
+seen (Control key) = OfControl key.now

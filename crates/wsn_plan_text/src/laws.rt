@@ -1,7 +1,11 @@
 //! Laws about plan text. Each function does nothing: its contract is the law.
 
 ghost use Rattle.std.specs.Prelude.{◌≡◌, ℕ, ◌⊎◌, List};
-ghost use Rattle.wsn_plan_text.specs.Words.{IsPlan, Step, HasLengths, LineWhy, EncodesPlan, EncodesStep, IsLineFault, plan_text, IsFirstPlanFault};
+ghost use Rattle.wsn_rules.specs.Plan.{IsPlan};
+ghost use Rattle.wsn_rules.specs.declared.step.Step.{Step};
+ghost use Rattle.wsn_plan_text.specs.Plans.{HasLengths};
+ghost use Rattle.wsn_plan_text.specs.declared.plan_fault.LineWhy.{LineWhy};
+ghost use Rattle.wsn_plan_text.specs.PlanText.{EncodesPlan, EncodesStep, IsLineFault, plan_text, IsFirstPlanFault};
 
 /// A text encodes one plan at most, and the text that is written of a plan encodes that plan. This holds of any
 /// [`Plan`](crate::Plan): its lengths fit 64 bits, as the contract of its `steps` says.

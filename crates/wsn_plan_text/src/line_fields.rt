@@ -2,8 +2,7 @@ ghost use Rattle.std.specs.Prelude.{◌≡◌, ◌↔◌, ◌==◌, List, Option
 ghost use Rattle.std.specs.Option.{option_copied};
 ghost use Rattle.wsn_plan_text.specs.PlanText as text;
 ghost use Rattle.wsn_plan_text.specs.PlanText.{HasFields, IsField};
-ghost use Rattle.wsn_plan_text.specs.Splits.{AreFieldsAfter, AreKeyAndForm, IsSplit};
-ghost use Rattle.wsn_plan_text.specs.SeenFields.{seen};
+ghost use Rattle.wsn_plan_text.specs.Splits.{AreFieldsAfter, AreKeyAndForm, IsSplit, seen};
 
 /// The fields of a line of plan text, by its first word. No field is empty or has a space.
 #[derive(Clone, Copy, Drop)]

@@ -67,16 +67,16 @@ fn read_text<A: Allocator, R: Read>(
     ensures fault { IfErr result (λ fault. IsPlanFileRead file.old file.new (Err fault)) }
 {
     let mut text = Vec::new(alloc);
-    let mut piece = [0; CHUNK];
+    let mut chunk = [0; CHUNK];
     while text.len() <= FILE_MAX {
         let wanted = (FILE_MAX + 1 - text.len()).min(CHUNK);
-        let Some(count) = file.read(&mut piece[..wanted]) else {
+        let Some(count) = file.read(&mut chunk[..wanted]) else {
             return Err(PlanFileFault::Unread);
         };
         if count == 0 {
             return Ok(text);
         }
-        text.extend_from_slice(&piece[..count])?;
+        text.extend_from_slice(&chunk[..count])?;
     }
     Err(PlanFileFault::TooLong)
 }

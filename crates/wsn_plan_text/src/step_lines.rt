@@ -1,5 +1,5 @@
 ghost use Rattle.std.specs.Prelude.{◌≡◌, ◌+◌, ◌≤◌, ◌++◌, length, take};
-ghost use Rattle.wsn_plan_text.specs.Words.{step_line};
+ghost use Rattle.wsn_plan_text.specs.PlanText.{step_line};
 
 use wsn_print::{KeptBytes, put, put_form, put_key, put_number};
 use wsn_rules::Step;

@@ -1,5 +1,6 @@
 ghost use Rattle.std.specs.Prelude.{◌≡◌, false};
-ghost use Rattle.wsn_plan_text.specs.Words.{IsWrittenOrStops, plan_text};
+ghost use Rattle.wsn_io.specs.Stops.{IsWrittenOrStops};
+ghost use Rattle.wsn_plan_text.specs.PlanText.{plan_text};
 
 use crate::plan::Plan;
 use crate::step_lines::{LINE_MAX, StepLines, add_step};

@@ -1,12 +1,12 @@
 -- Where the payloads of two events differ, and which part of both is shown around that place.
 use Rattle.std.specs.Prelude.{◌≡◌, ℕ, ◌+◌, ◌-◌, ◌/◌, ◌==◌, ◌||◌, nat_lt, Bool, true, false, if◌then◌else◌, Option, None, Some, List, ◌∷◌, length, take, drop, ⊤}
 use Rattle.wsn_wire.specs.declared.opcode.Kind.TheVariants as kinds
-use Rattle.wsn_rules.specs.Meaning.{MeantEvent, Message}
+use Rattle.wsn_rules.specs.Meaning.{MeantEvent, Message, payload_in}
 use Rattle.wsn_rules.specs.ShownStream.{Item}
 use Rattle.wsn_rules.specs.ShownStream.Item.{Event}
 use Rattle.wsn_print.specs.declared.shown.DifferingPayloads.{DifferingPayloads}
 use Rattle.wsn_print.specs.declared.shown.PayloadPart.{PayloadPart}
-use Rattle.wsn_print.specs.ShownParts.{payload_in, IsFrontOf, text_part}
+use Rattle.wsn_print.specs.ShownParts.{IsFrontOf, text_part}
 
 -- ---- the place
 

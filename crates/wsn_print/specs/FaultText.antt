@@ -2,6 +2,12 @@
 use Rattle.std.specs.Prelude.{ℕ, List, ◌++◌, codes, decimal}
 use Rattle.wsn_rules.specs.declared.why.Why.{Why}
 use Rattle.wsn_rules.specs.Fault.{why_word}
+use Rattle.wsn_io.specs.declared.stop.Stop.{Stop}
+use Rattle.wsn_io.specs.Stops.{stop_word}
+
+-- The words of the stop.
+abbrev pub stop_line : Stop → List ℕ
+stop_line stopped = stop_word stopped ++ codes "\n"
 
 -- A recut's fault, where the plan doesn't fit: the number of the faulty step, from 0, and the reason.
 abbrev pub recut_fault_line : ℕ → Why → List ℕ

@@ -6,10 +6,9 @@ use Rattle.wsn_rules.specs.declared.report.Report.{Report}
 use Rattle.wsn_rules.specs.declared.verdict.Verdict.{Verdict}
 use Rattle.wsn_print.specs.declared.format.Format.{Format}
 use Rattle.wsn_print.specs.declared.format.Format.TheVariants.{Text, Json}
-use Rattle.wsn_print.specs.VerdictText.{verdict_line}
+use Rattle.wsn_print.specs.VerdictText.{verdict_line, comparison_line}
 use Rattle.wsn_print.specs.HeadText.{head_line}
 use Rattle.wsn_print.specs.ReportText.{report_lines}
-use Rattle.wsn_print.specs.ComparisonText.{comparison_line}
 use Rattle.wsn_print.specs.Objects.{verdict_object, frame_object, report_object, comparison_object}
 
 -- A verdict.

@@ -1,12 +1,9 @@
 -- Definitions of printed answers and of exit statuses, and of what is shown of a payload, in reading order.
 pub mod Fields
-pub mod HeadFields
 pub mod VerdictText
 pub mod HeadText
 pub mod ReportText
-pub mod ComparisonText
 pub mod FaultText
-pub mod StopText
 pub mod PayloadText
 pub mod Statuses
 pub mod Json

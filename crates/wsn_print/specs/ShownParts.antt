@@ -27,27 +27,27 @@ abbrev pub time_of : Front → Option (List ℕ)
 time_of front = option_copied front.time
 
 -- Where an entry is.
-pub data Position : Type 0 where
+pub data EntryPosition : Type 0 where
   -- In a line of a capture: its number, from 1, and the time that holds for it.
-  InLine : ℕ → Option (List ℕ) → Position
+  InLine : ℕ → Option (List ℕ) → EntryPosition
   -- At the end of a capture: the time that held when the endpoint's last bytes came.
-  AtEnd : Option (List ℕ) → Position
+  AtEnd : Option (List ℕ) → EntryPosition
   -- In a stream without a capture.
-  InStream : Position
+  InStream : EntryPosition
 
 -- The time that is given for a position; none in a stream.
-abbrev pub time_at : Position → Option (List ℕ)
+abbrev pub time_at : EntryPosition → Option (List ℕ)
 time_at (InLine number time) = time
 time_at (AtEnd time) = time
 time_at InStream = None
 
 -- The number of the line, from 1; 0 outside of lines.
-abbrev pub number_at : Position → ℕ
+abbrev pub number_at : EntryPosition → ℕ
 number_at (InLine number time) = number
 number_at position = 0
 
 -- Where this is.
-abbrev pub position_of : Origin → Position
+abbrev pub position_of : Origin → EntryPosition
 position_of (origins.Line number time) = InLine number (option_copied time)
 position_of (origins.End time) = AtEnd (option_copied time)
 position_of origins.Stream = InStream
@@ -77,11 +77,6 @@ abbrev pub IsEndOf : ℕ → List ℕ → HeldBytes → Type 0
 IsEndOf least all bytes = (bytes.bytes ≡ length all) × HoldsLast least all bytes.held.now
 
 -- ---- events
-
--- The payload of an event.
-abbrev pub payload_in : MeantEvent → List ℕ
-payload_in (Message kind payload) = payload
-payload_in (Control op body) = body
 
 -- The event with this opcode and this payload. No event has the opcode of a continuation.
 abbrev pub event_of : Op → List ℕ → MeantEvent

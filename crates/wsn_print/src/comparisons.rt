@@ -1,7 +1,6 @@
 ghost use Rattle.std.specs.Prelude.{◌≡◌, ◌++◌, false};
 ghost use Rattle.wsn_io.specs.Stops.{IsWrittenOrStops};
-ghost use Rattle.wsn_print.specs.ComparisonText.{comparison_line};
-ghost use Rattle.wsn_print.specs.VerdictText.{verdict_line};
+ghost use Rattle.wsn_print.specs.VerdictText.{comparison_line, verdict_line};
 
 use crate::line::Line;
 use crate::verdicts::put_verdict;

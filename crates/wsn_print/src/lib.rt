@@ -16,8 +16,8 @@
 //! escaped. A [`Style`] says how a stream or a capture is shown, an [`EntryFront`] where an entry is, and a [`Difference`]
 //! where two streams differ first.
 //!
-//! `specs/Fields.antt` defines the fields of lines; `VerdictText`, `HeadText`, `ReportText`, `ComparisonText`,
-//! `FaultText`, `StopText`, `PayloadText` and `NamedReportText` define the lines, `EscapedText` quoted texts and comments,
+//! `specs/Fields.antt` defines the fields of lines; `VerdictText`, `HeadText`, `ReportText`,
+//! `FaultText`, `PayloadText` and `NamedReportText` define the lines, `EscapedText` quoted texts and comments,
 //! `Json` and `Objects` the objects, `Formats` the texts in each format, and `Statuses` the exit statuses. `ShownParts`
 //! says what the arguments of the functions that show an entry stand for, and `DifferingPayloads` where the payloads of two
 //! events differ. [`printed_lines`] has examples of printed lines, computed from the definitions.

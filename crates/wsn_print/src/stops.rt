@@ -1,5 +1,5 @@
 ghost use Rattle.std.specs.Prelude.{◌≡◌};
-ghost use Rattle.wsn_print.specs.StopText.{stop_line};
+ghost use Rattle.wsn_print.specs.FaultText.{stop_line};
 
 use crate::line::Line;
 use wsn_io::Stop;

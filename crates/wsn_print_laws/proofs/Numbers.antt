@@ -4,7 +4,8 @@ use Rattle.std.specs.Prelude.{⊤}
 use Rattle.std.specs.List.{AllByRecursion}
 use Rattle.std.proofs.lemmas.Bool.Decides.{nat_tests}
 use Rattle.wsn_print.specs.EscapedText.{is_from}
-use Rattle.wsn_print_laws.specs.JsonText.{Are, ◌and_then◌, ◌or_else◌, Optional, IsDigit, AreDigits, StartAboveZero, IsInteger, IsFraction, IsExponent, IsNumber}
+use Rattle.wsn_print_laws.specs.JsonText.{Are, ◌and_then◌, ◌or_else◌, Optional, AreDigits, StartAboveZero, IsInteger, IsFraction, IsExponent, IsNumber}
+use Rattle.wsn_rules.specs.ShownCapture.{IsDigit}
 
 -- A character that numbers have.
 abbrev pub is_numeric : ℕ → Bool

@@ -3,7 +3,8 @@ use Rattle.std.proofs.Common.{◌≡◌, ℕ, ◌≤◌, ◌==◌, inl, inr, Boo
 use Rattle.std.specs.List.{AllByRecursion}
 use Rattle.std.proofs.lemmas.Bool.Decides.{nat_tests}
 use Rattle.wsn_print.specs.EscapedText.{is_from}
-use Rattle.wsn_print_laws.specs.JsonText.{Are, ◌and_then◌, ◌or_else◌, Optional, IsDigit, AreDigits, IsInteger, IsFraction, IsExponent, IsNumber}
+use Rattle.wsn_print_laws.specs.JsonText.{Are, ◌and_then◌, ◌or_else◌, Optional, AreDigits, IsInteger, IsFraction, IsExponent, IsNumber}
+use Rattle.wsn_rules.specs.ShownCapture.{IsDigit}
 
 pub data State : Type 0 where
   Start Minus Zero Digits Point Fraction Exponent Sign Power Bad : State

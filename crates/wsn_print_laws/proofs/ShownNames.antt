@@ -10,12 +10,12 @@ use Rattle.wsn_rules.specs.ShownStream.{Item}
 use Rattle.wsn_rules.specs.ShownStream.Item.{Event, Head, Unfinished, UnfinishedHead, RefusedFrame, Unread, Tail}
 use Rattle.wsn_shown_text.specs.QuotedTexts.{ShowsTextReason}
 use Rattle.wsn_shown_text.specs.CharacterText.{text_before, leaves_out, shown_bytes}
-use Rattle.wsn_print.specs.ShownParts.{Position}
+use Rattle.wsn_print.specs.ShownParts.{EntryPosition}
 use Rattle.wsn_shown_text.specs.Views.{Shown, PayloadView, view_of_bytes, view_of_event, view_of_unfinished}
 use Rattle.wsn_shown_text.specs.Views.Shown.{Text, Ascii, Hex, Code, NoCode}
-use Rattle.wsn_shown_text.specs.ShownText.{event_word, event_size, offset_of}
-use Rattle.wsn_shown_text.specs.ShownObjects.{side_word, item_type, item_object}
-use Rattle.wsn_print.specs.ShownParts.Position.{InLine, AtEnd, InStream}
+use Rattle.wsn_shown_text.specs.Members.{event_word, event_size, offset_of, item_type}
+use Rattle.wsn_shown_text.specs.ShownObjects.{side_word, item_object}
+use Rattle.wsn_print.specs.ShownParts.EntryPosition.{InLine, AtEnd, InStream}
 use Rattle.wsn_print_laws.specs.JsonText.{Value, Null, True, Number, String, Object, Members, End, Member, IsNew, HasDistinctNames, AreDistinct, IsObjectLine}
 use Rattle.wsn_print_laws.specs.ShownItems.{IsPositionInRange, IsItemInRange}
 use Rattle.wsn_print_laws.proofs.Fields.{number, optional_number, optional_distinct}
@@ -220,7 +220,7 @@ timed_distinct role time offset m plain is = (
   ),
 )
 
-pub placed_distinct : (role : Role) (position : Position) (offset : ℕ) (kind : List ℕ) (m : Members) → IsItem m
+pub placed_distinct : (role : Role) (position : EntryPosition) (offset : ℕ) (kind : List ℕ) (m : Members) → IsItem m
     → AreDistinct (Member (codes "type") (String kind) (placed_json role position offset m))
 placed_distinct role (InLine line None) offset kind m is = (
   (differ (codes "type") (codes "line") refl, (differ (codes "type") (codes "side") refl, (differ (codes "type") (codes "time") refl, (differ (codes "type") (codes "offset") refl, new_to item_names (codes "type") refl m is.names)))),
@@ -260,7 +260,7 @@ placed_distinct role InStream offset kind m is = (
   ),
 )
 
-pub item_line : (n : ℕ) (role : Role) (position : Position) (item : Item) → IsPositionInRange position → IsItemInRange item → ShowsTextReason item
+pub item_line : (n : ℕ) (role : Role) (position : EntryPosition) (item : Item) → IsPositionInRange position → IsItemInRange item → ShowsTextReason item
     → IsObjectLine (item_object n role position item)
 item_line n role position item place fits reason = (
   Member (codes "type") (String (item_type item)) (shown_json n role position item),

@@ -7,8 +7,9 @@ use Rattle.std.proofs.lemmas.Fmt.{decimal_by_steps, first_decimal, decimal_digit
 use Rattle.wsn_wire.specs.declared.refusal.Reason.{Reason}
 use Rattle.wsn_wire.specs.declared.refusal.Reason.TheVariants.{ReservedBits, ReservedOpcode, ControlNotFinal, NothingToContinue, MessageOpen, MaskMissing, MaskPresent, ControlTooLong, CloseOneByte, LengthTopBit, LengthNotMinimal, MessageTooBig, CloseCode, CloseReason, TextBad, TextCut, TooManyFrames}
 use Rattle.wsn_wire.specs.Refusal.{word_of}
-use Rattle.wsn_print_laws.specs.JsonText.{IsDigit, StartAboveZero, IsInteger, IsNumber}
+use Rattle.wsn_print_laws.specs.JsonText.{StartAboveZero, IsInteger, IsNumber}
 use Rattle.wsn_print_laws.proofs.Strings.{are_unescaped}
+use Rattle.wsn_rules.specs.ShownCapture.{IsDigit}
 
 -- ---- reasons
 

@@ -5,6 +5,7 @@ use Rattle.std.specs.Prelude.{◌≡◌, ◌≢◌, ℕ, ◌≤◌, ◌⊎◌, L
 use Rattle.std.specs.Char.{IsScalar}
 use Rattle.std.specs.List.{AllByRecursion}
 use Rattle.wsn_shown_text.specs.QuotedTexts.{IsJsonCharacter}
+use Rattle.wsn_rules.specs.ShownCapture.{IsDigit}
 
 -- ---- parts of a text
 
@@ -28,10 +29,6 @@ abbrev pub Optional : (List ℕ → Type 0) → List ℕ → Type 0
 Optional IsPart = Are [] or_else IsPart
 
 -- ---- numbers: section 6
-
--- A digit.
-abbrev pub IsDigit : ℕ → Type 0
-IsDigit b = (48 ≤ b) × (b ≤ 57)
 
 -- One digit or more.
 abbrev pub AreDigits : List ℕ → Type 0

@@ -2,20 +2,21 @@
 use Rattle.std.specs.Prelude.{◌≡◌, ◌≢◌, ℕ, IfSome, Option, None, Some, List, length, ⊤}
 use Rattle.wsn_wire.specs.Frame.{IsBytes}
 use Rattle.wsn_rules.specs.BadCharacter.{BadCharacter}
-use Rattle.wsn_rules.specs.Meaning.{MeantEvent}
+use Rattle.wsn_rules.specs.Meaning.{MeantEvent, payload_in}
 use Rattle.wsn_rules.specs.ShownStream.{Item}
 use Rattle.wsn_rules.specs.ShownStream.Item.{Event, Head, Unfinished, UnfinishedHead, RefusedFrame, Unread, Tail}
 use Rattle.wsn_rules.specs.ShownCapture.{IsSeconds}
-use Rattle.wsn_print.specs.ShownParts.{Position, payload_in}
-use Rattle.wsn_print.specs.ShownParts.Position.{InLine, AtEnd, InStream}
-use Rattle.wsn_shown_text.specs.ShownText.{event_word, event_size, event_view, unfinished_view, end_view, hex_view}
+use Rattle.wsn_print.specs.ShownParts.{EntryPosition}
+use Rattle.wsn_print.specs.ShownParts.EntryPosition.{InLine, AtEnd, InStream}
+use Rattle.wsn_shown_text.specs.Members.{event_word, event_size}
+use Rattle.wsn_shown_text.specs.ShownText.{event_view, unfinished_view, end_view, hex_view}
 use Rattle.wsn_shown_text.specs.CharacterText.{character_view}
 use Rattle.wsn_print_laws.specs.Answers.{IsInU64, IsHeadInRange}
 
 -- ---- in range
 
 -- The number of a line is in range, and its time is in seconds.
-abbrev pub IsPositionInRange : Position → Type 0
+abbrev pub IsPositionInRange : EntryPosition → Type 0
 IsPositionInRange (InLine number time) = IsInU64 number × IfSome time IsSeconds
 IsPositionInRange (AtEnd time) = IfSome time IsSeconds
 IsPositionInRange InStream = ⊤

@@ -12,18 +12,18 @@ ghost use Rattle.wsn_rules.specs.declared.verdict.Summary.{Summary};
 ghost use Rattle.wsn_rules.specs.declared.verdict.Verdict.{Verdict};
 ghost use Rattle.wsn_rules.specs.Limits.{Limits};
 ghost use Rattle.wsn_rules.specs.ShownStream.{Item};
-ghost use Rattle.wsn_rules.specs.ShownStream.Item.{Head, RefusedFrame};
+ghost use Rattle.wsn_rules.specs.ShownStream.Item.{RefusedFrame};
 ghost use Rattle.wsn_rules.specs.Verdict.{IsVerdict};
 ghost use Rattle.wsn_print.specs.Objects.{verdict_object, frame_object, report_object, comparison_object};
 ghost use Rattle.wsn_shown_text.specs.DifferenceText.{difference_object};
 ghost use Rattle.wsn_shown_text.specs.QuotedTexts.{IsOfSurrogates, ShowsTextReason};
-ghost use Rattle.wsn_print.specs.ShownParts.{Position};
+ghost use Rattle.wsn_print.specs.ShownParts.{EntryPosition};
 ghost use Rattle.wsn_shown_text.specs.ShownObjects.{item_object, end_object, comment_object};
 ghost use Rattle.wsn_show.specs.declared.ended_by.EndedBy.{EndedBy};
 ghost use Rattle.wsn_show.specs.EndedBy.{ended_by_object};
 ghost use Rattle.wsn_print_laws.specs.JsonText.{Value, String, Object, Members, Member, IsValue, HasDistinctNames, IsJsonLine, IsObjectLine};
 ghost use Rattle.wsn_print_laws.specs.ShownItems.{IsPositionInRange, IsItemInRange, LookAlike};
-ghost use Rattle.wsn_print_laws.specs.ShownDifferences.{IsDifferenceInRange, AreNoFrames, DifferAlike};
+ghost use Rattle.wsn_print_laws.specs.ShownDifferences.{IsDifferenceInRange, DifferAlike};
 ghost use Rattle.wsn_print_laws.specs.Answers.{IsInU64, IsVerdictInRange, IsPrintedWhole, IsHeadInRange, IsReportInRange, IsComparisonInRange, IsComparisonPrintedWhole, Answer, answer_object, IsAnswerInRange, IsAnswerPrintedWhole};
 
 /// A line is the JSON text of one value at most, so whoever reads it by the grammar reads what was written.
@@ -77,10 +77,10 @@ pub fn law_objects_are_json()
         IsObjectLine (comparison_object compared) }
     ensures difference { (n : ℕ) (role : Role) (k : ℕ) (one other : Option Item) → IsDifferenceInRange k one other →
         IsObjectLine (difference_object n role k one other) }
-    ensures item { (n : ℕ) (role : Role) (position : Position) (item : Item) →
+    ensures item { (n : ℕ) (role : Role) (position : EntryPosition) (item : Item) →
         IsPositionInRange position → IsItemInRange item → ShowsTextReason item →
         IsObjectLine (item_object n role position item) }
-    ensures end_mark { (role : Role) (position : Position) (sent : ℕ) →
+    ensures end_mark { (role : Role) (position : EntryPosition) (sent : ℕ) →
         IsPositionInRange position → IsInU64 sent → IsObjectLine (end_object role position sent) }
     ensures comment { (line : ℕ) (text : List ℕ) → IsInU64 line → IsBytes text →
         IsObjectLine (comment_object line text) }
@@ -129,23 +129,18 @@ pub fn law_comparison_objects()
 
 /// The object of two streams that differ says which event differs, and of each stream the event up to the bytes that its
 /// view leaves out, or that there is none. It says where the payloads differ, if they do, and all that the views around
-/// that byte show. If it has an event, it also says which endpoint sent the streams. Of a frame, which is no event, it
-/// would say only where the frame is.
+/// that byte show. If it has an event, it also says which endpoint sent the streams.
 pub fn law_difference_objects()
-    ensures shown { (n : ℕ) (role other_role : Role) (k other_k : ℕ) (one two other_one other_two : Option Item) →
+    ensures { (n : ℕ) (role other_role : Role) (k other_k : ℕ) (one two other_one other_two : Option Item) →
         IsDifferenceInRange k one two → IsDifferenceInRange other_k other_one other_two →
-        AreNoFrames one two → AreNoFrames other_one other_two →
         difference_object n role k one two ≡ difference_object n other_role other_k other_one other_two →
         (k ≡ other_k) × DifferAlike n one two other_one other_two
         × ((one ≢ None) ⊎ (two ≢ None) → role ≡ other_role) }
-    ensures frame { (n : ℕ) (role : Role) (k : ℕ) (head other_head : HeadInfo) (other : Option Item) →
-        head.place ≡ other_head.place →
-        difference_object n role k (Some (Head head)) other ≡ difference_object n role k (Some (Head other_head)) other }
 {}
 
 /// The object of an end mark says which endpoint sent how many bytes, in which line it is and at which time.
 pub fn law_end_objects()
-    ensures { (role other : Role) (position other_position : Position) (sent other_sent : ℕ) →
+    ensures { (role other : Role) (position other_position : EntryPosition) (sent other_sent : ℕ) →
         IsPositionInRange position → IsPositionInRange other_position → IsInU64 sent → IsInU64 other_sent →
         end_object role position sent ≡ end_object other other_position other_sent →
         (role ≡ other) × (position ≡ other_position) × (sent ≡ other_sent) }
@@ -168,12 +163,12 @@ pub fn law_comment_objects()
 /// that its view leaves out. Of a refused text it says whether there is a bad character, where it is, and which bytes it
 /// has; the bytes only if the view isn't 0.
 pub fn law_item_objects()
-    ensures shown { (n : ℕ) (role other_role : Role) (position other_position : Position) (item other : Item) →
+    ensures shown { (n : ℕ) (role other_role : Role) (position other_position : EntryPosition) (item other : Item) →
         IsPositionInRange position → IsPositionInRange other_position → IsItemInRange item → IsItemInRange other →
         ShowsTextReason item → ShowsTextReason other →
         item_object n role position item ≡ item_object n other_role other_position other →
         (role ≡ other_role) × (position ≡ other_position) × LookAlike n item other }
-    ensures unseen { (role : Role) (position : Position) →
+    ensures unseen { (role : Role) (position : EntryPosition) →
         item_object 0 role position (RefusedFrame 0 (record { place = 2; reason = TextBad }) (0xfc ∷ [])
         (Some (record { offset = 2; in_payload = 0; bytes = 0xfc ∷ []; earlier = [] })))
         ≡ item_object 0 role position (RefusedFrame 0 (record { place = 2; reason = TextBad }) (0xff ∷ [])

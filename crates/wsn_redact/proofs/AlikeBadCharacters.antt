@@ -11,10 +11,9 @@ use Rattle.wsn_wire.specs.Frame.{Frame, head_bytes, frame_bytes}
 use Rattle.wsn_text.specs.Utf8.{IsText}
 use Rattle.wsn_text.proofs.LongestText.{valid_is_longest}
 use Rattle.wsn_rules.specs.declared.head_info.HeadInfo.{HeadInfo}
-use Rattle.wsn_rules.specs.BadCharacter.{payload_offset, placed_payloads, open_payload, message_payload, last_of, first_offset, bytes_of, earlier_end, bad_character, character_of}
+use Rattle.wsn_rules.specs.BadCharacter.{payload_offset, placed_payloads, open_payload, message_payload, last_of, first_offset, bytes_of, earlier_end, bad_character, character_of, PlacedByte, placed}
 use Rattle.wsn_rules.specs.Group.{is_data, unfinished, payload_of}
 use Rattle.wsn_rules.specs.Heads.{info_of}
-use Rattle.wsn_rules.specs.PlacedByte.{PlacedByte, placed}
 use Rattle.wsn_rules.proofs.OpenPayloads.{payload_so_far}
 use Rattle.wsn_redact.specs.StandIns.{IsRedacted}
 use Rattle.wsn_redact.specs.Redaction.{is_of_text, with_payload}

@@ -13,9 +13,8 @@ use Rattle.wsn_capture.proofs.AcceptedTexts.{taken_given}
 use Rattle.wsn_redact.specs.declared.extension_names.Within.TheVariants.{Name}
 use Rattle.wsn_redact.specs.ExtensionNames.{names_in}
 use Rattle.wsn_redact.specs.Redaction.{IsRedaction}
-use Rattle.wsn_redact.specs.RedactedCaptures.{extensions_prefix, SaysElse, IsRedactedNothing, IsRedactedText, cr_of, AreRedactedLines, IsRedactedCapture}
-use Rattle.wsn_redact.specs.AlikeLines.{IsAlike, AreAlike}
-use Rattle.wsn_redact.specs.AlikeCaptures.{AreAlikeComments, AreAlikeIn, AreAlikeInLines, AreAlikeCaptures}
+use Rattle.wsn_redact.specs.RedactedCaptures.{extensions_prefix, SaysElse, IsRedactedNothing, IsRedactedLineText, cr_of, AreRedactedLines, IsRedactedCapture}
+use Rattle.wsn_redact.specs.AlikeCaptures.{IsAlike, AreAlike, AreAlikeComments, AreAlikeIn, AreAlikeInLines, AreAlikeCaptures}
 use Rattle.wsn_redact.proofs.OneRedactedCapture.{one_nothing, bytes_off, nothing_off, mark_off, stays_or_extensions, stays_or_else}
 use Rattle.wsn_redact.proofs.RedactedEntries.{AllBytes, first_bytes, other_bytes, line_text, text_alike, entries_given, all_bytes, others_bytes, others_given, others_alike}
 use Rattle.wsn_redact.proofs.CapturesTwice.{hash_says}
@@ -110,7 +109,7 @@ entries_alike Nothing (Mark r) text other_text is = is
 entries_alike (Bytes role bytes) other text other_text is = is
 entries_alike (Mark role) other text other_text is = is
 
-texts_alike : (text other_text redacted other_redacted : List ℕ) (entry other o : Entry) → GivesEntry text entry → GivesEntry other_text other → AreAlikeIn entry other text other_text → IsRedactedText text entry o redacted → IsRedactedText other_text other o other_redacted → redacted ≡ other_redacted
+texts_alike : (text other_text redacted other_redacted : List ℕ) (entry other o : Entry) → GivesEntry text entry → GivesEntry other_text other → AreAlikeIn entry other text other_text → IsRedactedLineText text entry o redacted → IsRedactedLineText other_text other o other_redacted → redacted ≡ other_redacted
 texts_alike text other_text redacted other_redacted Nothing Nothing Nothing gives other_gives a r s = comments_alike text other_text redacted other_redacted a r s
 texts_alike text other_text redacted other_redacted Nothing Nothing (Bytes q o) gives other_gives a r s = absurd r
 texts_alike text other_text redacted other_redacted Nothing Nothing (Mark q) gives other_gives a r s = absurd r
@@ -163,7 +162,7 @@ lines_are_one (l ∷ lines) (m ∷ others) (e ∷ entries) (f ∷ es) (o ∷ os)
 lines_are_one _ _ entries es os redacted also given other_given a r s = absurd a
 
 -- The other way round.
-texts_back : (text other_text redacted : List ℕ) (entry other o : Entry) → IsRedactedText text entry o redacted → IsRedactedText other_text other o redacted → AreAlikeIn entry other text other_text
+texts_back : (text other_text redacted : List ℕ) (entry other o : Entry) → IsRedactedLineText text entry o redacted → IsRedactedLineText other_text other o redacted → AreAlikeIn entry other text other_text
 texts_back text other_text redacted Nothing Nothing Nothing r s = comments_back text other_text redacted r s
 texts_back text other_text redacted Nothing Nothing (Bytes q o) r s = absurd r
 texts_back text other_text redacted Nothing Nothing (Mark q) r s = absurd r
@@ -193,7 +192,7 @@ lines_back (l ∷ lines) (m ∷ others) (e ∷ entries) (f ∷ es) (o ∷ os) (x
     let its = line_text m x f o other_given.0 bytes s.0 in
     let same : r.0.0 ≡ s.0.0 = sym mine ∙ its in
     let cr : cr_of l ≡ cr_of m = append_cancel_left s.0.0 (cr_of l) (cr_of m) (ap (λ (t : List ℕ). t ++ cr_of l) (sym same) ∙ sym r.0.2 ∙ s.0.2) in
-    let other : IsRedactedText (without_cr m) f o r.0.0 = subst (λ (t : List ℕ). IsRedactedText (without_cr m) f o t) (sym same) s.0.1 in
+    let other : IsRedactedLineText (without_cr m) f o r.0.0 = subst (λ (t : List ℕ). IsRedactedLineText (without_cr m) f o t) (sym same) s.0.1 in
     (texts_back (without_cr l) (without_cr m) r.0.0 e f o r.0.1 other, cr, lines_back lines others entries es os redacted given.1 other_given.1 (other_bytes o os all) r.1 s.1)
 lines_back (l ∷ lines) _ (e ∷ entries) _ (o ∷ os) (x ∷ redacted) given other_given all r s = absurd other_given
 

@@ -4,7 +4,7 @@ use Rattle.std.specs.List.{AllByRecursion, flat_map, fold}
 use Rattle.std.proofs.lemmas.Grind.{common_steps}
 use Rattle.wsn_wire.specs.declared.endpoint.Role.{Role}
 use Rattle.wsn_wire.specs.declared.opcode.Op.{Op}
-use Rattle.wsn_wire.specs.declared.opcode.Op.TheVariants.{Continue, Text, Binary, Close, Ping, Pong}
+use Rattle.wsn_wire.specs.declared.opcode.Op.TheVariants.{Continue, Text, Close}
 use Rattle.wsn_wire.specs.Frame.{Frame, head_bytes, stream, wire_payload}
 use Rattle.wsn_wire.proofs.FrameLemmas.{fronts_agree}
 use Rattle.wsn_text.specs.Utf8.{Range, ◌–◌, IsCharacter}
@@ -15,12 +15,12 @@ use Rattle.wsn_rules.specs.Limits.{Limits}
 use Rattle.wsn_rules.specs.Accepted.{HasNoClose, EndsWithClose}
 use Rattle.wsn_rules.specs.Group.{is_data, with_frame, unfinished, first_op, payload_of}
 use Rattle.wsn_rules.specs.Heads.{BeginsWithHead}
-use Rattle.wsn_rules.specs.Verdict.{IsVerdict}
+use Rattle.wsn_rules.specs.Verdict.{IsVerdict, judged_bytes}
 use Rattle.wsn_rules.proofs.OneHead.{one_begun}
 use Rattle.wsn_rules.proofs.OneVerdict.{one_verdict}
 use Rattle.wsn_rules.proofs.Prefixes.{append_cancel}
 use Rattle.wsn_redact.specs.StandIns.{single_stand_in, stand_in, stand_in_of, IsRedactedText, IsRedacted}
-use Rattle.wsn_redact.specs.Redaction.{zeros_for, is_text, is_of_text, IsRedactedData, IsRedactedPayload, with_payload, AreRedacted, IsRedactedBegun, IsRedactedRest, judged, unjudged, IsRedactionAt, IsRedaction}
+use Rattle.wsn_redact.specs.Redaction.{zeros_for, is_text, is_of_text, IsRedactedData, IsRedactedPayload, with_payload, AreRedacted, IsRedactedBegun, IsRedactedRest, unjudged, IsRedactionAt, IsRedaction}
 use Rattle.wsn_redact.specs.AlikeStreams.{IsIn, AreOfOneKind, single_kinds, first_kinds, AreAlikeCharacters, AreAlikeInPairs, AreAlikeBeginnings, AreAlikeTexts, AreAlikeData, AreAlikePayloads, AreAlikeFrames, AreAlikeBegun, AreAlikeRests, AreAlikeStreams}
 use Rattle.wsn_redact.proofs.StoodTexts.{one_redacted}
 use Rattle.wsn_redact.proofs.RedactedLawful.{two_low, row_e1, row_ee, row_f1}
@@ -326,6 +326,6 @@ module _ (role : Role) (limits : Limits) where
       let y = redaction_at other other_redacted gs v a.other_verdict s in
       let frames = frames_alike [] [] fs gs x.frames y.frames tt a.frames_alike x.are_frames y.are_frames in
       let are = frames_likewise [] [] fs gs tt a.frames_alike in
-      let rest = rests_alike fs gs (drop (length (stream fs)) (judged v bytes)) (drop (length (stream gs)) (judged v other)) x.rest y.rest are a.rests_alike x.is_rest y.is_rest in
+      let rest = rests_alike fs gs (drop (length (stream fs)) (judged_bytes v bytes)) (drop (length (stream gs)) (judged_bytes v other)) x.rest y.rest are a.rests_alike x.is_rest y.is_rest in
       let later = zeros_alike (unjudged v bytes) (unjudged v other) (later_size v bytes other a.same_size) in
       x.whole ∙ (λ i. stream (frames i) ++ (rest i ++ later i)) ∙ sym y.whole

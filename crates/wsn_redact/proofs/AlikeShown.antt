@@ -17,13 +17,13 @@ use Rattle.wsn_rules.specs.Heads.{info_of, heads_from, heads_of, BeginsWithHead,
 use Rattle.wsn_rules.specs.Meaning.{event_at}
 use Rattle.wsn_rules.specs.Meaning.MeantEvent.{Message, Control}
 use Rattle.wsn_rules.specs.Recut.{step_of, plan_of}
-use Rattle.wsn_rules.specs.Summary.{ends_message, is_close}
+use Rattle.wsn_rules.specs.Summary.{is_close}
 use Rattle.wsn_rules.specs.declared.step.Step.TheVariants as Step
 use Rattle.wsn_rules.specs.BadCharacter.{BadCharacter, character_of}
 use Rattle.wsn_rules.specs.Evidence.{Evidence, EvidentByPayload, IsOfText}
 use Rattle.wsn_rules.specs.ShownStream.{Item, Shown, items_of_bytes, frame_so_far, items_of_part, items_of_head, IsLeftOfRest, IsLeftOf, IsLeftOver, shown_after, since_with, since_open, open_offset, open_item, open_items, event_offset, event_frames, items_of_final, shown_at, shown_of, shown_head, AreShownFrames, interrupted, IsShownEvidence, IsShownVerdict, IsShownStream}
 use Rattle.wsn_rules.specs.ShownStream.Item.{Event, Unfinished, UnfinishedHead, RefusedFrame, Unread, Tail}
-use Rattle.wsn_rules.specs.Verdict.{IsVerdict, IsRefused}
+use Rattle.wsn_rules.specs.Verdict.{IsVerdict, IsRefused, judged_bytes}
 use Rattle.wsn_rules.proofs.HeadsGoOn.{begins_longer}
 use Rattle.wsn_rules.proofs.OneHead.{one_begun, one_following}
 use Rattle.wsn_frame.proofs.HeadsAtOnce.{no_items}
@@ -36,7 +36,7 @@ use Rattle.wsn_wire.proofs.FrameLemmas.{first_byte_fields}
 use Rattle.wsn_redact.specs.Redaction.{is_of_text}
 use Rattle.wsn_rules.proofs.OneVerdict.{one_verdict}
 use Rattle.wsn_rules.proofs.Prefixes.{append_cancel}
-use Rattle.wsn_redact.specs.Redaction.{with_payload, judged}
+use Rattle.wsn_redact.specs.Redaction.{with_payload}
 use Rattle.wsn_redact.specs.AlikeStreams.{AreAlikeBegun, AreAlikeRests, AreAlikeStreams}
 use Rattle.wsn_redact.specs.AlikeItems.{AreAlikeItems, AreAlikeBadCharacters, AreAlikeInTurn, AreShownAlike}
 use Rattle.wsn_redact.proofs.AlikeSizes.{frame_size}
@@ -249,7 +249,7 @@ module _ (role : Role) (limits : Limits) where
   -- The heads that are reported, by the bytes of which the verdict takes account.
   record HasHeads (bytes : List ℕ) (fs : List Frame) (v : Verdict) (heads : List HeadInfo) : Type 0 where
     begun : List HeadInfo
-    is_begun : IsBegun role limits fs (drop (length (stream fs)) (judged v bytes)) begun
+    is_begun : IsBegun role limits fs (drop (length (stream fs)) (judged_bytes v bytes)) begun
     all : heads ≡ heads_of fs ++ begun
 
   heads_judged : (bytes : List ℕ) (fs : List Frame) (v : Verdict) (heads : List HeadInfo) → IsVerdict role limits bytes fs v → AreHeads role limits bytes fs heads → HasHeads bytes fs v heads
@@ -374,7 +374,7 @@ module _ (role : Role) (limits : Limits) where
       let x = heads_judged bytes a.frames a.verdict heads a.is_verdict (subst (λ (hs : List Frame). AreHeads role limits bytes hs heads) mine.0 h) in
       let y = heads_judged other a.other_frames a.verdict other_heads a.other_verdict (subst (λ (hs : List Frame). AreHeads role limits other hs other_heads) its.0 k) in
       let are = frames_likewise [] [] a.frames a.other_frames tt a.frames_alike in
-      let begun = same_begun a.frames a.other_frames (drop (length (stream a.frames)) (judged a.verdict bytes)) (drop (length (stream a.other_frames)) (judged a.verdict other)) x.begun y.begun a.rests_alike x.is_begun y.is_begun in
+      let begun = same_begun a.frames a.other_frames (drop (length (stream a.frames)) (judged_bytes a.verdict bytes)) (drop (length (stream a.other_frames)) (judged_bytes a.verdict other)) x.begun y.begun a.rests_alike x.is_begun y.is_begun in
       x.all ∙ (λ i. same_heads a.frames a.other_frames are i ++ begun i) ∙ sym y.all
 
   pub alike_plan : (bytes other : List ℕ) (fs gs : List Frame) (v w : Verdict) → AreAlikeStreams role limits bytes other → IsVerdict role limits bytes fs v → IsVerdict role limits other gs w → plan_of fs ≡ plan_of gs
@@ -395,7 +395,7 @@ module _ (role : Role) (limits : Limits) where
   interrupted_alike Events fs gs are = open_in_turn fs gs (Some 0) are
   interrupted_alike Frames fs gs are = tt
 
-  verdicts_shown_alike : (detail : Detail) (bytes other : List ℕ) (fs gs : List Frame) (v : Verdict) (shown others : List Shown) → IsVerdict role limits bytes fs v → AreLikewise fs gs → AreAlikeRests role limits fs gs (drop (length (stream fs)) (judged v bytes)) (drop (length (stream gs)) (judged v other))
+  verdicts_shown_alike : (detail : Detail) (bytes other : List ℕ) (fs gs : List Frame) (v : Verdict) (shown others : List Shown) → IsVerdict role limits bytes fs v → AreLikewise fs gs → AreAlikeRests role limits fs gs (drop (length (stream fs)) (judged_bytes v bytes)) (drop (length (stream gs)) (judged_bytes v other))
       → IsShownVerdict detail role limits bytes fs v shown → IsShownVerdict detail role limits other gs v others → AreShownAlike shown others
   verdicts_shown_alike detail bytes other fs gs (Accepted summary) shown others is are rests r s = subst (λ (x : List Shown). AreShownAlike x others) (sym r) (subst (AreShownAlike []) (sym s) tt)
   verdicts_shown_alike detail bytes other fs gs (Cut summary) shown others is are rests r s = subst (λ (x : List Shown). AreShownAlike x others) (sym r) (subst (AreShownAlike []) (sym s) tt)
@@ -464,7 +464,7 @@ module _ (role : Role) (limits : Limits) where
       let y : others ≡ items_of_part gs a.info (wire_payload a.info.key a.other_begins.following) = also ∙ (λ i. items_of_part gs (two i) (wire_payload (two i).key (its i))) in
       subst (λ (z : List Item). AreAlikeInTurn z others) (sym x) (subst (AreAlikeInTurn (items_of_part fs a.info (wire_payload a.info.key a.begins.following))) (sym y) it)
 
-  left_in_turn : (bytes other : List ℕ) (fs gs : List Frame) (v : Verdict) (items others : List Item) → length bytes ≡ length other → IsVerdict role limits bytes fs v → AreLikewise fs gs → AreAlikeRests role limits fs gs (drop (length (stream fs)) (judged v bytes)) (drop (length (stream gs)) (judged v other))
+  left_in_turn : (bytes other : List ℕ) (fs gs : List Frame) (v : Verdict) (items others : List Item) → length bytes ≡ length other → IsVerdict role limits bytes fs v → AreLikewise fs gs → AreAlikeRests role limits fs gs (drop (length (stream fs)) (judged_bytes v bytes)) (drop (length (stream gs)) (judged_bytes v other))
       → IsLeftOf role limits bytes fs v items → IsLeftOf role limits other gs v others → AreAlikeInTurn items others
   left_in_turn bytes other fs gs (Accepted summary) items others size is are rests r s =
       let streams = stream_size fs gs are in

@@ -18,8 +18,8 @@ use Rattle.wsn_capture.proofs.ComputedFaults.{takes_nothing, takes_bytes, takes_
 use Rattle.wsn_redact.specs.declared.extension_names.Within.{Within}
 use Rattle.wsn_redact.specs.declared.extension_names.Within.TheVariants.{Name, Value, Quoted, Escaped}
 use Rattle.wsn_redact.specs.ExtensionNames.{is_separator, is_of_names, within_after, is_kept, names_in}
-use Rattle.wsn_redact.specs.RedactedCaptures.{extensions_prefix, Stays, SaysElse, IsRedactedNothing, IsRedactedText, cr_of, IsRedactedLine, AreRedactedLines, IsRedactedCapture}
-use Rattle.wsn_redact.specs.AlikeLines.{IsAlike, AreAlike}
+use Rattle.wsn_redact.specs.RedactedCaptures.{extensions_prefix, Stays, SaysElse, IsRedactedNothing, IsRedactedLineText, cr_of, IsRedactedLine, AreRedactedLines, IsRedactedCapture}
+use Rattle.wsn_redact.specs.AlikeCaptures.{IsAlike, AreAlike}
 use Rattle.wsn_redact.proofs.OneRedactedCapture.{no_time, no_reset}
 use Rattle.wsn_redact.proofs.RedactedEntries.{HasBytes, AllBytes, first_bytes, other_bytes, line_text, line_facts, RedactedTextFacts, text_alike, entries_given, all_bytes, others_bytes, others_given, ended_alike, sizes_alike}
 use Rattle.wsn_redact.proofs.PlainEnds.{same_cr}
@@ -139,7 +139,7 @@ nothing_twice text redacted (inr (inr is)) = inr (inr (subst SaysElse (sym is.1)
 
 -- ---- lines
 
-text_twice : (text redacted : List ℕ) (entry other : Entry) → IsRedactedText text entry other redacted → IsRedactedText redacted other other redacted
+text_twice : (text redacted : List ℕ) (entry other : Entry) → IsRedactedLineText text entry other redacted → IsRedactedLineText redacted other other redacted
 text_twice text redacted Nothing Nothing is = nothing_twice text redacted is
 text_twice text redacted (Bytes role bytes) (Bytes r others) is = (refl, refl, is.2 ∙ ap (λ (q : Role). bytes_prefix q ++ encode_lower others) (sym is.0))
 text_twice text redacted (Mark role) (Mark r) is = (refl, refl)
@@ -156,7 +156,7 @@ line_twice line redacted entry other gives all is =
     let ends = (line_facts line redacted entry other gives all is).ends in
     let cr : cr_of redacted ≡ cr_of line = ap cr_of is.2 ∙ same_cr line is.0 ends in (
       is.0,
-      subst (λ (t : List ℕ). IsRedactedText t other other is.0) (sym text) (text_twice (without_cr line) is.0 entry other is.1),
+      subst (λ (t : List ℕ). IsRedactedLineText t other other is.0) (sym text) (text_twice (without_cr line) is.0 entry other is.1),
       is.2 ∙ ap (λ (c : List ℕ). is.0 ++ c) (sym cr),
     )
 
@@ -195,7 +195,7 @@ nothing_shorter text redacted (inr (inl is)) =
     omega (arith, own, size, names_shorter Name is.0)
 nothing_shorter text redacted (inr (inr (says, is))) = let size : length redacted ≡ 1 = ap (λ (l : List ℕ). length l) is in omega (arith, size, some_byte text says.0)
 
-text_shorter : (text redacted : List ℕ) (entry other : Entry) → GivesEntry text entry → IsRedactedText text entry other redacted → length redacted ≤ length text
+text_shorter : (text redacted : List ℕ) (entry other : Entry) → GivesEntry text entry → IsRedactedLineText text entry other redacted → length redacted ≤ length text
 text_shorter text redacted Nothing Nothing gives is = nothing_shorter text redacted is
 text_shorter text redacted (Bytes role bytes) (Bytes r others) gives is =
     let own = ap (λ (l : List ℕ). length l) gives.1 ∙ length-append (bytes_prefix role) gives.0 in

@@ -2,9 +2,8 @@
 use Rattle.std.proofs.Common.{◌≡◌, ℕ, ◌+◌, ◌<◌, ◌≤◌, ◌⊎◌, Bool, true, false, List, [], ◌∷◌, ◌++◌, length, take, drop, inl, inr, nat_lt, refl, sym, ap, ◌∙◌, subst, arith, append-nil, length-append}
 use Rattle.std.proofs.lemmas.List.{take_at}
 use Rattle.wsn_wire.specs.declared.refusal.Reason.{Reason}
-use Rattle.wsn_rules.specs.Evidence.{Evidence}
+use Rattle.wsn_rules.specs.Evidence.{Evidence, HasNoEvidence}
 use Rattle.wsn_rules.specs.Group.{unfinished}
-use Rattle.wsn_rules.specs.NoEvidence.{HasNoEvidence}
 use Rattle.wsn_frame.proofs.HeadsAtOnce.{no_items}
 unfoldable pub use Rattle.wsn_text.proofs.Numbers.{less_or_not, same_or_not}
 use Rattle.wsn_text.proofs.Decide.{nothing, begun, four_long, three_long, after_first, after_byte, following, fill, begins_by, begins_decided, text_by, text_decided}
@@ -22,12 +21,12 @@ use Rattle.wsn_rules.specs.declared.verdict.Verdict.{Verdict}
 use Rattle.wsn_rules.specs.declared.verdict.Verdict.TheVariants.{Accepted, Cut, Refused}
 use Rattle.wsn_rules.specs.Heads.{BeginsWithHead}
 use Rattle.wsn_rules.specs.Limits.{Limits}
-use Rattle.wsn_rules.specs.Verdict.{IsVerdict}
+use Rattle.wsn_rules.specs.Verdict.{IsVerdict, judged_bytes}
 use Rattle.wsn_rules.proofs.Computed.{found, in_range, all_bytes, range_by_test, bytes_by_test}
 use Rattle.wsn_rules.proofs.HeadsGoOn.{begins_two}
 use Rattle.wsn_rules.proofs.OneVerdict.{all_of_verdict}
 use Rattle.wsn_redact.specs.StandIns.{single_stand_in, IsRedacted, stood}
-use Rattle.wsn_redact.specs.Redaction.{zeros_for, IsRedactedRest, judged, unjudged, IsRedaction, redacted_frames}
+use Rattle.wsn_redact.specs.Redaction.{zeros_for, IsRedactedRest, unjudged, IsRedaction, redacted_frames}
 use Rattle.wsn_redact.proofs.StoodTexts.{stood_is}
 use Rattle.wsn_redact.proofs.RedactedPayloads.{are_redacted}
 
@@ -45,20 +44,20 @@ module _ (role : Role) (limits : Limits) where
 
   unfoldable pub redaction_found : (bytes : List ℕ) (range : in_range limits ≡ true) (in_bytes : all_bytes bytes ≡ true)
       → let v = found role limits (range_by_test limits range) bytes (bytes_by_test bytes in_bytes) in
-      nat_lt (length (drop (length (stream v.frames)) (judged v.verdict bytes))) 2 ≡ true → List ℕ
+      nat_lt (length (drop (length (stream v.frames)) (judged_bytes v.verdict bytes))) 2 ≡ true → List ℕ
   unfolding short_rest
   redaction_found bytes range in_bytes short =
       let v = found role limits (range_by_test limits range) bytes (bytes_by_test bytes in_bytes) in
-      let rest = drop (length (stream v.frames)) (judged v.verdict bytes) in
+      let rest = drop (length (stream v.frames)) (judged_bytes v.verdict bytes) in
       stream (redacted_frames [] v.frames) ++ ((short_rest bytes v.frames v.verdict v.is rest (ltb-true (length rest) 2 short)).0 ++ zeros_for (unjudged v.verdict bytes))
 
   pub computed : (bytes redacted : List ℕ) (range : in_range limits ≡ true) (in_bytes : all_bytes bytes ≡ true)
       → let v = found role limits (range_by_test limits range) bytes (bytes_by_test bytes in_bytes) in
-      (short : nat_lt (length (drop (length (stream v.frames)) (judged v.verdict bytes))) 2 ≡ true) → redaction_found bytes range in_bytes short ≡ redacted → IsRedaction role limits bytes redacted
+      (short : nat_lt (length (drop (length (stream v.frames)) (judged_bytes v.verdict bytes))) 2 ≡ true) → redaction_found bytes range in_bytes short ≡ redacted → IsRedaction role limits bytes redacted
   unfolding redaction_found
   computed bytes redacted range in_bytes short same =
       let v = found role limits (range_by_test limits range) bytes (bytes_by_test bytes in_bytes) in
-      let rest = drop (length (stream v.frames)) (judged v.verdict bytes) in
+      let rest = drop (length (stream v.frames)) (judged_bytes v.verdict bytes) in
       let written = short_rest bytes v.frames v.verdict v.is rest (ltb-true (length rest) 2 short) in
       record {
         frames = v.frames;
@@ -113,7 +112,7 @@ quiet_head role limits group head test = record {
 module _ (role : Role) (limits : Limits) where
   pub computed_with : (bytes redacted rest : List ℕ) (range : in_range limits ≡ true) (in_bytes : all_bytes bytes ≡ true)
       → let v = found role limits (range_by_test limits range) bytes (bytes_by_test bytes in_bytes) in
-      IsRedactedRest role limits v.frames (drop (length (stream v.frames)) (judged v.verdict bytes)) rest → stream (redacted_frames [] v.frames) ++ (rest ++ zeros_for (unjudged v.verdict bytes)) ≡ redacted → IsRedaction role limits bytes redacted
+      IsRedactedRest role limits v.frames (drop (length (stream v.frames)) (judged_bytes v.verdict bytes)) rest → stream (redacted_frames [] v.frames) ++ (rest ++ zeros_for (unjudged v.verdict bytes)) ≡ redacted → IsRedaction role limits bytes redacted
   computed_with bytes redacted rest range in_bytes is_rest same =
       let v = found role limits (range_by_test limits range) bytes (bytes_by_test bytes in_bytes) in
       record {

@@ -21,7 +21,7 @@ use Rattle.wsn_show.specs.EndedBy.{reset_comment}
 use Rattle.wsn_redact.specs.declared.extension_names.Within.TheVariants.{Name}
 use Rattle.wsn_redact.specs.ExtensionNames.{names_in}
 use Rattle.wsn_redact.specs.Redaction.{IsRedaction}
-use Rattle.wsn_redact.specs.RedactedCaptures.{extensions_prefix, IsReset, Stays, HasExtensions, IsRedactedNothing, IsRedactedText, cr_of, IsRedactedLine, AreRedactedLines, IsRedactedCapture}
+use Rattle.wsn_redact.specs.RedactedCaptures.{extensions_prefix, IsReset, Stays, HasExtensions, IsRedactedNothing, IsRedactedLineText, cr_of, IsRedactedLine, AreRedactedLines, IsRedactedCapture}
 use Rattle.wsn_redact.proofs.OneRedaction.{redaction_length}
 use Rattle.wsn_redact.proofs.EveryRedaction.{some_redaction_of}
 
@@ -115,7 +115,7 @@ server_sent (Mark Server ∷ entries) client server size = server_sent entries c
 abbrev SomeLines : List (List ℕ) → List Entry → List Entry → Type 0
 SomeLines lines entries others = (redacted : List (List ℕ)) × AreRedactedLines lines entries others redacted
 
-one_more : (line : List ℕ) (lines : List (List ℕ)) (entry other : Entry) (entries others : List Entry) (text : List ℕ) → IsRedactedText (without_cr line) entry other text → SomeLines lines entries others → SomeLines (line ∷ lines) (entry ∷ entries) (other ∷ others)
+one_more : (line : List ℕ) (lines : List (List ℕ)) (entry other : Entry) (entries others : List Entry) (text : List ℕ) → IsRedactedLineText (without_cr line) entry other text → SomeLines lines entries others → SomeLines (line ∷ lines) (entry ∷ entries) (other ∷ others)
 one_more line lines entry other entries others text is rest = ((text ++ cr_of line) ∷ rest.0, ((text, is, refl), rest.1))
 
 some_lines : (lines : List (List ℕ)) (entries : List Entry) (client server : List ℕ) → AreEntries lines entries → length client ≡ length (sent Client entries) → length server ≡ length (sent Server entries)

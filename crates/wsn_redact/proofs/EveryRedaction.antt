@@ -19,7 +19,7 @@ use Rattle.wsn_rules.specs.Accepted.{HasNoClose, EndsWithClose}
 use Rattle.wsn_rules.specs.Evidence.{Evidence}
 use Rattle.wsn_rules.specs.Group.{unfinished, payload_of}
 use Rattle.wsn_rules.specs.Heads.{BeginsWithHead, IsBegun, AreHeads}
-use Rattle.wsn_rules.specs.Verdict.{EndsWithinFrame, IsEvidentAt, IsRefused, IsCut, IsVerdict}
+use Rattle.wsn_rules.specs.Verdict.{EndsWithinFrame, IsEvidentAt, IsRefused, IsCut, IsVerdict, judged_bytes}
 use Rattle.wsn_rules.proofs.EveryInput.{has_verdict}
 use Rattle.wsn_rules.proofs.EveryShown.{some_shown}
 use Rattle.wsn_rules.proofs.HeadsGoOn.{begins_two}
@@ -29,7 +29,7 @@ use Rattle.wsn_rules.proofs.Prefixes.{append_cancel}
 use Rattle.wsn_rules.proofs.StaysRefused.{refused_alike}
 use Rattle.wsn_frame.proofs.HeadsAtOnce.{no_items}
 use Rattle.wsn_redact.specs.StandIns.{single_stand_in, IsRedactedText, stood, due_after}
-use Rattle.wsn_redact.specs.Redaction.{zeros_for, is_of_text, IsRedactedData, IsRedactedPayload, IsRedactedBegun, IsRedactedRest, judged, unjudged, IsRedaction, redacted_payload, redacted_frames}
+use Rattle.wsn_redact.specs.Redaction.{zeros_for, is_of_text, IsRedactedData, IsRedactedPayload, IsRedactedBegun, IsRedactedRest, unjudged, IsRedaction, redacted_payload, redacted_frames}
 use Rattle.wsn_redact.proofs.StoodTexts.{stood-append, length-stood, stood_is}
 use Rattle.wsn_redact.proofs.RedactedPayloads.{HasText, payload_is, are_redacted}
 use Rattle.wsn_redact.proofs.RefusedEvidence.{within_payload}
@@ -161,7 +161,7 @@ module _ (role : Role) (limits : Limits) (range : InRange limits) where
   closed_or_not fs closed none = none closed.0 [] closed.1 closed.3 closed.2
 
   -- The bytes of which the verdict takes account have the same one.
-  same_verdict : (bytes : List ℕ) (fs : List Frame) (v : Verdict) → IsVerdict role limits bytes fs v → IsVerdict role limits (judged v bytes) fs v
+  same_verdict : (bytes : List ℕ) (fs : List Frame) (v : Verdict) → IsVerdict role limits bytes fs v → IsVerdict role limits (judged_bytes v bytes) fs v
   same_verdict bytes fs (Accepted s) is = is
   same_verdict bytes fs (Cut s) is = is
   same_verdict bytes fs (Refused r) is = refused_alike role limits fs bytes (take (r.place + 1) bytes) r.place r.reason (take-take (r.place + 1) (r.place + 1) bytes (omega arith)) is
@@ -178,10 +178,10 @@ module _ (role : Role) (limits : Limits) (range : InRange limits) where
   begun_rest seen fs (Cut s) rest whole no_close info b is last = cut_begun role limits seen fs rest whole info b is.0
   begun_rest seen fs (Refused r) rest whole no_close info b is last = refused_begun role limits seen fs rest whole info b r.place r.reason is (last r.place r.reason is)
 
-  judged_ends : (bytes : List ℕ) (fs : List Frame) (v : Verdict) → IsVerdict role limits bytes fs v → (place : ℕ) (reason : Reason) → IsRefused role limits (judged v bytes) fs place reason → place + 1 ≡ length (judged v bytes)
+  judged_ends : (bytes : List ℕ) (fs : List Frame) (v : Verdict) → IsVerdict role limits bytes fs v → (place : ℕ) (reason : Reason) → IsRefused role limits (judged_bytes v bytes) fs place reason → place + 1 ≡ length (judged_bytes v bytes)
   judged_ends bytes fs v is place reason r = by v refl is r
     where
-      by : (w : Verdict) → v ≡ w → IsVerdict role limits bytes fs w → IsRefused role limits (judged w bytes) fs place reason → place + 1 ≡ length (judged w bytes)
+      by : (w : Verdict) → v ≡ w → IsVerdict role limits bytes fs w → IsRefused role limits (judged_bytes w bytes) fs place reason → place + 1 ≡ length (judged_bytes w bytes)
       by (Accepted s) v_is is_w r_w = let both : Accepted s ≡ Refused (record { place = place; reason = reason }) = (one_verdict role limits bytes fs fs (Accepted s) (Refused (record { place = place; reason = reason })) is_w r_w).1 in absurd cc
       by (Cut s) v_is is_w r_w = let both : Cut s ≡ Refused (record { place = place; reason = reason }) = (one_verdict role limits bytes fs fs (Cut s) (Refused (record { place = place; reason = reason })) is_w r_w).1 in absurd cc
       by (Refused q) v_is is_w r_w =
@@ -192,9 +192,9 @@ module _ (role : Role) (limits : Limits) (range : InRange limits) where
           let total = ap (λ (bs : List ℕ). length bs) e.whole in
           omega (arith, place_is, at, total, length-append (stream fs) (e.seen ++ e.later), length-append e.seen e.later, length-take-le (q.place + 1) bytes (omega (arith, at, total, length-append (stream fs) (e.seen ++ e.later), length-append e.seen e.later)))
 
-  some_rest : (bytes : List ℕ) → IsBytes bytes → (fs : List Frame) (v : Verdict) → IsVerdict role limits bytes fs v → (redacted : List ℕ) × IsRedactedRest role limits fs (drop (length (stream fs)) (judged v bytes)) redacted
+  some_rest : (bytes : List ℕ) → IsBytes bytes → (fs : List Frame) (v : Verdict) → IsVerdict role limits bytes fs v → (redacted : List ℕ) × IsRedactedRest role limits fs (drop (length (stream fs)) (judged_bytes v bytes)) redacted
   some_rest bytes in_bytes fs v is =
-      let seen = judged v bytes in
+      let seen = judged_bytes v bytes in
       let is_seen = same_verdict bytes fs v is in
       let s = (some_shown role limits range Frames seen (all_bytes v)).1 in
       let same = one_verdict role limits seen s.frames fs s.verdict v s.is_verdict is_seen in
@@ -203,7 +203,7 @@ module _ (role : Role) (limits : Limits) (range : InRange limits) where
       let made = by seen a.rest a.whole a.begun a.is_begun is_seen (judged_ends bytes fs v is) in
       (made.0, subst (λ (bs : List ℕ). IsRedactedRest role limits fs bs made.0) (sym rest_is) made.1)
     where
-      all_bytes : (w : Verdict) → IsBytes (judged w bytes)
+      all_bytes : (w : Verdict) → IsBytes (judged_bytes w bytes)
       all_bytes (Accepted s) = in_bytes
       all_bytes (Cut s) = in_bytes
       all_bytes (Refused r) = bytes_take (r.place + 1) bytes in_bytes

@@ -15,7 +15,7 @@ use Rattle.wsn_redact.specs.declared.redactor.Redactor.{Redactor}
 use Rattle.wsn_redact.specs.Dues.{due_of}
 use Rattle.wsn_redact.specs.StandIns.{stood, due_after}
 use Rattle.wsn_redact.specs.Redaction.{zeros_for, is_text, is_of_text, redacted_payload}
-use Rattle.wsn_redact.specs.Keeping.{replaced, IsBegunWith, Replaces, KeepsOpen, KeepsIn}
+use Rattle.wsn_redact.specs.RedactedParts.{replaced, IsBegunWith, Replaces, KeepsOpen, KeepsIn}
 use Rattle.wsn_redact.proofs.StoodTexts.{stood-append, due_after-append}
 use Rattle.wsn_redact.proofs.RedactedPayloads.{zeros-append}
 

@@ -13,7 +13,7 @@ use Rattle.wsn_rules.specs.Accepted.{HasNoClose, EndsWithClose}
 use Rattle.wsn_rules.specs.Group.{unfinished}
 use Rattle.wsn_rules.specs.Heads.{info_of, BeginsWithHead}
 use Rattle.wsn_rules.specs.Lawful.{IsLawful}
-use Rattle.wsn_rules.specs.Verdict.{IsVerdict}
+use Rattle.wsn_rules.specs.Verdict.{IsVerdict, judged_bytes}
 use Rattle.wsn_rules.proofs.HeadsGoOn.{begins_longer}
 use Rattle.wsn_rules.proofs.OneHead.{one_begun}
 use Rattle.wsn_rules.proofs.LawfulLists.{no_close_before}
@@ -22,7 +22,7 @@ use Rattle.wsn_rules.proofs.Prefixes.{append_cancel}
 use Rattle.wsn_rules.proofs.StaysRefused.{refused_alike}
 use Rattle.wsn_rules.proofs.Walk.{stream-append}
 use Rattle.wsn_rules.specs.declared.verdict.Refusal.{Refusal}
-use Rattle.wsn_redact.specs.Redaction.{zeros_for, IsRedactedPayload, with_payload, IsRedactedBegun, IsRedactedRest, redacted_payload, redacted_frames, judged, unjudged, IsRedaction}
+use Rattle.wsn_redact.specs.Redaction.{zeros_for, IsRedactedPayload, with_payload, IsRedactedBegun, IsRedactedRest, redacted_payload, redacted_frames, unjudged, IsRedaction}
 use Rattle.wsn_redact.proofs.RedactedPayloads.{zeros-append, payload_length, length-redacted_payload, payload_is, one_payload, lawful_text, are_redacted, one_frames}
 use Rattle.wsn_redact.proofs.OneRedaction.{rest_is_one}
 use Rattle.std.proofs.Math.Seq.{take-append-add}
@@ -212,7 +212,7 @@ module _ (role : Role) (limits : Limits) where
       )
 
   -- What a longer stream's verdict takes account of, if the shorter one isn't refused.
-  longer_judged : (bytes more : List ℕ) (fs : List Frame) (v : Verdict) (gs : List Frame) (w : Verdict) → ((q : Refusal) → v ≡ Refused q → ⊥) → IsVerdict role limits bytes fs v → IsVerdict role limits (bytes ++ more) gs w → (m : List ℕ) × (judged w (bytes ++ more) ≡ bytes ++ m)
+  longer_judged : (bytes more : List ℕ) (fs : List Frame) (v : Verdict) (gs : List Frame) (w : Verdict) → ((q : Refusal) → v ≡ Refused q → ⊥) → IsVerdict role limits bytes fs v → IsVerdict role limits (bytes ++ more) gs w → (m : List ℕ) × (judged_bytes w (bytes ++ more) ≡ bytes ++ m)
   longer_judged bytes more fs v gs (Accepted t) quiet is also = (more, refl)
   longer_judged bytes more fs v gs (Cut t) quiet is also = (more, refl)
   longer_judged bytes more fs v gs (Refused q) quiet is also = elim (cases_lt (length bytes) (q.place + 1)) [
@@ -226,7 +226,7 @@ module _ (role : Role) (limits : Limits) where
   ]
 
   -- A stream that isn't refused.
-  quiet_longer : (bytes more redacted longer : List ℕ) (r : IsRedaction role limits bytes redacted) (s : IsRedaction role limits (bytes ++ more) longer) → ((q : Refusal) → r.verdict ≡ Refused q → ⊥) → judged r.verdict bytes ≡ bytes → unjudged r.verdict bytes ≡ [] → (extra : List Frame) → s.frames ≡ r.frames ++ extra → Continues longer redacted
+  quiet_longer : (bytes more redacted longer : List ℕ) (r : IsRedaction role limits bytes redacted) (s : IsRedaction role limits (bytes ++ more) longer) → ((q : Refusal) → r.verdict ≡ Refused q → ⊥) → judged_bytes r.verdict bytes ≡ bytes → unjudged r.verdict bytes ≡ [] → (extra : List Frame) → s.frames ≡ r.frames ++ extra → Continues longer redacted
   quiet_longer bytes more redacted longer r s quiet all none extra gs_is =
       let fs = r.frames in
       let a = all_of_verdict role limits bytes fs r.verdict r.is_verdict in
@@ -235,7 +235,7 @@ module _ (role : Role) (limits : Limits) where
       let hs = redacted_frames [] fs in
       let own : redacted ≡ stream hs ++ r.is.rest =
       r.is.whole ∙ (λ i. stream (one_frames [] fs r.is.frames hs r.is.are_frames (are_redacted role limits [] fs a.lawful) i) ++ (r.is.rest ++ zeros_for (none i))) ∙ ap (λ (bs : List ℕ). stream hs ++ bs) (append-nil r.is.rest) in
-      let seen : drop (length (stream fs)) (judged r.verdict bytes) ≡ a.rest = ap (λ (bs : List ℕ). drop (length (stream fs)) bs) all ∙ rest_of bytes a.rest fs a.whole in
+      let seen : drop (length (stream fs)) (judged_bytes r.verdict bytes) ≡ a.rest = ap (λ (bs : List ℕ). drop (length (stream fs)) bs) all ∙ rest_of bytes a.rest fs a.whole in
       let rest : IsRedactedRest role limits fs a.rest r.is.rest = subst (λ (bs : List ℕ). IsRedactedRest role limits fs bs r.is.rest) seen r.is.is_rest in
       let end = s.is.rest ++ zeros_for (unjudged s.verdict (bytes ++ more)) in
       let written : longer ≡ stream hs ++ (stream (redacted_frames fs extra) ++ end) =
@@ -250,10 +250,10 @@ module _ (role : Role) (limits : Limits) where
           let a = all_of_verdict role limits bytes r.frames r.verdict r.is_verdict in
           let same : s.frames ≡ r.frames = is ∙ append-nil r.frames in
           let m = longer_judged bytes more r.frames r.verdict s.frames s.verdict quiet r.is_verdict s.is_verdict in
-          let there : drop (length (stream r.frames)) (judged s.verdict (bytes ++ more)) ≡ a.rest ++ m.0 =
+          let there : drop (length (stream r.frames)) (judged_bytes s.verdict (bytes ++ more)) ≡ a.rest ++ m.0 =
           ap (λ (bs : List ℕ). drop (length (stream r.frames)) bs) m.1 ∙ rest_of (bytes ++ m.0) (a.rest ++ m.0) r.frames (ap (λ (bs : List ℕ). bs ++ m.0) a.whole ∙ append_assoc (stream r.frames) a.rest m.0) in
           let longer_rest : IsRedactedRest role limits r.frames (a.rest ++ m.0) s.is.rest =
-          subst (λ (bs : List ℕ). IsRedactedRest role limits r.frames bs s.is.rest) there (subst (λ (ks : List Frame). IsRedactedRest role limits ks (drop (length (stream ks)) (judged s.verdict (bytes ++ more))) s.is.rest) same s.is.is_rest) in
+          subst (λ (bs : List ℕ). IsRedactedRest role limits r.frames bs s.is.rest) there (subst (λ (ks : List Frame). IsRedactedRest role limits ks (drop (length (stream ks)) (judged_bytes s.verdict (bytes ++ more))) s.is.rest) same s.is.is_rest) in
           continues_with s.is.rest r.is.rest (zeros_for (unjudged s.verdict (bytes ++ more))) (rest_stays r.frames a.rest m.0 r.is.rest s.is.rest rest longer_rest)
       by (f ∷ ex) is lawful rest =
           let a = all_of_verdict role limits bytes r.frames r.verdict r.is_verdict in
@@ -282,5 +282,5 @@ module _ (role : Role) (limits : Limits) where
 
       by : (v : Verdict) → r.verdict ≡ v → Continues longer redacted
       by (Refused q) is = refused_longer bytes more redacted longer r.frames q (subst (λ (v : Verdict). IsVerdict role limits bytes r.frames v) is r.is_verdict) r s
-      by (Accepted t) is = quiet_longer bytes more redacted longer r s (λ q also. (let both : Accepted t ≡ Refused q = sym is ∙ also in cc)) (ap (λ (v : Verdict). judged v bytes) is) (ap (λ (v : Verdict). unjudged v bytes) is) on.0 on.1
-      by (Cut t) is = quiet_longer bytes more redacted longer r s (λ q also. (let both : Cut t ≡ Refused q = sym is ∙ also in cc)) (ap (λ (v : Verdict). judged v bytes) is) (ap (λ (v : Verdict). unjudged v bytes) is) on.0 on.1
+      by (Accepted t) is = quiet_longer bytes more redacted longer r s (λ q also. (let both : Accepted t ≡ Refused q = sym is ∙ also in cc)) (ap (λ (v : Verdict). judged_bytes v bytes) is) (ap (λ (v : Verdict). unjudged v bytes) is) on.0 on.1
+      by (Cut t) is = quiet_longer bytes more redacted longer r s (λ q also. (let both : Cut t ≡ Refused q = sym is ∙ also in cc)) (ap (λ (v : Verdict). judged_bytes v bytes) is) (ap (λ (v : Verdict). unjudged v bytes) is) on.0 on.1

@@ -16,7 +16,7 @@ use Rattle.wsn_show.specs.EndedBy.{reset_comment}
 use Rattle.wsn_redact.specs.Redaction.{IsRedaction}
 use Rattle.wsn_redact.specs.declared.extension_names.Within.TheVariants.{Name}
 use Rattle.wsn_redact.specs.ExtensionNames.{names_in}
-use Rattle.wsn_redact.specs.RedactedCaptures.{extensions_prefix, Stays, HasExtensions, SaysElse, IsRedactedNothing, IsRedactedText, cr_of, IsRedactedLine, AreRedactedLines, IsRedactedCapture}
+use Rattle.wsn_redact.specs.RedactedCaptures.{extensions_prefix, Stays, HasExtensions, SaysElse, IsRedactedNothing, IsRedactedLineText, cr_of, IsRedactedLine, AreRedactedLines, IsRedactedCapture}
 use Rattle.wsn_redact.proofs.OneRedaction.{one_redaction}
 use Rattle.wsn_wire.proofs.FrameLemmas.{fronts_agree}
 
@@ -66,7 +66,7 @@ one_nothing text redacted other (inr (inr is)) (inr (inr also)) = is.1 ∙ sym a
 -- ---- lines
 
 -- the same redacted entries, the same lines
-one_text : (text : List ℕ) (entry other : Entry) (redacted also : List ℕ) → IsRedactedText text entry other redacted → IsRedactedText text entry other also → redacted ≡ also
+one_text : (text : List ℕ) (entry other : Entry) (redacted also : List ℕ) → IsRedactedLineText text entry other redacted → IsRedactedLineText text entry other also → redacted ≡ also
 one_text text Nothing Nothing redacted also is same = one_nothing text redacted also is same
 one_text text (Bytes role bytes) (Bytes r others) redacted also is same = is.2 ∙ sym same.2
 one_text text (Mark role) (Mark r) redacted also is same = is.1 ∙ sym same.1
@@ -137,7 +137,7 @@ abbrev SameFirst : Entry → List Entry → Entry → List Entry → Type 0
 SameFirst other others another more = (other ≡ another) × ((r : Role) → sent r others ≡ sent r more)
 
 first_same : (text : List ℕ) (entry other another : Entry) (redacted also : List ℕ) (others more : List Entry)
-    → IsRedactedText text entry other redacted → IsRedactedText text entry another also
+    → IsRedactedLineText text entry other redacted → IsRedactedLineText text entry another also
     → ((r : Role) → sent r (other ∷ others) ≡ sent r (another ∷ more)) → SameFirst other others another more
 first_same text Nothing Nothing Nothing redacted also others more is too same = (refl, nothing_off others more same)
 first_same text Nothing Nothing (Bytes s b) redacted also others more is too same = absurd too

@@ -9,11 +9,11 @@ use Rattle.wsn_rules.specs.declared.verdict.Verdict.TheVariants.{Accepted, Cut, 
 use Rattle.wsn_rules.specs.Limits.{Limits}
 use Rattle.wsn_rules.specs.Accepted.{HasNoClose, EndsWithClose}
 use Rattle.wsn_rules.specs.Group.{unfinished}
-use Rattle.wsn_rules.specs.Verdict.{IsVerdict}
+use Rattle.wsn_rules.specs.Verdict.{IsVerdict, judged_bytes}
 use Rattle.wsn_rules.proofs.OneHead.{one_begun}
 use Rattle.wsn_rules.proofs.OneVerdict.{all_of_verdict, one_verdict}
 use Rattle.wsn_rules.proofs.Prefixes.{append_cancel}
-use Rattle.wsn_redact.specs.Redaction.{zeros_for, IsRedactedPayload, with_payload, AreRedacted, IsRedactedBegun, IsRedactedRest, judged, unjudged, IsRedactionAt, IsRedaction}
+use Rattle.wsn_redact.specs.Redaction.{zeros_for, IsRedactedPayload, with_payload, AreRedacted, IsRedactedBegun, IsRedactedRest, unjudged, IsRedactionAt, IsRedaction}
 use Rattle.wsn_redact.proofs.RedactedPayloads.{length-zeros, one_payload, payload_length, one_frames}
 
 -- ---- as many bytes
@@ -47,7 +47,7 @@ module _ (role : Role) (limits : Limits) where
       let whole = ap (λ (bs : List ℕ). length bs) b.whole in
       omega (arith, part, all, whole, length-append b.head (wire_payload info.key is.part), length-append b.head b.following, length-wire_payload info.key is.part, length-wire_payload info.key b.following)
 
-  all_bytes : (bytes : List ℕ) (fs : List Frame) (v : Verdict) → IsVerdict role limits bytes fs v → length (stream fs) + (length (drop (length (stream fs)) (judged v bytes)) + length (unjudged v bytes)) ≡ length bytes
+  all_bytes : (bytes : List ℕ) (fs : List Frame) (v : Verdict) → IsVerdict role limits bytes fs v → length (stream fs) + (length (drop (length (stream fs)) (judged_bytes v bytes)) + length (unjudged v bytes)) ≡ length bytes
   all_bytes bytes fs (Accepted s) is =
       let all = all_of_verdict role limits bytes fs (Accepted s) is in
       let size = ap (λ (bs : List ℕ). length bs) all.whole in
@@ -71,7 +71,7 @@ module _ (role : Role) (limits : Limits) where
       let v = r.verdict in
       let is = r.is in
       let frames = frames_length [] fs is.frames is.are_frames in
-      let rest = rest_length fs (drop (length (stream fs)) (judged v bytes)) is.rest is.is_rest in
+      let rest = rest_length fs (drop (length (stream fs)) (judged_bytes v bytes)) is.rest is.is_rest in
       let all = all_bytes bytes fs v r.is_verdict in
       let whole = ap (λ (bs : List ℕ). length bs) is.whole in
       omega (arith, frames, rest, all, whole, length-append (stream is.frames) (is.rest ++ zeros_for (unjudged v bytes)), length-append is.rest (zeros_for (unjudged v bytes)), length-zeros (unjudged v bytes))
@@ -108,7 +108,7 @@ module _ (role : Role) (limits : Limits) where
   at_is_one : (bytes redacted other : List ℕ) (fs : List Frame) (v : Verdict) → IsRedactionAt role limits bytes fs v redacted → IsRedactionAt role limits bytes fs v other → redacted ≡ other
   at_is_one bytes redacted other fs v is also =
       let frames = one_frames [] fs is.frames also.frames is.are_frames also.are_frames in
-      let rest = rest_is_one fs (drop (length (stream fs)) (judged v bytes)) is.rest also.rest is.is_rest also.is_rest in
+      let rest = rest_is_one fs (drop (length (stream fs)) (judged_bytes v bytes)) is.rest also.rest is.is_rest also.is_rest in
       is.whole ∙ (λ i. stream (frames i) ++ (rest i ++ zeros_for (unjudged v bytes))) ∙ sym also.whole
 
   pub one_redaction : (bytes redacted other : List ℕ) → IsRedaction role limits bytes redacted → IsRedaction role limits bytes other → redacted ≡ other

@@ -1,8 +1,8 @@
--- A piece of a text and the lines that it ends, redacted.
+-- A chunk of a text and the lines that it ends, redacted.
 use Rattle.std.proofs.Common.{◌≡◌, ℕ, ◌+◌, ◌-◌, ◌<◌, false, Result, Ok, Err, List, [], ◌∷◌, ◌++◌, length, take, drop, inl, inr, refl, sym, ap, ◌∙◌, subst, append_assoc, append-nil, length-append, length-drop, arith}
 use Rattle.std.specs.Prelude.{OnOk, IfErr}
 use Rattle.std.proofs.lemmas.List.{take-append-drop, take_all}
-use Rattle.wsn_io.specs.Transfer.{Outgoing, IsWritten, IsPartlyWritten, IsWrittenUpToFailure}
+use Rattle.wsn_io.specs.Transfer.{Outgoing, IsWritten, IsPartlyWritten, IsWrittenUpToFailure, IsWrittenAtLeast}
 use Rattle.wsn_io.proofs.PutTexts.{put_both, put_front}
 use Rattle.wsn_rules.specs.Limits.{Limits}
 use Rattle.wsn_rules.specs.Entries.{Entry}
@@ -10,18 +10,16 @@ use Rattle.wsn_rules.specs.TextLines.{IsLine, ended, AreLines}
 use Rattle.wsn_rules.proofs.TextLines.{ended-push, each_join, lines_at_end}
 use Rattle.wsn_capture.specs.declared.capture_stop.CaptureStop.TheVariants as capture
 use Rattle.wsn_capture.specs.LineFaults.{AreAcceptedLines}
-use Rattle.wsn_capture.specs.LineSplitters.{HasPassedOn, IsStopAt, IsStopWithin}
-use Rattle.wsn_capture.specs.SplitLines.{GoesOn, EndsLine}
+use Rattle.wsn_capture.specs.LineSplitters.{HasPassedOn, IsStopAt, IsStopWithin, ContinuesLine, EndsLine}
 use Rattle.wsn_capture.proofs.SplitLines.{split_line, line_join, stop_line, stop_at_most, no_long, unfaulted, faulty_last}
-use Rattle.wsn_capture.proofs.PiecePrefixes.{goes_on, stop_in_rest, last_of}
-use Rattle.wsn_show.proofs.PassedPieces.{more_after, failed_part, whole_part}
+use Rattle.wsn_capture.proofs.ChunkPrefixes.{goes_on, stop_in_rest, last_of}
+use Rattle.wsn_show.proofs.PassedChunks.{more_after, failed_part, whole_part}
 use Rattle.wsn_redact.specs.declared.capture_redactor.CaptureRedactor.{CaptureRedactor}
 use Rattle.wsn_redact.specs.declared.capture_redacting.RedactStop.{RedactStop}
 use Rattle.wsn_redact.specs.declared.capture_redacting.RedactStop.TheVariants as stop
 use Rattle.wsn_redact.specs.RedactedCaptures.{IsRedactedCapture}
-use Rattle.wsn_redact.specs.RedactingCaptures.{IsTextOfLines, BeginWithLines, IsTextOf, IsWholeText, IsWrittenBefore, IsWrittenAtLeast}
-use Rattle.wsn_redact.specs.CaptureRedactors.{HasRedactedLines}
-use Rattle.wsn_redact.specs.PassedRedactions.{HasWritten, PutsLine, StopsAtLine, StopsWithin, EndsRedacting}
+use Rattle.wsn_redact.specs.RedactingCaptures.{IsTextOfLines, BeginWithLines, IsTextOf, IsWholeText, IsWrittenBefore, IsTextOfWhole}
+use Rattle.wsn_redact.specs.PassedRedactions.{HasRedactedLines, HasWritten, PutsLine, StopsAtLine, StopsWithin, EndsRedacting}
 use Rattle.wsn_redact.proofs.RedactedLines.{redacted_so_far}
 
 pub rest_is : (n : ℕ) (bs : List ℕ) → take (length bs - n) (drop n bs) ≡ drop n bs
@@ -39,10 +37,10 @@ module _ (limits : Limits) (first : Outgoing) (redactor : CaptureRedactor) (begu
   text_so_far = (has.redacted, so_far, refl)
 
   -- the line goes on
-  pub written_on : (after piece : List ℕ) (k : ℕ) → GoesOn begun after piece k → HasWritten limits first redactor after now (came ++ take k piece)
-  written_on after piece k goes = record {
+  pub written_on : (after chunk : List ℕ) (k : ℕ) → ContinuesLine begun after chunk k → HasWritten limits first redactor after now (came ++ take k chunk)
+  written_on after chunk k goes = record {
     lines = has.lines;
-    passed = goes_on limits has.lines begun came has.passed after piece k goes;
+    passed = goes_on limits has.lines begun came has.passed after chunk k goes;
     entries = has.entries;
     others = has.others;
     redacted = has.redacted;
@@ -84,18 +82,18 @@ module _ (limits : Limits) (first : Outgoing) (redactor : CaptureRedactor) (begu
         }
 
   -- what the lines so far became was written, and then more
-  pub at_least : (after : Outgoing) (more : List ℕ) → IsWrittenUpToFailure now after more → IsWrittenAtLeast limits came first after
+  pub at_least : (after : Outgoing) (more : List ℕ) → IsWrittenUpToFailure now after more → IsWrittenAtLeast (IsTextOfWhole limits came) first after
   at_least after more went =
       let rest = more_after first now after (ended has.redacted) more has.written went in
-      (has.lines, begun, ended has.redacted, rest.0, (has.passed.each, has.passed.whole), has.passed.in_line, text_so_far, rest.1)
+      (ended has.redacted, rest.0, (has.lines, begun, (has.passed.each, has.passed.whole), has.passed.in_line, text_so_far), rest.1)
 
 -- ---- stops
 
 module _ (limits : Limits) (first : Outgoing) (redactor : CaptureRedactor) (begun : List ℕ) (now : Outgoing) (came : List ℕ)
     (has : HasWritten limits first redactor begun now came) (new : CaptureRedactor) (line bytes : List ℕ) (after : Outgoing) (is : line ≡ begun ++ bytes)
     (in_line : IsLine bytes) where
-  begins : (piece : List ℕ) → BeginWithLines (came ++ piece) has.lines (begun ++ piece)
-  begins piece = (has.passed.each, ap (λ (bs : List ℕ). bs ++ piece) has.passed.whole ∙ append_assoc (ended has.lines) begun piece)
+  begins : (chunk : List ℕ) → BeginWithLines (came ++ chunk) has.lines (begun ++ chunk)
+  begins chunk = (has.passed.each, ap (λ (bs : List ℕ). bs ++ chunk) has.passed.whole ∙ append_assoc (ended has.lines) begun chunk)
 
   begins_with : (ahead : List ℕ) → BeginWithLines (came ++ (bytes ++ 10 ∷ ahead)) (has.lines ++ line ∷ []) ahead
   begins_with ahead =
@@ -106,12 +104,12 @@ module _ (limits : Limits) (first : Outgoing) (redactor : CaptureRedactor) (begu
             ∙ sym (append_assoc (ended lines) (line ++ 10 ∷ []) ahead) ∙ ap (λ (bs : List ℕ). bs ++ ahead) (sym (ended-push lines line)),
       )
 
-  before_line : (piece : List ℕ) (number : ℕ) → number ≡ length has.lines + 1 → after ≡ now → IsWrittenBefore limits (came ++ piece) number first after
-  before_line piece number at same = (
+  before_line : (chunk : List ℕ) (number : ℕ) → number ≡ length has.lines + 1 → after ≡ now → IsWrittenBefore limits (came ++ chunk) number first after
+  before_line chunk number at same = (
     has.lines,
-    begun ++ piece,
+    begun ++ chunk,
     ended has.redacted,
-    begins piece,
+    begins chunk,
     at,
     text_so_far limits first redactor begun now came has,
     subst (λ (o : Outgoing). IsWritten first o (ended has.redacted)) (sym same) has.written,
@@ -154,27 +152,27 @@ module _ (limits : Limits) (first : Outgoing) (redactor : CaptureRedactor) (begu
   stops_long ahead (stop.Capture capture.Read) size stops = absurd stops
   stops_long ahead stop.Write size stops = absurd (not_long size stops.0)
 
--- ---- a prefix of a piece
+-- ---- a prefix of a chunk
 
 module _ (limits : Limits) (first : Outgoing) (redactor : CaptureRedactor) (begun : List ℕ) (now : Outgoing) (came : List ℕ)
-    (has : HasWritten limits first redactor begun now came) (new : CaptureRedactor) (line : List ℕ) (after : Outgoing) (piece : List ℕ) (k : ℕ)
-    (ends : EndsLine begun line piece k) where
-  pub stops_in : (s : RedactStop) → StopsAtLine limits new has.lines has.entries has.others has.redacted line (10 ∷ []) now after s → StopsWithin limits first after came piece s
+    (has : HasWritten limits first redactor begun now came) (new : CaptureRedactor) (line : List ℕ) (after : Outgoing) (chunk : List ℕ) (k : ℕ)
+    (ends : EndsLine begun line chunk k) where
+  pub stops_in : (s : RedactStop) → StopsAtLine limits new has.lines has.entries has.others has.redacted line (10 ∷ []) now after s → StopsWithin limits first after came chunk s
   stops_in s stops =
-      let ahead = drop k piece in
+      let ahead = drop k chunk in
       elim ends.ends [
         | inl lf ↦
             subst (λ (bs : List ℕ). StopsWithin limits first after came bs s)
-            (sym (append_assoc ends.bytes (10 ∷ []) ahead) ∙ ap (λ (bs : List ℕ). bs ++ ahead) (sym lf.0) ∙ take-append-drop k piece)
+            (sym (append_assoc ends.bytes (10 ∷ []) ahead) ∙ ap (λ (bs : List ℕ). bs ++ ahead) (sym lf.0) ∙ take-append-drop k chunk)
             (stops_lf limits first redactor begun now came has new line ends.bytes after ends.is ends.in_line ahead s lf.1 stops)
         | inr long ↦
             subst (λ (bs : List ℕ). StopsWithin limits first after came bs s)
-            (ap (λ (bs : List ℕ). bs ++ ahead) (sym long.0) ∙ take-append-drop k piece)
+            (ap (λ (bs : List ℕ). bs ++ ahead) (sym long.0) ∙ take-append-drop k chunk)
             (stops_long limits first redactor begun now came has new line ends.bytes after ends.is ends.in_line ahead s long.1 stops)
       ]
 
   pub written_in : PutsLine limits new has.lines has.entries has.others has.redacted line (10 ∷ []) now after → after.failed ≡ false
-      → HasWritten limits first new [] after (came ++ take k piece)
+      → HasWritten limits first new [] after (came ++ take k chunk)
   written_in puts works =
       elim ends.ends [
         | inl lf ↦
@@ -184,27 +182,27 @@ module _ (limits : Limits) (first : Outgoing) (redactor : CaptureRedactor) (begu
         | inr long ↦ absurd (not_long limits first redactor begun now came has new line ends.bytes after ends.is ends.in_line long.1 puts)
       ]
 
--- ---- the rest of a piece
+-- ---- the rest of a chunk
 
-rest_whole : (came piece : List ℕ) (at : ℕ) → (came ++ take at piece) ++ take (length piece - at) (drop at piece) ≡ came ++ piece
-rest_whole came piece at =
-    append_assoc came (take at piece) (take (length piece - at) (drop at piece))
-    ∙ ap (λ (bs : List ℕ). came ++ (take at piece ++ bs)) (rest_is at piece) ∙ ap (λ (bs : List ℕ). came ++ bs) (take-append-drop at piece)
+rest_whole : (came chunk : List ℕ) (at : ℕ) → (came ++ take at chunk) ++ take (length chunk - at) (drop at chunk) ≡ came ++ chunk
+rest_whole came chunk at =
+    append_assoc came (take at chunk) (take (length chunk - at) (drop at chunk))
+    ∙ ap (λ (bs : List ℕ). came ++ (take at chunk ++ bs)) (rest_is at chunk) ∙ ap (λ (bs : List ℕ). came ++ bs) (take-append-drop at chunk)
 
-pub stops_in_rest : (limits : Limits) (first now : Outgoing) (came piece : List ℕ) (at : ℕ) (s : RedactStop)
-    → StopsWithin limits first now (came ++ take at piece) (take (length piece - at) (drop at piece)) s → StopsWithin limits first now came piece s
-stops_in_rest limits first now came piece at (stop.Capture (capture.Line number fault)) (within, before) = (
-  stop_in_rest limits came piece at (capture.Line number fault) within,
-  subst (λ (bs : List ℕ). IsWrittenBefore limits bs number first now) (rest_whole came piece at) before,
+pub stops_in_rest : (limits : Limits) (first now : Outgoing) (came chunk : List ℕ) (at : ℕ) (s : RedactStop)
+    → StopsWithin limits first now (came ++ take at chunk) (take (length chunk - at) (drop at chunk)) s → StopsWithin limits first now came chunk s
+stops_in_rest limits first now came chunk at (stop.Capture (capture.Line number fault)) (within, before) = (
+  stop_in_rest limits came chunk at (capture.Line number fault) within,
+  subst (λ (bs : List ℕ). IsWrittenBefore limits bs number first now) (rest_whole came chunk at) before,
 )
-stops_in_rest limits first now came piece at (stop.Capture capture.Read) stops = absurd stops
-stops_in_rest limits first now came piece at stop.Write ((text, is, partly), but) = (
-  (text, subst (λ (bs : List ℕ). IsTextOf limits bs text) (rest_whole came piece at) is, partly),
+stops_in_rest limits first now came chunk at (stop.Capture capture.Read) stops = absurd stops
+stops_in_rest limits first now came chunk at stop.Write ((text, is, partly), but) = (
+  (text, subst (λ (bs : List ℕ). IsTextOf limits bs text) (rest_whole came chunk at) is, partly),
   record {
     done = but.done;
     last = but.last;
-    whole = sym (rest_whole came piece at) ∙ but.whole;
-    short = let size = ap (λ (bs : List ℕ). length bs) (rest_is at piece) ∙ length-drop at piece in let most = but.short in omega (arith, size, most);
+    whole = sym (rest_whole came chunk at) ∙ but.whole;
+    short = let size = ap (λ (bs : List ℕ). length bs) (rest_is at chunk) ∙ length-drop at chunk in let most = but.short in omega (arith, size, most);
     written = but.written;
   },
 )

@@ -3,7 +3,7 @@ use Rattle.std.proofs.Common.{◌≡◌, ℕ, ◌+◌, Bool, true, false, List, 
 use Rattle.std.specs.List.{concat, flat_map}
 use Rattle.wsn_wire.specs.declared.endpoint.Role.{Role}
 use Rattle.wsn_wire.specs.declared.opcode.Op.{Op}
-use Rattle.wsn_wire.specs.declared.opcode.Op.TheVariants.{Continue, Text, Binary, Close, Ping, Pong}
+use Rattle.wsn_wire.specs.declared.opcode.Op.TheVariants.{Continue, Text, Close}
 use Rattle.wsn_wire.specs.Frame.{Frame, IsBytes, frame_bytes, stream, wire_payload}
 use Rattle.wsn_wire.proofs.FrameLemmas.{IsBytes-append, IsBytes-left, IsBytes-right, layout_of_frame, wire_payload_bytes}
 use Rattle.wsn_rules.specs.declared.verdict.Verdict.{Verdict}
@@ -11,9 +11,9 @@ use Rattle.wsn_rules.specs.declared.verdict.Verdict.TheVariants.{Accepted, Cut, 
 use Rattle.wsn_rules.specs.Limits.{Limits}
 use Rattle.wsn_rules.specs.Group.{unfinished, payload_of}
 use Rattle.wsn_rules.specs.Lawful.{IsLawful}
-use Rattle.wsn_rules.specs.Verdict.{IsVerdict}
+use Rattle.wsn_rules.specs.Verdict.{IsVerdict, judged_bytes}
 use Rattle.wsn_redact.specs.StandIns.{single_stand_in, stand_in, stand_in_of, IsRedactedText, IsRedacted}
-use Rattle.wsn_redact.specs.Redaction.{zeros_for, is_of_text, IsRedactedData, IsRedactedPayload, IsRedactedRest, judged, unjudged, IsRedaction, redacted_frames}
+use Rattle.wsn_redact.specs.Redaction.{zeros_for, is_of_text, IsRedactedData, IsRedactedPayload, IsRedactedRest, unjudged, IsRedaction, redacted_frames}
 use Rattle.wsn_redact.proofs.RedactedPayloads.{are_redacted, one_frames}
 use Rattle.wsn_redact.proofs.RedactedLawful.{stand_in_bytes, zeros_bytes}
 use Rattle.wsn_redact.proofs.RedactedVerdicts.{frames_stay_lawful}
@@ -78,10 +78,10 @@ module _ (role : Role) (limits : Limits) where
   lawful_of bytes fs (Cut s) is = is.0.lawful
   lawful_of bytes fs (Refused r) is = is.lawful
 
-  judged_bytes : (v : Verdict) (bytes : List ℕ) → IsBytes bytes → IsBytes (judged v bytes)
-  judged_bytes (Accepted s) bytes all = all
-  judged_bytes (Cut s) bytes all = all
-  judged_bytes (Refused r) bytes all = bytes_take (r.place + 1) bytes all
+  judged_in_bytes : (v : Verdict) (bytes : List ℕ) → IsBytes bytes → IsBytes (judged_bytes v bytes)
+  judged_in_bytes (Accepted s) bytes all = all
+  judged_in_bytes (Cut s) bytes all = all
+  judged_in_bytes (Refused r) bytes all = bytes_take (r.place + 1) bytes all
 
   rest_in_bytes : (fs : List Frame) (rest redacted : List ℕ) → IsBytes (payload_of (unfinished fs)) → IsBytes rest → IsRedactedRest role limits fs rest redacted → IsBytes redacted
   rest_in_bytes fs rest redacted before all (inl closed) = subst IsBytes (sym closed.1) (zeros_bytes rest)
@@ -102,5 +102,5 @@ module _ (role : Role) (limits : Limits) where
       let stays = frames_stay_lawful role limits fs lawful in
       let same : at.frames ≡ redacted_frames [] fs = one_frames [] fs at.frames (redacted_frames [] fs) at.are_frames (are_redacted role limits [] fs lawful) in
       let frames : IsBytes (stream at.frames) = subst (λ (gs : List Frame). IsBytes (stream gs)) (sym same) (frames_bytes [] (redacted_frames [] fs) stays.lawful) in
-      let rest = rest_in_bytes fs (drop (length (stream fs)) (judged v bytes)) at.rest stays.same.in_bytes (bytes_drop (length (stream fs)) (judged v bytes) (judged_bytes v bytes all)) at.is_rest in
+      let rest = rest_in_bytes fs (drop (length (stream fs)) (judged_bytes v bytes)) at.rest stays.same.in_bytes (bytes_drop (length (stream fs)) (judged_bytes v bytes) (judged_in_bytes v bytes all)) at.is_rest in
       subst IsBytes (sym at.whole) (IsBytes-append (stream at.frames) (at.rest ++ zeros_for (unjudged v bytes)) frames (IsBytes-append at.rest (zeros_for (unjudged v bytes)) rest (zeros_bytes (unjudged v bytes))))

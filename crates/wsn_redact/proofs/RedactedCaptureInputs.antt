@@ -1,7 +1,7 @@
 -- An input whose capture is redacted: the answer fits the bytes that came.
 use Rattle.std.proofs.Common.{◌≡◌, ℕ, ◌+◌, ◌*◌, ◌≤◌, false, true, Result, Ok, Err, List, [], ◌∷◌, ◌++◌, length, inl, inr, refl, sym, ap, ◌∙◌, subst, append_assoc, append-nil, length-append, arith}
 use Rattle.std.specs.Io.KnownBytes.{IsAtEnd}
-use Rattle.wsn_io.specs.Transfer.{Incoming, Outgoing, IsConsumed, IsKept}
+use Rattle.wsn_io.specs.Transfer.{Incoming, Outgoing, IsConsumed, IsKept, IsWrittenBut}
 use Rattle.wsn_io.proofs.Received.{consumed_none, consumed_on, consumed_end, consumed_kept, received_of}
 use Rattle.wsn_io.proofs.PutTexts.{prints_nothing}
 use Rattle.wsn_rules.specs.Limits.{Limits}
@@ -17,10 +17,9 @@ use Rattle.wsn_capture.proofs.SplitLines.{unfaulted}
 use Rattle.wsn_redact.specs.declared.capture_redactor.CaptureRedactor.{CaptureRedactor}
 use Rattle.wsn_redact.specs.declared.capture_redacting.RedactStop.{RedactStop}
 use Rattle.wsn_redact.specs.declared.capture_redacting.RedactStop.TheVariants as stop
-use Rattle.wsn_redact.specs.CaptureRedactors.{HasRedactedLines}
-use Rattle.wsn_redact.specs.RedactingCaptures.{IsWrittenBut, IsCaptureRedactAnswer, IsRedactedCaptureInput}
-use Rattle.wsn_redact.specs.PassedRedactions.{HasWritten, StopsWithin, EndsRedacting}
-use Rattle.wsn_show.proofs.PassedPieces.{whole_part}
+use Rattle.wsn_redact.specs.PassedRedactions.{HasRedactedLines, HasWritten, StopsWithin, EndsRedacting}
+use Rattle.wsn_redact.specs.RedactingCaptures.{IsCaptureRedactAnswer, IsRedactedCaptureInput, IsTextOfWhole}
+use Rattle.wsn_show.proofs.PassedChunks.{whole_part}
 use Rattle.wsn_redact.proofs.PassedRedactions.{text_so_far}
 
 -- All bytes that came were passed on, and what their lines became was written.
@@ -71,12 +70,14 @@ module _ (limits : Limits) (old mid new : Incoming) (first : Outgoing) (redactor
       failed,
       unfaulted limits read.has_written.lines begun read.came read.has_written.passed,
       (
-        read.has_written.lines,
-        begun,
         ended read.has_written.redacted,
-        (read.has_written.passed.each, read.has_written.passed.whole),
-        read.has_written.passed.in_line,
-        text_so_far limits first redactor begun now read.came read.has_written,
+        (
+          read.has_written.lines,
+          begun,
+          (read.has_written.passed.each, read.has_written.passed.whole),
+          read.has_written.passed.in_line,
+          text_so_far limits first redactor begun now read.came read.has_written,
+        ),
         read.has_written.written,
       ),
     );
@@ -92,7 +93,7 @@ module _ (limits : Limits) (old mid new : Incoming) (first : Outgoing) (redactor
   at_end (Err stop.Write) after ends unfailed is = (unfailed, is.0)
 
   all_at_end : (result : Result (Unit {0}) RedactStop) (after : Outgoing) → EndsRedacting limits first after read.came result → result ≡ Err stop.Write
-      → IsWrittenBut chunk_size limits read.came first after
+      → IsWrittenBut chunk_size (IsTextOfWhole limits) read.came first after
   all_at_end result after ends is =
       let at_end = subst (λ (r : Result (Unit {0}) RedactStop). EndsRedacting limits first after read.came r) is ends in
       record { done = read.came; last = []; whole = sym (append-nil read.came); short = omega arith; written = at_end.1 }
@@ -108,18 +109,18 @@ module _ (limits : Limits) (old mid new : Incoming) (first : Outgoing) (redactor
   }
 
   -- a chunk was redacted
-  pub goes_on : (piece : List ℕ) (further : CaptureRedactor) (left : List ℕ) (after : Outgoing) → IsConsumed mid new piece
-      → HasWritten limits first further left after (read.came ++ piece) → HasRedactedOn limits old new first further left after
-  goes_on piece further left after consumes has_written = record {
-    came = read.came ++ piece;
-    consumed = consumed_on old mid new read.came piece read.consumed consumes;
+  pub goes_on : (chunk : List ℕ) (further : CaptureRedactor) (left : List ℕ) (after : Outgoing) → IsConsumed mid new chunk
+      → HasWritten limits first further left after (read.came ++ chunk) → HasRedactedOn limits old new first further left after
+  goes_on chunk further left after consumes has_written = record {
+    came = read.came ++ chunk;
+    consumed = consumed_on old mid new read.came chunk read.consumed consumes;
     has_written = has_written;
   }
 
-  prompt : (piece : List ℕ) (number : ℕ) (fault : LineFault) → length piece ≤ 4096 → IsStopWithin limits read.came piece (capture.Line number fault)
-      → IsPrompt limits (read.came ++ piece) number fault
-  prompt piece number fault size within =
-      let whole : read.came ++ piece ≡ (read.came ++ within.earlier) ++ within.last ∷ within.ahead = ap (λ (bs : List ℕ). read.came ++ bs) within.whole ∙ sym (append_assoc read.came within.earlier (within.last ∷ within.ahead)) in
+  prompt : (chunk : List ℕ) (number : ℕ) (fault : LineFault) → length chunk ≤ 4096 → IsStopWithin limits read.came chunk (capture.Line number fault)
+      → IsPrompt limits (read.came ++ chunk) number fault
+  prompt chunk number fault size within =
+      let whole : read.came ++ chunk ≡ (read.came ++ within.earlier) ++ within.last ∷ within.ahead = ap (λ (bs : List ℕ). read.came ++ bs) within.whole ∙ sym (append_assoc read.came within.earlier (within.last ∷ within.ahead)) in
       let sizes = ap (λ (bs : List ℕ). length bs) within.whole ∙ length-append within.earlier (within.last ∷ within.ahead) in
       record {
         earlier = read.came ++ within.earlier;
@@ -132,26 +133,26 @@ module _ (limits : Limits) (old mid new : Incoming) (first : Outgoing) (redactor
         few = omega (arith, sizes, size);
       }
 
-  within_piece : (piece : List ℕ) (s : RedactStop) (after : Outgoing) → length piece ≤ 4096 → new.failed ≡ false
-      → StopsWithin limits first after read.came piece s → IsCaptureRedactAnswer limits new (read.came ++ piece) first after (Err s)
-  within_piece piece (stop.Capture (capture.Line number fault)) after size unfailed stops =
-      (inl (prompt piece number fault size stops.0), unfailed, stops.1)
-  within_piece piece (stop.Capture capture.Read) after size unfailed stops = absurd stops
-  within_piece piece stop.Write after size unfailed stops = (unfailed, stops.0)
+  within_chunk : (chunk : List ℕ) (s : RedactStop) (after : Outgoing) → length chunk ≤ 4096 → new.failed ≡ false
+      → StopsWithin limits first after read.came chunk s → IsCaptureRedactAnswer limits new (read.came ++ chunk) first after (Err s)
+  within_chunk chunk (stop.Capture (capture.Line number fault)) after size unfailed stops =
+      (inl (prompt chunk number fault size stops.0), unfailed, stops.1)
+  within_chunk chunk (stop.Capture capture.Read) after size unfailed stops = absurd stops
+  within_chunk chunk stop.Write after size unfailed stops = (unfailed, stops.0)
 
-  all_but_piece : (piece : List ℕ) (s : RedactStop) (after : Outgoing) → length piece ≤ 4096 → StopsWithin limits first after read.came piece s
-      → (let answer : Result (Unit {0}) RedactStop = Err s in answer) ≡ Err stop.Write → IsWrittenBut chunk_size limits (read.came ++ piece) first after
-  all_but_piece piece (stop.Capture capture) after size stops is = cc
-  all_but_piece piece stop.Write after size stops is =
+  all_but_chunk : (chunk : List ℕ) (s : RedactStop) (after : Outgoing) → length chunk ≤ 4096 → StopsWithin limits first after read.came chunk s
+      → (let answer : Result (Unit {0}) RedactStop = Err s in answer) ≡ Err stop.Write → IsWrittenBut chunk_size (IsTextOfWhole limits) (read.came ++ chunk) first after
+  all_but_chunk chunk (stop.Capture capture) after size stops is = cc
+  all_but_chunk chunk stop.Write after size stops is =
       let but = stops.1 in
       record { done = but.done; last = but.last; whole = but.whole; short = let most = but.short in omega (arith, most, size); written = but.written }
 
   -- the stop is within a chunk
-  pub stops_here : (piece : List ℕ) (s : RedactStop) (after : Outgoing) → IsConsumed mid new piece → length piece ≤ 4096 → new.failed ≡ false
-      → StopsWithin limits first after read.came piece s → IsRedactedCaptureInput limits old new first after (Err s)
-  stops_here piece s after consumes size unfailed stops = record {
-    came = read.came ++ piece;
-    received = received_of (1000001 * 8196 + 4095) old new (read.came ++ piece) (consumed_on old mid new read.came piece read.consumed consumes) (omega (arith, bounded, size, length-append read.came piece));
-    answer = within_piece piece s after size unfailed stops;
-    at_once = all_but_piece piece s after size stops;
+  pub stops_here : (chunk : List ℕ) (s : RedactStop) (after : Outgoing) → IsConsumed mid new chunk → length chunk ≤ 4096 → new.failed ≡ false
+      → StopsWithin limits first after read.came chunk s → IsRedactedCaptureInput limits old new first after (Err s)
+  stops_here chunk s after consumes size unfailed stops = record {
+    came = read.came ++ chunk;
+    received = received_of (1000001 * 8196 + 4095) old new (read.came ++ chunk) (consumed_on old mid new read.came chunk read.consumed consumes) (omega (arith, bounded, size, length-append read.came chunk));
+    answer = within_chunk chunk s after size unfailed stops;
+    at_once = all_but_chunk chunk s after size stops;
   }

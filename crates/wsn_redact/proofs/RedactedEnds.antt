@@ -4,7 +4,7 @@ use Rattle.std.proofs.lemmas.Bool.{cases_lt}
 use Rattle.std.proofs.lemmas.List.{take_all, drop_at, take-append-le, length-take-le}
 use Rattle.wsn_wire.specs.declared.endpoint.Role.{Role}
 use Rattle.wsn_wire.specs.declared.opcode.Op.{Op}
-use Rattle.wsn_wire.specs.declared.opcode.Op.TheVariants.{Continue, Text, Binary, Close, Ping, Pong}
+use Rattle.wsn_wire.specs.declared.opcode.Op.TheVariants.{Text, Close, Ping, Pong}
 use Rattle.wsn_wire.specs.Frame.{Frame, first_byte, is_control, wire_payload, stream}
 use Rattle.wsn_wire.proofs.FrameLemmas.{first_byte_fields}
 use Rattle.wsn_text.specs.Utf8.{BeginsText}
@@ -28,7 +28,7 @@ use Rattle.wsn_rules.specs.Evidence.{Evidence, EvidentByPayload, IsOfText}
 use Rattle.wsn_rules.specs.Group.{unfinished, first_op, payload_of}
 use Rattle.wsn_rules.specs.Heads.{BeginsWithHead, IsBegun}
 use Rattle.wsn_rules.specs.ShownStream.{frame_so_far}
-use Rattle.wsn_rules.specs.Verdict.{IsRefused, IsVerdict}
+use Rattle.wsn_rules.specs.Verdict.{IsRefused, IsVerdict, judged_bytes}
 use Rattle.wsn_rules.proofs.HeadsGoOn.{begins_longer}
 use Rattle.wsn_rules.proofs.MessageText.{text_of_push}
 use Rattle.wsn_rules.proofs.Prefixes.{append_cancel}
@@ -43,8 +43,8 @@ use Rattle.wsn_scan.specs.Positions.{Position, BetweenFrames, InFrame, begun_at}
 use Rattle.wsn_scan.specs.Scans.{HasScanned, IsAt, IsRefusedThere, refusal_in, refusal_at}
 use Rattle.wsn_scan.proofs.FollowedScans.{wire_payload_is, lawful_done, whole_is, unrefused_so_far, in_frame, between, refused_there, refused_begun}
 use Rattle.wsn_redact.specs.declared.redactor.Redactor.{Redactor}
-use Rattle.wsn_redact.specs.Redaction.{zeros_for, is_text, is_of_text, IsRedactedPayload, IsRedactedRest, judged, unjudged, IsRedactionAt, redacted_payload, redacted_frames}
-use Rattle.wsn_redact.specs.Keeping.{RefusesPart, KeepsAt, IsRestWritten, IsRedacting, HasRefused, IsBadReason, refused_part}
+use Rattle.wsn_redact.specs.Redaction.{zeros_for, is_text, is_of_text, IsRedactedPayload, IsRedactedRest, unjudged, IsRedactionAt, redacted_payload, redacted_frames}
+use Rattle.wsn_redact.specs.RedactedParts.{RefusesPart, KeepsAt, IsRestWritten, IsRedacting, HasRefused, IsBadReason, refused_part}
 use Rattle.wsn_redact.proofs.RedactedPayloads.{HasText, zeros-append, payload_is, are_redacted, length-redacted_payload}
 use Rattle.wsn_redact.proofs.KeptParts.{text_of_group}
 use Rattle.wsn_redact.proofs.RedactedSteps.{may_begun, head_of}
@@ -63,30 +63,30 @@ module _ (role : Role) (limits : Limits) where
   -- ---- a refusal
 
   -- The offending byte is one of the call's.
-  pub refused_some : (old new : Scan) (piece after : List ℕ) (n : ℕ) (part : Part) (came : List ℕ) (kept : Redactor) (written : List ℕ) (h : IsRedacting role limits old kept came written) (refusal : Refusal) → refusal_in new ≡ Some refusal
-      → IsCall old new piece after n taken.Refused part → 0 < n
-  refused_some old new piece after n part came kept written h refusal is call = elim (cases_lt 0 n) [
+  pub refused_some : (old new : Scan) (chunk after : List ℕ) (n : ℕ) (part : Part) (came : List ℕ) (kept : Redactor) (written : List ℕ) (h : IsRedacting role limits old kept came written) (refusal : Refusal) → refusal_in new ≡ Some refusal
+      → IsCall old new chunk after n taken.Refused part → 0 < n
+  refused_some old new chunk after n part came kept written h refusal is call = elim (cases_lt 0 n) [
     | inl more ↦ more
     | inr none ↦
-        let there = refused_there role limits old new piece after n part came h.frames h.position h.rest h.followed refusal is call in
+        let there = refused_there role limits old new chunk after n part came h.frames h.position h.rest h.followed refusal is call in
         let count : n ≡ 0 = omega (arith, none) in
-        let same : (came ++ take n piece) ++ [] ≡ came = append-nil (came ++ take n piece) ∙ ap (λ (m : ℕ). came ++ take m piece) count ∙ append-nil came in
+        let same : (came ++ take n chunk) ++ [] ≡ came = append-nil (came ++ take n chunk) ∙ ap (λ (m : ℕ). came ++ take m chunk) count ∙ append-nil came in
         absurd (unrefused_so_far role limits old came h.frames h.position h.rest h.followed h.frames refusal.place refusal.reason (subst (λ (bs : List ℕ). IsRefused role limits bs h.frames refusal.place refusal.reason) same (there.1.refused [])))
   ]
 
-  module _ (old new : Scan) (piece after : List ℕ) (n : ℕ) (part : Part) (came : List ℕ) (kept : Redactor) (written : List ℕ) (h : IsRedacting role limits old kept came written) (refusal : Refusal) (is : refusal_in new ≡ Some refusal)
-      (call : IsCall old new piece after n taken.Refused part) (sized : length after ≡ length piece) (final : List ℕ) (outside : kept.inside ≡ false → final ≡ take n after) (inside : kept.inside ≡ true → RefusesPart kept refusal.reason (take n after) final) where
+  module _ (old new : Scan) (chunk after : List ℕ) (n : ℕ) (part : Part) (came : List ℕ) (kept : Redactor) (written : List ℕ) (h : IsRedacting role limits old kept came written) (refusal : Refusal) (is : refusal_in new ≡ Some refusal)
+      (call : IsCall old new chunk after n taken.Refused part) (sized : length after ≡ length chunk) (final : List ℕ) (outside : kept.inside ≡ false → final ≡ take n after) (inside : kept.inside ≡ true → RefusesPart kept refusal.reason (take n after) final) where
     abbrev share : List ℕ
-    share = take n piece
+    share = take n chunk
 
     abbrev longer : List ℕ
-    longer = h.rest ++ take n piece
+    longer = h.rest ++ take n chunk
 
     reaches : (scanned : HasScanned role limits new (came ++ share) h.frames longer h.position) × IsRefusedThere role limits refusal (came ++ share) h.frames h.position
-    reaches = refused_there role limits old new piece after n part came h.frames h.position h.rest h.followed refusal is call
+    reaches = refused_there role limits old new chunk after n part came h.frames h.position h.rest h.followed refusal is call
 
     begun : IsBegun role limits h.frames longer (begun_at h.position)
-    begun = refused_begun role limits old new piece after n part came h.frames h.position h.rest h.followed refusal is call
+    begun = refused_begun role limits old new chunk after n part came h.frames h.position h.rest h.followed refusal is call
 
     unmasked : take n after ≡ unmasked_at h.position share
     unmasked = call.refused refl role limits came h.rest h.frames h.position h.followed.has_scanned
@@ -98,10 +98,10 @@ module _ (role : Role) (limits : Limits) where
     refused_here = subst (λ (bs : List ℕ). IsRefused role limits bs h.frames refusal.place refusal.reason) (append-nil (came ++ share)) (reaches.1.refused [])
 
     some : 0 < n
-    some = refused_some old new piece after n part came kept written h refusal is call
+    some = refused_some old new chunk after n part came kept written h refusal is call
 
     size_of_share : length share ≡ n
-    size_of_share = length-take-le n piece call.within
+    size_of_share = length-take-le n chunk call.within
 
     whole_rest : came ++ share ≡ stream h.frames ++ longer
     whole_rest = ap (λ (bs : List ℕ). bs ++ share) (whole_is role limits old came h.frames h.position h.rest h.followed) ∙ append_assoc (stream h.frames) h.rest share
@@ -220,20 +220,20 @@ module _ (role : Role) (limits : Limits) where
             }
 
   -- More bytes come after a refusal.
-  pub refused_on : (scan : Scan) (came written piece : List ℕ) → HasRefused role limits scan came written → HasRefused role limits scan (came ++ piece) (written ++ zeros_for piece)
-  refused_on scan came written piece h = record {
+  pub refused_on : (scan : Scan) (came written chunk : List ℕ) → HasRefused role limits scan came written → HasRefused role limits scan (came ++ chunk) (written ++ zeros_for chunk)
+  refused_on scan came written chunk h = record {
     refusal = h.refusal;
     reported = h.reported;
     frames = h.frames;
     position = h.position;
     rest = h.rest;
     seen = h.seen;
-    later = h.later ++ piece;
-    came_is = ap (λ (bs : List ℕ). bs ++ piece) h.came_is ∙ append_assoc h.seen h.later piece;
+    later = h.later ++ chunk;
+    came_is = ap (λ (bs : List ℕ). bs ++ chunk) h.came_is ∙ append_assoc h.seen h.later chunk;
     has_scanned = h.has_scanned;
     refused = h.refused;
     seen_written = h.seen_written;
-    written_is = ap (λ (bs : List ℕ). bs ++ zeros_for piece) h.written_is ∙ append_assoc h.seen_written (zeros_for h.later) (zeros_for piece) ∙ ap (λ (bs : List ℕ). h.seen_written ++ bs) (sym (zeros-append h.later piece));
+    written_is = ap (λ (bs : List ℕ). bs ++ zeros_for chunk) h.written_is ∙ append_assoc h.seen_written (zeros_for h.later) (zeros_for chunk) ∙ ap (λ (bs : List ℕ). h.seen_written ++ bs) (sym (zeros-append h.later chunk));
     is_redaction = h.is_redaction;
   }
 
@@ -319,10 +319,10 @@ module _ (role : Role) (limits : Limits) where
       whole = h.whole ∙ ap (λ (bs : List ℕ). stream (redacted_frames [] h.frames) ++ bs) (sym (append-nil h.rest_written)) ∙ ap (λ (bs : List ℕ). stream (redacted_frames [] h.frames) ++ (h.rest_written ++ zeros_for bs)) (sym (all v is).1);
     }
       where
-        all : (w : Verdict) → IsVerdict role limits came h.frames w → (judged w came ≡ came) × (unjudged w came ≡ [])
+        all : (w : Verdict) → IsVerdict role limits came h.frames w → (judged_bytes w came ≡ came) × (unjudged w came ≡ [])
         all (Accepted s) is_w = (refl, refl)
         all (Cut s) is_w = (refl, refl)
         all (Refused r) is_w = absurd (unrefused_so_far role limits scan came h.frames h.position h.rest h.followed h.frames r.place r.reason is_w)
 
-        rest : drop (length (stream h.frames)) (judged v came) ≡ h.rest
+        rest : drop (length (stream h.frames)) (judged_bytes v came) ≡ h.rest
         rest = ap (λ (bs : List ℕ). drop (length (stream h.frames)) bs) ((all v is).0 ∙ whole_is role limits scan came h.frames h.position h.rest h.followed) ∙ drop_at (stream h.frames) h.rest (length (stream h.frames)) refl

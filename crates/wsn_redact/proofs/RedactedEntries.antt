@@ -17,8 +17,8 @@ use Rattle.wsn_capture.proofs.AcceptedTexts.{taken_given}
 use Rattle.wsn_capture.proofs.EveryReport.{sent_bytes}
 use Rattle.wsn_redact.specs.declared.extension_names.Within.TheVariants.{Name}
 use Rattle.wsn_redact.specs.ExtensionNames.{names_in}
-use Rattle.wsn_redact.specs.RedactedCaptures.{IsRedactedNothing, IsRedactedText, IsRedactedLine, AreRedactedLines, IsRedactedCapture}
-use Rattle.wsn_redact.specs.AlikeLines.{IsAlike, AreAlike}
+use Rattle.wsn_redact.specs.RedactedCaptures.{IsRedactedNothing, IsRedactedLineText, IsRedactedLine, AreRedactedLines, IsRedactedCapture}
+use Rattle.wsn_redact.specs.AlikeCaptures.{IsAlike, AreAlike}
 use Rattle.wsn_redact.proofs.RedactedBytes.{redaction_bytes}
 use Rattle.wsn_redact.proofs.PlainEnds.{text_of_line, extensions_plain, bytes_plain}
 
@@ -50,7 +50,7 @@ some_digits digits bytes others hex same none =
     let its = (decode_of-ok digits bytes hex.1).2 in
     hex.0 (no_items digits (omega (arith, size, no_size, its, same)))
 
-text_facts : (before text : List ℕ) (entry other : Entry) → GivesEntry before entry → HasBytes other → IsRedactedText before entry other text → RedactedTextFacts before text other
+text_facts : (before text : List ℕ) (entry other : Entry) → GivesEntry before entry → HasBytes other → IsRedactedLineText before entry other text → RedactedTextFacts before text other
 text_facts before text Nothing Nothing gives all is = nothing_facts before text gives is
 text_facts before text (Bytes role bytes) (Bytes r others) gives all is = record {
   gives = (encode_lower others, is.2 ∙ ap (λ (q : Role). bytes_prefix q ++ encode_lower others) (sym is.0), (some_digits gives.0 bytes others gives.2 is.1, decode_of-encode_lower others (at-All (λ n. n < 256) (omega arith) others all)));
@@ -100,7 +100,7 @@ lines_entries (line ∷ lines) (entry ∷ entries) (other ∷ others) (r ∷ red
     (line_entry line r entry other given.0 (first_bytes other others all) are.0, lines_entries lines entries others redacted given.1 (other_bytes other others all) are.1)
 lines_entries _ _ others redacted given all are = absurd are
 
-pub text_alike : (before text : List ℕ) (entry other : Entry) → IsRedactedText before entry other text → IsAlike entry other
+pub text_alike : (before text : List ℕ) (entry other : Entry) → IsRedactedLineText before entry other text → IsAlike entry other
 text_alike before text Nothing Nothing is = tt
 text_alike before text (Bytes role bytes) (Bytes r others) is = (is.0, is.1)
 text_alike before text (Mark role) (Mark r) is = is.0

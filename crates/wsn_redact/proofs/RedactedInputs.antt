@@ -27,7 +27,7 @@ use Rattle.wsn_scan.proofs.Unrefused.{unrefused_first}
 use Rattle.wsn_redact.specs.declared.redactor.Redactor.{Redactor}
 use Rattle.wsn_redact.specs.Redaction.{IsRedactionAt, IsRedaction}
 use Rattle.wsn_redact.specs.Redacting.{IsRedactionWith, IsRedactAnswer, IsRedactedInput, IsRedactedWhole}
-use Rattle.wsn_redact.specs.Keeping.{KeepsAt, HasRedacted, RedactsOn}
+use Rattle.wsn_redact.specs.RedactedParts.{KeepsAt, HasRedacted, RedactsOn}
 use Rattle.wsn_redact.proofs.RedactedEnds.{redacting_ends}
 
 module _ (role : Role) (limits : Limits) where
@@ -110,36 +110,38 @@ module _ (role : Role) (limits : Limits) where
 
     -- ---- the next chunk came
 
-    module _ (new : Incoming) (later : ChunkReader) (piece : List ℕ) (come : HasCome limits old new later (came ++ piece)) (next : Scan) (next_kept : Redactor) (out : List ℕ) (step : RedactsOn scan kept next next_kept piece out (length piece)) (sized : length out ≡ length piece) where
-      redacted : HasRedacted role limits next next_kept (came ++ piece) (read.text ++ out)
+    module _ (new : Incoming) (later : ChunkReader) (chunk : List ℕ) (come : HasCome limits old new later (came ++ chunk)) (next : Scan) (next_kept : Redactor) (out : List ℕ) (step : RedactsOn scan kept next next_kept chunk out (length chunk)) (sized : length out ≡ length chunk) where
+      redacted : HasRedacted role limits next next_kept (came ++ chunk) (read.text ++ out)
       redacted =
-          subst (λ (bs : List ℕ). HasRedacted role limits next next_kept (came ++ piece) (read.text ++ bs)) (take_all (length piece) out (omega (arith, sized)))
-          (subst (λ (bs : List ℕ). HasRedacted role limits next next_kept (came ++ bs) (read.text ++ take (length piece) out)) (take_all (length piece) piece (omega arith)) (step role limits came read.text read.has_redacted))
+          subst (λ (bs : List ℕ). HasRedacted role limits next next_kept (came ++ chunk) (read.text ++ bs)) (take_all (length chunk) out (omega (arith, sized)))
+          (subst (λ (bs : List ℕ). HasRedacted role limits next next_kept (came ++ bs) (read.text ++ take (length chunk) out)) (take_all (length chunk) chunk (omega arith)) (step role limits came read.text read.has_redacted))
 
-      pub goes_on : (after : Outgoing) → IsWritten now after out → HasRedactedInput old new later first after next next_kept (came ++ piece)
+      pub goes_on : (after : Outgoing) → IsWritten now after out → HasRedactedInput old new later first after next next_kept (came ++ chunk)
       goes_on after put = record { come = come; text = read.text ++ out; has_redacted = redacted; written = put_both first now after read.text out read.written put }
 
-      pub write_failed : length piece + length come.past ≤ chunk_size → (after : Outgoing) → IsPartlyWritten now after out → IsRedactedInput role limits old new first after (Err stop.Write)
+      pub write_failed : length chunk + length come.past ≤ chunk_size → (after : Outgoing) → IsPartlyWritten now after out → IsRedactedInput role limits old new first after (Err stop.Write)
       write_failed short after partly = record {
-        came = (came ++ piece) ++ come.past;
-        received = received limits old new later (came ++ piece) come;
+        came = (came ++ chunk) ++ come.past;
+        received = received limits old new later (came ++ chunk) come;
         answer = (
           (
             read.text ++ out,
-            subst (λ (bs : List ℕ). IsRedaction role limits bs (read.text ++ out)) (sym (within_limit limits old new later (came ++ piece) come)) (some_redaction next next_kept (came ++ piece) (read.text ++ out) redacted),
+            subst (λ (bs : List ℕ). IsRedaction role limits bs (read.text ++ out)) (sym (within_limit limits old new later (came ++ chunk) come)) (some_redaction next next_kept (came ++ chunk) (read.text ++ out) redacted),
             put_front first now after read.text out read.written partly,
           ),
           come.unfailed,
         );
         at_once = λ is. record {
           done = came;
-          last = piece ++ come.past;
-          whole = append_assoc came piece come.past;
-          short = omega (arith, short, length-append piece come.past);
-          redacted = read.text;
-          is_redaction = some_redaction scan kept came read.text read.has_redacted;
-          more = take partly.1.0 out;
-          written = Appends-trans first.written now.written after.written read.text (take partly.1.0 out) read.written.1 partly.1.1;
+          last = chunk ++ come.past;
+          whole = append_assoc came chunk come.past;
+          short = omega (arith, short, length-append chunk come.past);
+          written = (
+            read.text,
+            take partly.1.0 out,
+            some_redaction scan kept came read.text read.has_redacted,
+            Appends-trans first.written now.written after.written read.text (take partly.1.0 out) read.written.1 partly.1.1,
+          );
         };
       }
 

@@ -20,9 +20,9 @@ use Rattle.wsn_capture.proofs.ClosingLines.{sent-push}
 use Rattle.wsn_capture.proofs.AcceptedLines.{own_bytes, no_bytes_in_nothing, no_bytes_in_mark}
 use Rattle.wsn_redact.specs.declared.redactor.Redactor.{Redactor}
 use Rattle.wsn_redact.specs.declared.capture_redactor.CaptureRedactor.{CaptureRedactor}
-use Rattle.wsn_redact.specs.Keeping.{HasRedacted, RedactsOn}
+use Rattle.wsn_redact.specs.RedactedParts.{HasRedacted, RedactsOn}
 use Rattle.wsn_redact.specs.RedactedCaptures.{IsRedactedLine, AreRedactedLines, IsRedactedCapture}
-use Rattle.wsn_redact.specs.CaptureRedactors.{stream_of, AreStreams, HasRoomForEntry, HasRedactedLines, RedactsLine}
+use Rattle.wsn_redact.specs.PassedRedactions.{stream_of, AreStreams, HasRoomForEntry, HasRedactedLines, RedactsLine}
 use Rattle.wsn_redact.proofs.RedactedInputs.{some_redaction}
 
 -- ---- streams

@@ -33,7 +33,7 @@ use Rattle.wsn_scan.proofs.FollowedScans.{wire_payload_is, lawful_done, rest_few
 use Rattle.wsn_redact.specs.declared.redactor.Redactor.{Redactor}
 use Rattle.wsn_redact.specs.Dues.{due_of}
 use Rattle.wsn_redact.specs.Redaction.{zeros_for, with_payload, redacted_payload, redacted_frames}
-use Rattle.wsn_redact.specs.Keeping.{replaced, TakesPart, KeepsOpen, KeepsIn, KeepsAt, IsRestWritten, IsRedacting}
+use Rattle.wsn_redact.specs.RedactedParts.{replaced, TakesPart, KeepsOpen, KeepsIn, KeepsAt, IsRestWritten, IsRedacting}
 use Rattle.wsn_redact.proofs.RedactedPayloads.{zeros-append, length-redacted_payload, redacted_push}
 use Rattle.wsn_redact.proofs.KeptParts.{MayBegin, payload_more, keeps_more, keeps_begun, payload_none, keeps_ended}
 
@@ -102,12 +102,12 @@ wire_none (Some key) = refl
 abbrev pub head_of : HeadInfo → List ℕ
 head_of info = head_bytes info.fin info.op info.key info.form info.len
 
-module _ (role : Role) (limits : Limits) (old new : Scan) (piece after : List ℕ) (n : ℕ) (came : List ℕ) (kept : Redactor) (written : List ℕ) (h : IsRedacting role limits old kept came written) where
+module _ (role : Role) (limits : Limits) (old new : Scan) (chunk after : List ℕ) (n : ℕ) (came : List ℕ) (kept : Redactor) (written : List ℕ) (h : IsRedacting role limits old kept came written) where
   abbrev done : List Frame
   done = h.frames
 
   abbrev share : List ℕ
-  share = take n piece
+  share = take n chunk
 
   abbrev group : List Frame
   group = unfinished h.frames
@@ -115,12 +115,12 @@ module _ (role : Role) (limits : Limits) (old new : Scan) (piece after : List �
   -- ---- nothing to report
 
   -- The same frames, and more bytes of a head.
-  pub quiet : (part : Part) → 0 < n → IsCall old new piece after n taken.More part → IsRedacting role limits new kept (came ++ share) (written ++ take n after)
+  pub quiet : (part : Part) → 0 < n → IsCall old new chunk after n taken.More part → IsRedacting role limits new kept (came ++ share) (written ++ take n after)
   quiet part some call =
-      let r = reached role limits old new piece after n taken.More part came h.frames h.position h.rest h.followed call in
+      let r = reached role limits old new chunk after n taken.More part came h.frames h.position h.rest h.followed call in
       let other : taken.More ≡ taken.Refused → ⊥ = λ same. cc in
-      let here = is_between role limits old new piece after n taken.More part came h.frames h.position h.rest h.followed call r.0.found.0 r.0.found.1 other some in
-      let same : after ≡ piece = call.untouched (λ is. cc) other in
+      let here = is_between role limits old new chunk after n taken.More part came h.frames h.position h.rest h.followed call r.0.found.0 r.0.found.1 other some in
+      let same : after ≡ chunk = call.untouched (λ is. cc) other in
       let head : h.rest_written ≡ h.rest = elim (subst (λ (p : Position). IsRestWritten h.frames h.rest p h.rest_written) here h.is_rest) [
         | inl closed ↦ absurd (r.0.found.2 closed.0.0 [] closed.0.1 closed.0.3 closed.0.2)
         | inr none ↦ none.1
@@ -129,7 +129,7 @@ module _ (role : Role) (limits : Limits) (old new : Scan) (piece after : List �
         frames = h.frames;
         position = h.position;
         rest = h.rest ++ share;
-        followed = same_follows role limits old new piece after n taken.More part came h.frames h.position h.rest h.followed call r.0.found.0 r.0.found.1 other;
+        followed = same_follows role limits old new chunk after n taken.More part came h.frames h.position h.rest h.followed call r.0.found.0 r.0.found.1 other;
         rest_written = h.rest_written ++ take n after;
         is_rest = subst (λ (p : Position). IsRestWritten h.frames (h.rest ++ share) p (h.rest_written ++ take n after)) (sym here) (inr (r.0.found.2, λ i. head i ++ take n (same i)));
         whole = ap (λ (bs : List ℕ). bs ++ take n after) h.whole ∙ append_assoc (stream (redacted_frames [] h.frames)) h.rest_written (take n after);
@@ -139,11 +139,11 @@ module _ (role : Role) (limits : Limits) (old new : Scan) (piece after : List �
 
   -- ---- after a Close
 
-  pub closed : (part : Part) (last : List ℕ) → 0 < n → IsCall old new piece after n taken.Closed part → last ≡ zeros_for share → IsRedacting role limits new kept (came ++ share) (written ++ last)
+  pub closed : (part : Part) (last : List ℕ) → 0 < n → IsCall old new chunk after n taken.Closed part → last ≡ zeros_for share → IsRedacting role limits new kept (came ++ share) (written ++ last)
   closed part last some call zeros =
-      let r = reached role limits old new piece after n taken.Closed part came h.frames h.position h.rest h.followed call in
+      let r = reached role limits old new chunk after n taken.Closed part came h.frames h.position h.rest h.followed call in
       let other : taken.Closed ≡ taken.Refused → ⊥ = λ same. cc in
-      let here = is_between role limits old new piece after n taken.Closed part came h.frames h.position h.rest h.followed call r.0.found.0 r.0.found.1 other some in
+      let here = is_between role limits old new chunk after n taken.Closed part came h.frames h.position h.rest h.followed call r.0.found.0 r.0.found.1 other some in
       let tail : h.rest_written ≡ zeros_for h.rest = elim (subst (λ (p : Position). IsRestWritten h.frames h.rest p h.rest_written) here h.is_rest) [
         | inl ends ↦ ends.1
         | inr none ↦ let ends = r.0.found.2 in absurd (none.0 ends.0 [] ends.1 ends.3 ends.2)
@@ -152,7 +152,7 @@ module _ (role : Role) (limits : Limits) (old new : Scan) (piece after : List �
         frames = h.frames;
         position = h.position;
         rest = h.rest ++ share;
-        followed = same_follows role limits old new piece after n taken.Closed part came h.frames h.position h.rest h.followed call r.0.found.0 r.0.found.1 other;
+        followed = same_follows role limits old new chunk after n taken.Closed part came h.frames h.position h.rest h.followed call r.0.found.0 r.0.found.1 other;
         rest_written = h.rest_written ++ last;
         is_rest = subst (λ (p : Position). IsRestWritten h.frames (h.rest ++ share) p (h.rest_written ++ last)) (sym here) (inl (r.0.found.2, (λ i. tail i ++ zeros i) ∙ sym (zeros-append h.rest share)));
         whole = ap (λ (bs : List ℕ). bs ++ last) h.whole ∙ append_assoc (stream (redacted_frames [] h.frames)) h.rest_written last;
@@ -162,9 +162,9 @@ module _ (role : Role) (limits : Limits) (old new : Scan) (piece after : List �
 
   -- ---- a part of a frame
 
-  module _ (part : Part) (call : IsCall old new piece after n taken.Part part) (start_within : part.start ≤ n) (sized : length after ≡ length piece) where
-    abbrev r : IsReachedBy role limits new (came ++ take n piece) (IsPart h.frames h.position part (drop part.start (take n after)))
-    r = reach role limits old new piece after n part came h.frames h.position h.rest h.followed call
+  module _ (part : Part) (call : IsCall old new chunk after n taken.Part part) (start_within : part.start ≤ n) (sized : length after ≡ length chunk) where
+    abbrev r : IsReachedBy role limits new (came ++ take n chunk) (IsPart h.frames h.position part (drop part.start (take n after)))
+    r = reach role limits old new chunk after n part came h.frames h.position h.rest h.followed call
 
     abbrev before : List ℕ
     before = r.found.before
@@ -173,12 +173,12 @@ module _ (role : Role) (limits : Limits) (old new : Scan) (piece after : List �
     payload = drop part.start (take n after)
 
     abbrev follows_part : HasFollowed role limits new (came ++ share) r.frames r.position r.since
-    follows_part = part_follows role limits old new piece after n part came h.frames h.position h.rest h.followed call
+    follows_part = part_follows role limits old new chunk after n part came h.frames h.position h.rest h.followed call
 
     t : IsTaken role limits h.frames h.rest before part payload share r.frames r.position r.since
     t = subst (λ (bs : List ℕ). IsTaken role limits h.frames h.rest before part bs share r.frames r.position r.since)
         (take_all (length (take n after) - part.start) (drop part.start (take n after)) (omega (arith, length-drop part.start (take n after))))
-        (part_taken role limits old new piece after n part came h.frames h.position h.rest h.followed call)
+        (part_taken role limits old new chunk after n part came h.frames h.position h.rest h.followed call)
 
     -- The bytes since the last whole frame: the head, and a payload of this size.
     record IsHeadAndPayload : Type 0 where
@@ -225,7 +225,7 @@ module _ (role : Role) (limits : Limits) (old new : Scan) (piece after : List �
         omega (arith, all, length-drop part.start (take n after), start_within)
 
     size_of_share : length share ≡ n
-    size_of_share = length-take-le n piece call.within
+    size_of_share = length-take-le n chunk call.within
 
     -- What was written for it.
     module _ (next : Redactor) (out : List ℕ) (p : TakesPart kept next part payload out) where
@@ -233,7 +233,7 @@ module _ (role : Role) (limits : Limits) (old new : Scan) (piece after : List �
       record IsOn : Type 0 where
         done_is : p.begun.done ≡ length before
         keeps : KeepsIn p.begun (unfinished h.frames) part.head.op before
-        written_is : h.rest_written ++ take part.start piece ≡ head_of part.head ++ wire_payload part.head.key (redacted_payload (unfinished h.frames) part.head.op before)
+        written_is : h.rest_written ++ take part.start chunk ≡ head_of part.head ++ wire_payload part.head.key (redacted_payload (unfinished h.frames) part.head.op before)
 
       on : IsOn
       on = elim (cases_Bool part.begins) [ inl begins ↦ at_front begins (begins_at h.position part before r.found.is_at begins) | inr goes ↦ within goes (goes_on_at h.position part before r.found.is_at goes) ]
@@ -255,7 +255,7 @@ module _ (role : Role) (limits : Limits) (old new : Scan) (piece after : List �
               let few : length (take part.start share) ≡ part.start = length-take-le part.start share (omega (arith, start_within, size_of_share)) in
               let head : h.rest ++ take part.start share ≡ head_of part.head =
               (fronts_agree (h.rest ++ take part.start share) (head_of part.head) (drop part.start share) split.wire (omega (arith, size, empty, few, size_of_payload, length-append h.rest (take part.start share))) front).0 in
-              let shorter : take part.start share ≡ take part.start piece = take-take part.start n piece start_within in
+              let shorter : take part.start share ≡ take part.start chunk = take-take part.start n chunk start_within in
               let same = by_rest (subst (λ (q : Position). IsRestWritten h.frames h.rest q h.rest_written) here h.is_rest) in
               record {
                 done_is = b.done ∙ sym empty;
@@ -278,11 +278,11 @@ module _ (role : Role) (limits : Limits) (old new : Scan) (piece after : List �
               record {
                 done_is = ap (λ (q : Redactor). q.done) same ∙ k.3;
                 keeps = subst (λ (q : Redactor). KeepsIn q (unfinished h.frames) part.head.op before) (sym same) k.4;
-                written_is = (λ i. subst (λ (q : Position). IsRestWritten h.frames h.rest q h.rest_written) here h.is_rest i ++ take (none i) piece) ∙ append-nil (head_of part.head ++ wire_payload part.head.key (redacted_payload (unfinished h.frames) part.head.op before));
+                written_is = (λ i. subst (λ (q : Position). IsRestWritten h.frames h.rest q h.rest_written) here h.is_rest i ++ take (none i) chunk) ∙ append-nil (head_of part.head ++ wire_payload part.head.key (redacted_payload (unfinished h.frames) part.head.op before));
               }
 
       -- The head, and the payload so far.
-      written_so_far : (h.rest_written ++ take part.start piece) ++ out ≡ head_of part.head ++ wire_payload part.head.key (redacted_payload (unfinished h.frames) part.head.op (before ++ payload))
+      written_so_far : (h.rest_written ++ take part.start chunk) ++ out ≡ head_of part.head ++ wire_payload part.head.key (redacted_payload (unfinished h.frames) part.head.op (before ++ payload))
       written_so_far =
           let key = part.head.key in
           let old_part = redacted_payload (unfinished h.frames) part.head.op before in
@@ -298,10 +298,10 @@ module _ (role : Role) (limits : Limits) (old new : Scan) (piece after : List �
       kept_in = same_kept p.last next (unfinished h.frames) part.head.op (before ++ payload) p.due p.text p.reason
           (keeps_more p.begun (unfinished h.frames) before payload on.done_is p.last p.middle part.head.op on.keeps p.replaces)
 
-      so_far : written ++ (take part.start piece ++ out) ≡ stream (redacted_frames [] h.frames) ++ ((h.rest_written ++ take part.start piece) ++ out)
+      so_far : written ++ (take part.start chunk ++ out) ≡ stream (redacted_frames [] h.frames) ++ ((h.rest_written ++ take part.start chunk) ++ out)
       so_far =
-          ap (λ (bs : List ℕ). bs ++ (take part.start piece ++ out)) h.whole ∙ append_assoc (stream (redacted_frames [] h.frames)) h.rest_written (take part.start piece ++ out)
-          ∙ ap (λ (bs : List ℕ). stream (redacted_frames [] h.frames) ++ bs) (sym (append_assoc h.rest_written (take part.start piece) out))
+          ap (λ (bs : List ℕ). bs ++ (take part.start chunk ++ out)) h.whole ∙ append_assoc (stream (redacted_frames [] h.frames)) h.rest_written (take part.start chunk ++ out)
+          ∙ ap (λ (bs : List ℕ). stream (redacted_frames [] h.frames) ++ bs) (sym (append_assoc h.rest_written (take part.start chunk) out))
 
       few_after : next.done ≤ length (came ++ share)
       few_after =
@@ -314,7 +314,7 @@ module _ (role : Role) (limits : Limits) (old new : Scan) (piece after : List �
           omega (arith, last, same, front, all, wire, whole, length-append before payload, length-append h.rest share, length-append (head_of part.head) split.wire, length-append came share)
 
       -- The frame goes on.
-      in_the_frame : part.ends ≡ false → (r.frames ≡ h.frames) × (r.position ≡ InFrame part.head (before ++ payload)) → IsRedacting role limits new next (came ++ share) (written ++ (take part.start piece ++ out))
+      in_the_frame : part.ends ≡ false → (r.frames ≡ h.frames) × (r.position ≡ InFrame part.head (before ++ payload)) → IsRedacting role limits new next (came ++ share) (written ++ (take part.start chunk ++ out))
       in_the_frame goes (frames_are, there) =
           let last = p.done in
           let same = p.replaces.done in
@@ -325,10 +325,10 @@ module _ (role : Role) (limits : Limits) (old new : Scan) (piece after : List �
             position = r.position;
             rest = r.since;
             followed = follows_part;
-            rest_written = (h.rest_written ++ take part.start piece) ++ out;
-            is_rest = subst (λ (q : Position). IsRestWritten r.frames r.since q ((h.rest_written ++ take part.start piece) ++ out)) (sym there)
+            rest_written = (h.rest_written ++ take part.start chunk) ++ out;
+            is_rest = subst (λ (q : Position). IsRestWritten r.frames r.since q ((h.rest_written ++ take part.start chunk) ++ out)) (sym there)
                 (written_so_far ∙ ap (λ (fs : List Frame). head_of part.head ++ wire_payload part.head.key (redacted_payload (unfinished fs) part.head.op (before ++ payload))) (sym frames_are));
-            whole = so_far ∙ ap (λ (fs : List Frame). stream (redacted_frames [] fs) ++ ((h.rest_written ++ take part.start piece) ++ out)) (sym frames_are);
+            whole = so_far ∙ ap (λ (fs : List Frame). stream (redacted_frames [] fs) ++ ((h.rest_written ++ take part.start chunk) ++ out)) (sym frames_are);
             few = few_after;
             keeps = subst (KeepsAt next r.frames) (sym there)
                 (p.inside ∙ ap not goes, p.op, p.key, count, subst (λ (fs : List Frame). KeepsIn next (unfinished fs) part.head.op (before ++ payload)) (sym frames_are) kept_in);
@@ -336,16 +336,16 @@ module _ (role : Role) (limits : Limits) (old new : Scan) (piece after : List �
 
       -- The frame ends.
       at_frame_end : part.ends ≡ true → ((frame : Frame) × (part.head ≡ info_of (length (stream h.frames)) frame) × (frame.payload ≡ before ++ payload) × (r.frames ≡ h.frames ++ frame ∷ []) × (r.position ≡ BetweenFrames))
-          → IsRedacting role limits new next (came ++ share) (written ++ (take part.start piece ++ out))
+          → IsRedacting role limits new next (came ++ share) (written ++ (take part.start chunk ++ out))
       at_frame_end ends (frame, head_is, payload_is, frames_are, there) =
           let redacted = redacted_payload (unfinished h.frames) frame.op frame.payload in
           let g = with_payload frame redacted in
-          let bytes : frame_bytes g ≡ (h.rest_written ++ take part.start piece) ++ out =
+          let bytes : frame_bytes g ≡ (h.rest_written ++ take part.start chunk) ++ out =
           ap (λ (n : ℕ). head_bytes frame.fin frame.op frame.key frame.form n ++ wire_payload frame.key redacted) (length-redacted_payload (unfinished h.frames) frame.op frame.payload)
           ∙ ap (λ (i : HeadInfo). head_of i ++ wire_payload i.key (redacted_payload (unfinished h.frames) i.op frame.payload)) (sym head_is)
           ∙ ap (λ (bs : List ℕ). head_of part.head ++ wire_payload part.head.key (redacted_payload (unfinished h.frames) part.head.op bs)) payload_is
           ∙ sym written_so_far in
-          let all : stream (redacted_frames [] (h.frames ++ frame ∷ [])) ≡ stream (redacted_frames [] h.frames) ++ ((h.rest_written ++ take part.start piece) ++ out) =
+          let all : stream (redacted_frames [] (h.frames ++ frame ∷ [])) ≡ stream (redacted_frames [] h.frames) ++ ((h.rest_written ++ take part.start chunk) ++ out) =
           ap (λ (fs : List Frame). stream fs) (redacted_push [] h.frames frame) ∙ stream_push (redacted_frames [] h.frames) g ∙ ap (λ (bs : List ℕ). stream (redacted_frames [] h.frames) ++ bs) bytes in
           let none : r.since ≡ [] = t.no_rest ends in
           let may : MayBegin (unfinished h.frames) frame.op = subst (λ (i : HeadInfo). MayBegin (unfinished h.frames) i.op) head_is split.may in
@@ -366,5 +366,5 @@ module _ (role : Role) (limits : Limits) (old new : Scan) (piece after : List �
             keeps = subst (KeepsAt next r.frames) (sym there) (p.inside ∙ ap not ends, subst (λ (fs : List Frame). HasNoClose fs → KeepsOpen next (unfinished fs)) (sym frames_are) (λ no_close. keeps_ended next h.frames frame may own no_close));
           }
 
-      pub part_step : IsRedacting role limits new next (came ++ share) (written ++ (take part.start piece ++ out))
+      pub part_step : IsRedacting role limits new next (came ++ share) (written ++ (take part.start chunk ++ out))
       part_step = elim (cases_Bool part.ends) [ inl ends ↦ at_frame_end ends (r.found.goes_on.ends ends) | inr goes ↦ in_the_frame goes (r.found.goes_on.within goes) ]

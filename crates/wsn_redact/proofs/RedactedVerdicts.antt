@@ -18,10 +18,9 @@ use Rattle.wsn_rules.specs.Summary.{counted}
 use Rattle.wsn_rules.proofs.OneVerdict.{one_verdict}
 use Rattle.wsn_rules.specs.Limits.{Limits}
 use Rattle.wsn_rules.specs.Accepted.{HasNoClose, EndsWithClose, IsAccepted}
-use Rattle.wsn_rules.specs.FrameLaw.{FrameLaw}
+use Rattle.wsn_rules.specs.Lawful.{FrameLaw, GroupLaw, LawAt, IsLawful}
 use Rattle.wsn_rules.specs.Group.{is_data, unfinished, first_op, payload_of}
 use Rattle.wsn_rules.specs.Heads.{info_of, heads_from}
-use Rattle.wsn_rules.specs.Lawful.{GroupLaw, LawAt, IsLawful}
 use Rattle.wsn_rules.proofs.Groups.{unfinished_control, unfinished_final, unfinished_more}
 use Rattle.wsn_rules.proofs.LawfulLists.{no_close_push, lawful_push, no_close_nil, lawful_nil}
 use Rattle.wsn_rules.proofs.MessageText.{text_of_push}

@@ -4,7 +4,7 @@ use Rattle.std.specs.Prelude.{◌⊎◌}
 use Rattle.std.specs.List.{AllByRecursion, concat, flat_map, slice_index}
 use Rattle.wsn_wire.specs.declared.endpoint.Role.{Role}
 use Rattle.wsn_wire.specs.declared.opcode.Op.{Op}
-use Rattle.wsn_wire.specs.declared.opcode.Op.TheVariants.{Continue, Text, Binary, Close, Ping, Pong}
+use Rattle.wsn_wire.specs.declared.opcode.Op.TheVariants.{Continue, Text, Close}
 use Rattle.wsn_wire.specs.Frame.{Frame, IsBytes, stream, wire_payload}
 use Rattle.wsn_text.specs.Utf8.{IsCharacter, BeginsText}
 use Rattle.wsn_text.proofs.Prefixes.{begins-nil}
@@ -15,14 +15,14 @@ use Rattle.wsn_rules.specs.Accepted.{HasNoClose, EndsWithClose}
 use Rattle.wsn_rules.specs.Group.{unfinished, payload_of}
 use Rattle.wsn_rules.specs.Heads.{BeginsWithHead}
 use Rattle.wsn_rules.specs.Lawful.{IsLawful}
-use Rattle.wsn_rules.specs.Verdict.{IsVerdict}
+use Rattle.wsn_rules.specs.Verdict.{IsVerdict, judged_bytes}
 use Rattle.wsn_rules.proofs.Groups.{group_of_lawful}
 use Rattle.wsn_rules.proofs.LawfulLists.{lawful_front}
 use Rattle.wsn_rules.proofs.OneHead.{one_begun}
 use Rattle.wsn_rules.proofs.OneVerdict.{all_of_verdict, one_verdict}
 use Rattle.wsn_rules.proofs.Prefixes.{append_cancel}
 use Rattle.wsn_redact.specs.StandIns.{single_stand_in, stand_in, stand_in_of, IsRedactedText, IsRedacted, stood, BeginsCharacter}
-use Rattle.wsn_redact.specs.Redaction.{zeros_for, is_text, is_of_text, IsRedactedPayload, IsRedactedBegun, IsRedactedRest, with_payload, redacted_frames, judged, unjudged, IsRedaction}
+use Rattle.wsn_redact.specs.Redaction.{zeros_for, is_text, is_of_text, IsRedactedPayload, IsRedactedBegun, IsRedactedRest, with_payload, redacted_frames, unjudged, IsRedaction}
 use Rattle.wsn_redact.specs.AlikeStreams.{AreOfOneKind, first_kinds, AreAlikeBeginnings, AreAlikeTexts, AreAlikeData, AreAlikePayloads, AreAlikeFrames, AreAlikeBegun, AreAlikeRests, AreAlikeStreams}
 use Rattle.wsn_redact.proofs.StoodTexts.{length-stood, stand_in_some, stand_in_length, is_stood, stood_is, redacted_begins, none_begun, character_stood, text_stood, one_end}
 use Rattle.wsn_redact.proofs.RedactedPayloads.{payload_is, payload_length, lawful_text, are_redacted, one_frames}
@@ -369,7 +369,7 @@ module _ (role : Role) (limits : Limits) where
     lawful : IsLawful role limits fs
     same : SameGroup (unfinished fs) (unfinished hs)
     streams : length (stream hs) ≡ length (stream fs)
-    is_rest : IsRedactedRest role limits fs (drop (length (stream fs)) (judged v bytes)) (drop (length (stream hs)) (judged v redacted))
+    is_rest : IsRedactedRest role limits fs (drop (length (stream fs)) (judged_bytes v bytes)) (drop (length (stream hs)) (judged_bytes v redacted))
     closes : EndsWithClose fs → EndsWithClose hs
     opens : HasNoClose fs → HasNoClose hs
 
@@ -379,7 +379,7 @@ module _ (role : Role) (limits : Limits) where
       let v = r.verdict in
       let at = r.is in
       let hs = redacted_frames [] fs in
-      let seen = drop (length (stream fs)) (judged v bytes) in
+      let seen = drop (length (stream fs)) (judged_bytes v bytes) in
       let lawful = (all_of_verdict role limits bytes fs v r.is_verdict).lawful in
       let are = are_redacted role limits [] fs lawful in
       let streams : length (stream hs) ≡ length (stream fs) = frames_length [] fs hs are in
@@ -412,7 +412,7 @@ module _ (role : Role) (limits : Limits) where
         same_size = sym (redaction_length role limits bytes redacted r) ∙ redaction_length role limits other redacted s;
         frames_alike = frames_back role limits [] [] [] fs gs x.lawful y.lawful none_same none_same same.0;
         rests_alike =
-            rests_back role limits fs gs hs x.lawful y.lawful x.same y.same x.streams y.streams (drop (length (stream fs)) (judged r.verdict bytes)) (drop (length (stream gs)) (judged r.verdict other)) (drop (length (stream hs)) (judged r.verdict redacted))
+            rests_back role limits fs gs hs x.lawful y.lawful x.same y.same x.streams y.streams (drop (length (stream fs)) (judged_bytes r.verdict bytes)) (drop (length (stream gs)) (judged_bytes r.verdict other)) (drop (length (stream hs)) (judged_bytes r.verdict redacted))
             x.closes y.closes x.opens y.opens x.is_rest y.is_rest;
       }
 

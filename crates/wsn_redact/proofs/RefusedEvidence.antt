@@ -27,7 +27,7 @@ use Rattle.wsn_redact.specs.declared.redactor.Redactor.{Redactor}
 use Rattle.wsn_redact.specs.Dues.{due_of}
 use Rattle.wsn_redact.specs.StandIns.{single_stand_in, IsRedacted, stood, due_after}
 use Rattle.wsn_redact.specs.Redaction.{is_text, is_of_text, IsRedactedData, IsRedactedPayload, redacted_payload, zeros_for}
-use Rattle.wsn_redact.specs.Keeping.{replaced, IsBadReason, KeepsIn, refused_part}
+use Rattle.wsn_redact.specs.RedactedParts.{replaced, IsBadReason, KeepsIn, refused_part}
 use Rattle.wsn_redact.proofs.StoodTexts.{stood-append, length-stood, stood_is}
 use Rattle.wsn_redact.proofs.RedactedPayloads.{HasText, payload_is}
 use Rattle.wsn_redact.proofs.KeptParts.{MayBegin, joined_split, payload_more}

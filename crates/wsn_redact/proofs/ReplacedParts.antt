@@ -9,7 +9,7 @@ use Rattle.wsn_wire.specs.declared.opcode.Op.TheVariants.{Continue, Text, Binary
 use Rattle.wsn_redact.specs.StandIns.{single_stand_in, stood, due_after, due_at}
 use Rattle.std.specs.List.{slice_index}
 use Rattle.wsn_redact.specs.Redaction.{zeros_for}
-use Rattle.wsn_redact.specs.Keeping.{replaced}
+use Rattle.wsn_redact.specs.RedactedParts.{replaced}
 use Rattle.wsn_redact.proofs.StoodTexts.{stood-append, length-stood}
 use Rattle.wsn_redact.proofs.RedactedPayloads.{length-zeros, zeros-append, length_of}
 

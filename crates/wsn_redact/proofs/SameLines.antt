@@ -14,8 +14,8 @@ use Rattle.wsn_show.specs.declared.ended_by.EndedBy.{EndedBy}
 use Rattle.wsn_show.specs.EndedBy.{marks_in, end_marks, reset_comment, SayReset, IsEndedBy}
 use Rattle.wsn_redact.specs.declared.extension_names.Within.TheVariants.{Name}
 use Rattle.wsn_redact.specs.ExtensionNames.{names_in}
-use Rattle.wsn_redact.specs.RedactedCaptures.{extensions_prefix, IsRedactedNothing, IsRedactedText, IsRedactedLine, AreRedactedLines, IsRedactedCapture}
-use Rattle.wsn_redact.specs.AlikeLines.{IsAlike, AreAlike, IsAlikeLine, AreAlikeLines}
+use Rattle.wsn_redact.specs.RedactedCaptures.{extensions_prefix, IsRedactedNothing, IsRedactedLineText, IsRedactedLine, AreRedactedLines, IsRedactedCapture}
+use Rattle.wsn_redact.specs.AlikeCaptures.{IsAlike, AreAlike, IsAlikeLine, AreAlikeLines}
 use Rattle.wsn_redact.proofs.OneRedactedCapture.{no_time, no_reset}
 use Rattle.wsn_redact.proofs.RedactedEntries.{HasBytes, AllBytes, first_bytes, other_bytes, line_text, line_facts, text_alike, entries_given, others_bytes, others_given, others_alike}
 
@@ -83,7 +83,7 @@ endpoints_say role other rest others text redacted is also =
     each client server Client = client
     each client server Server = server
 
-text_says : (text redacted : List ℕ) (entry other : Entry) → GivesEntry text entry → GivesEntry redacted other → IsRedactedText text entry other redacted → SaysAlike text redacted
+text_says : (text redacted : List ℕ) (entry other : Entry) → GivesEntry text entry → GivesEntry redacted other → IsRedactedLineText text entry other redacted → SaysAlike text redacted
 text_says text redacted Nothing Nothing gives also is = nothing_says text redacted is
 text_says text redacted (Bytes role bytes) (Bytes r others) gives also is = endpoints_say role r (32 ∷ gives.0) (32 ∷ also.0) text redacted (gives.1 ∙ front_is role gives.0) (also.1 ∙ front_is r also.0)
 text_says text redacted (Mark role) (Mark r) gives also is = same_says text redacted is.1

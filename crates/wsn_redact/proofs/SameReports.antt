@@ -19,7 +19,7 @@ use Rattle.wsn_rules.proofs.OneEntry.{same_entries}
 use Rattle.wsn_rules.proofs.OneVerdict.{one_verdict}
 use Rattle.wsn_redact.specs.Redaction.{redacted_frames, IsRedaction}
 use Rattle.wsn_redact.specs.RedactedCaptures.{IsRedactedCapture}
-use Rattle.wsn_redact.specs.AlikeLines.{AreAlike}
+use Rattle.wsn_redact.specs.AlikeCaptures.{AreAlike}
 use Rattle.wsn_redact.proofs.OneRedaction.{frames_length}
 use Rattle.wsn_redact.proofs.RedactedPayloads.{are_redacted}
 use Rattle.wsn_redact.proofs.RedactedVerdicts.{no_close_stays, close_stays, stays_accepted}

@@ -11,7 +11,8 @@ use lib.Lanes.{zip2, chunk, put_chunk, sel_l, mask_l, top}
 use borrow.Rule.Slice.PartMut.{put_mid, mid_of}
 use Rattle.wsn_text.proofs.Blocks.{block_below}
 use Rattle.wsn_redact.proofs.StoodTexts.{length-stood, stood-append, due_after-append, stood_front}
-use Rattle.wsn_redact.specs.StandIns.{is_from, single_stand_in, stand_in, stood, due_after}
+use Rattle.wsn_print.specs.EscapedText.{is_from}
+use Rattle.wsn_redact.specs.StandIns.{single_stand_in, stand_in, stood, due_after}
 
 -- ---- in place: a prefix is replaced, the other bytes are unchanged
 

@@ -9,7 +9,8 @@ use Rattle.wsn_text.specs.Utf8.{Range, ◌–◌, FitsRow, IsCharacter, IsText, 
 use Rattle.wsn_text.proofs.Rests.{any, text-nil, after_ascii}
 use Rattle.wsn_text.proofs.Prefixes.{text-append, text_begins}
 use Rattle.wsn_text.proofs.Boundaries.{text_after}
-use Rattle.wsn_redact.specs.StandIns.{is_from, single_stand_in, stand_in, stand_in_of, BeginsCharacter, IsRedactedText, IsRedactedToBad, IsRedacted, stood}
+use Rattle.wsn_print.specs.EscapedText.{is_from}
+use Rattle.wsn_redact.specs.StandIns.{single_stand_in, stand_in, stand_in_of, BeginsCharacter, IsRedactedText, IsRedactedToBad, IsRedacted, stood}
 use Rattle.wsn_redact.proofs.StoodTexts.{count_row, stand_in_some, stand_in_length, is_stood, stood_is, redacted_begins}
 use Rattle.wsn_redact.proofs.RedactedLawful.{two_low, single_low, row_e0, row_ed, row_e1, row_ee, row_f0, row_f1, row_f4, characters_fit, text_stays, beginning_stays}
 

@@ -3,7 +3,7 @@ use Rattle.std.proofs.Common.{◌≡◌, ℕ, ◌+◌, ◌≤◌, Bool, true, fa
 use Rattle.std.proofs.lemmas.List.{take_at, drop_at, length-take-le}
 use Rattle.wsn_wire.specs.declared.endpoint.Role.{Role}
 use Rattle.wsn_wire.specs.declared.opcode.Op.{Op}
-use Rattle.wsn_wire.specs.declared.opcode.Op.TheVariants.{Continue, Text, Binary, Close, Ping, Pong}
+use Rattle.wsn_wire.specs.declared.opcode.Op.TheVariants.{Continue, Text, Close}
 use Rattle.wsn_wire.specs.Frame.{Frame, IsBytes, stream, wire_payload}
 use Rattle.wsn_text.specs.Utf8.{BeginsText}
 use Rattle.wsn_rules.specs.declared.verdict.Verdict.{Verdict}
@@ -13,11 +13,11 @@ use Rattle.wsn_rules.specs.Accepted.{HasNoClose, EndsWithClose}
 use Rattle.wsn_rules.specs.Group.{unfinished, payload_of}
 use Rattle.wsn_rules.specs.Heads.{BeginsWithHead}
 use Rattle.wsn_rules.specs.Lawful.{IsLawful}
-use Rattle.wsn_rules.specs.Verdict.{IsVerdict}
+use Rattle.wsn_rules.specs.Verdict.{IsVerdict, judged_bytes}
 use Rattle.wsn_rules.proofs.Groups.{group_of_lawful}
 use Rattle.wsn_rules.proofs.OneVerdict.{all_of_verdict}
 use Rattle.wsn_redact.specs.StandIns.{single_stand_in, IsRedactedText, IsRedacted, stood}
-use Rattle.wsn_redact.specs.Redaction.{zeros_for, is_text, is_of_text, IsRedactedData, IsRedactedPayload, IsRedactedRest, AreRedacted, redacted_frames, judged, unjudged, IsRedaction}
+use Rattle.wsn_redact.specs.Redaction.{zeros_for, is_text, is_of_text, IsRedactedData, IsRedactedPayload, IsRedactedRest, AreRedacted, redacted_frames, unjudged, IsRedaction}
 use Rattle.wsn_redact.proofs.StoodTexts.{is_stood, stood_is, redacted_begins}
 use Rattle.wsn_redact.proofs.RedactedPayloads.{are_redacted, one_frames}
 use Rattle.wsn_redact.proofs.OneRedaction.{frames_length, rest_length}
@@ -111,10 +111,10 @@ module _ (role : Role) (limits : Limits) (fs gs : List Frame) (lawful : IsLawful
 module _ (role : Role) (limits : Limits) where
   -- The parts of a redaction, which the same verdict divides.
   pub record IsDivided (gs : List Frame) (rest later redacted : List ℕ) (v : Verdict) : Type 0 where
-    pub rest_is : drop (length (stream gs)) (judged v redacted) ≡ rest
+    pub rest_is : drop (length (stream gs)) (judged_bytes v redacted) ≡ rest
     pub later_is : unjudged v redacted ≡ later
 
-  pub divided : (bytes : List ℕ) (fs gs : List Frame) (rest redacted : List ℕ) (v : Verdict) → IsVerdict role limits bytes fs v → length (stream gs) ≡ length (stream fs) → length rest ≡ length (drop (length (stream fs)) (judged v bytes)) → redacted ≡ stream gs ++ (rest ++ zeros_for (unjudged v bytes))
+  pub divided : (bytes : List ℕ) (fs gs : List Frame) (rest redacted : List ℕ) (v : Verdict) → IsVerdict role limits bytes fs v → length (stream gs) ≡ length (stream fs) → length rest ≡ length (drop (length (stream fs)) (judged_bytes v bytes)) → redacted ≡ stream gs ++ (rest ++ zeros_for (unjudged v bytes))
       → IsDivided gs rest (zeros_for (unjudged v bytes)) redacted v
   divided bytes fs gs rest redacted (Accepted s) is streams size whole = record {
     rest_is = ap (λ (bs : List ℕ). drop (length (stream gs)) bs) whole ∙ drop_at (stream gs) (rest ++ []) (length (stream gs)) refl ∙ append-nil rest;
@@ -144,7 +144,7 @@ module _ (role : Role) (limits : Limits) where
       let v = r.verdict in
       let at = r.is in
       let gs = redacted_frames [] fs in
-      let seen = drop (length (stream fs)) (judged v bytes) in
+      let seen = drop (length (stream fs)) (judged_bytes v bytes) in
       let lawful = (all_of_verdict role limits bytes fs v r.is_verdict).lawful in
       let stays = frames_stay_lawful role limits fs lawful in
       let are = are_redacted role limits [] fs lawful in

@@ -6,6 +6,7 @@ use Rattle.wsn_rules.specs.Meaning.{MeantEvent}
 use Rattle.wsn_rules.specs.Meaning.MeantEvent.{Message, Control}
 use Rattle.wsn_rules.specs.ShownStream.{Item, Shown}
 use Rattle.wsn_rules.specs.ShownStream.Item.{Event, Head, Unfinished, UnfinishedHead, RefusedFrame, Unread, Tail}
+use Rattle.std.specs.List.{AllZip}
 
 -- Messages of one kind, or controls with one opcode, of as many bytes.
 abbrev pub AreAlikeEvents : MeantEvent → MeantEvent → Type 0
@@ -40,9 +41,7 @@ AreAlikeItems item other = ⊥
 
 -- In pairs, items that are alike.
 abbrev pub AreAlikeInTurn : List Item → List Item → Type 0
-AreAlikeInTurn [] [] = Unit {0}
-AreAlikeInTurn (item ∷ items) (other ∷ others) = AreAlikeItems item other × AreAlikeInTurn items others
-AreAlikeInTurn items others = ⊥
+AreAlikeInTurn = AllZip AreAlikeItems
 
 -- In pairs, items that are alike and are shown with the same number of bytes.
 abbrev pub AreShownAlike : List Shown → List Shown → Type 0

@@ -14,9 +14,9 @@ use Rattle.wsn_rules.specs.Limits.{Limits}
 use Rattle.wsn_rules.specs.Group.{unfinished, payload_of}
 use Rattle.wsn_rules.specs.Accepted.{HasNoClose, EndsWithClose}
 use Rattle.wsn_rules.specs.Heads.{BeginsWithHead}
-use Rattle.wsn_rules.specs.Verdict.{IsVerdict}
+use Rattle.wsn_rules.specs.Verdict.{IsVerdict, judged_bytes}
 use Rattle.wsn_redact.specs.StandIns.{BeginsCharacter}
-use Rattle.wsn_redact.specs.Redaction.{is_of_text, with_payload, judged}
+use Rattle.wsn_redact.specs.Redaction.{is_of_text, with_payload}
 
 -- ---- kinds of characters
 
@@ -38,13 +38,8 @@ single_kinds = ((0x61 – 0x7A) ∷ []) ∷ ((0x41 – 0x5A) ∷ []) ∷ ((0x30 
 -- with E1 and with EE are one kind: they differ in nothing else. Each row that isn't here has only one first byte.
 abbrev pub first_kinds : List (List Range)
 first_kinds =
-    ((0x61 – 0x7A) ∷ [])
-    ∷ ((0x41 – 0x5A) ∷ [])
-    ∷ ((0x30 – 0x39) ∷ [])
-    ∷ ((0xC2 – 0xDF) ∷ [])
-    ∷ ((0xE1 – 0xEC) ∷ (0xEE – 0xEF) ∷ [])
-    ∷ ((0xF1 – 0xF3) ∷ [])
-    ∷ []
+    single_kinds
+    ++ ((0xC2 – 0xDF) ∷ []) ∷ ((0xE1 – 0xEC) ∷ (0xEE – 0xEF) ∷ []) ∷ ((0xF1 – 0xF3) ∷ []) ∷ []
 
 -- Two characters, or the first bytes of two: as many bytes, and first bytes of one kind.
 abbrev pub AreAlikeCharacters : List ℕ → List ℕ → Type 0
@@ -157,5 +152,5 @@ pub record AreAlikeStreams (role : Role) (limits : Limits) (bytes other : List �
   pub frames_alike : AreAlikeFrames [] [] frames other_frames
   pub rests_alike :
       AreAlikeRests role limits frames other_frames
-      (drop (length (stream frames)) (judged verdict bytes))
-      (drop (length (stream other_frames)) (judged verdict other))
+      (drop (length (stream frames)) (judged_bytes verdict bytes))
+      (drop (length (stream other_frames)) (judged_bytes verdict other))

@@ -1,9 +1,9 @@
 -- What is left of a list of extensions in a redacted capture. RFC 6455 section 9.1; tokens and quoted strings: RFC 7230
 -- section 3.2.6.
-use Rattle.std.specs.Prelude.{ℕ, ◌==◌, ◌||◌, Bool, true, false, List, [], ◌∷◌, if◌then◌else◌}
+use Rattle.std.specs.Prelude.{ℕ, ◌==◌, ◌||◌, Bool, false, List, [], ◌∷◌, if◌then◌else◌}
 use Rattle.wsn_redact.specs.declared.extension_names.Within.{Within}
 use Rattle.wsn_redact.specs.declared.extension_names.Within.TheVariants.{Name, Value, Quoted, Escaped}
-use Rattle.wsn_redact.specs.StandIns.{is_from}
+use Rattle.wsn_print.specs.EscapedText.{is_from}
 
 -- [7230, 3.2.6] A byte of a token: a letter, a digit, or one of !#$%&'*+-.^_`|~.
 abbrev pub is_of_token : ℕ → Bool

@@ -8,11 +8,9 @@ pub mod AlikeItems
 -- the redaction of a capture
 pub mod ExtensionNames
 pub mod RedactedCaptures
-pub mod AlikeLines
 pub mod AlikeCaptures
-pub mod CaptureRedactors
 pub mod RedactingCaptures
 pub mod PassedRedactions
 -- what is kept between the parts of frames
 pub mod Dues
-pub mod Keeping
+pub mod RedactedParts

@@ -49,12 +49,12 @@ IsRedactedNothing text redacted =
 
 -- What becomes of the text of a line with this entry, without its CR, if the redacted line is to have the other entry:
 -- as many bytes of the same endpoint, in lower case; an end mark stays.
-abbrev pub IsRedactedText : List ℕ → Entry → Entry → List ℕ → Type 0
-IsRedactedText text Nothing Nothing redacted = IsRedactedNothing text redacted
-IsRedactedText text (Bytes role bytes) (Bytes other others) redacted =
+abbrev pub IsRedactedLineText : List ℕ → Entry → Entry → List ℕ → Type 0
+IsRedactedLineText text Nothing Nothing redacted = IsRedactedNothing text redacted
+IsRedactedLineText text (Bytes role bytes) (Bytes other others) redacted =
     (other ≡ role) × (length others ≡ length bytes) × (redacted ≡ bytes_prefix role ++ encode_lower others)
-IsRedactedText text (Mark role) (Mark other) redacted = (other ≡ role) × (redacted ≡ text)
-IsRedactedText text entry other redacted = ⊥
+IsRedactedLineText text (Mark role) (Mark other) redacted = (other ≡ role) × (redacted ≡ text)
+IsRedactedLineText text entry other redacted = ⊥
 
 -- The CR at the end of a line, if there is one.
 abbrev pub cr_of : List ℕ → List ℕ
@@ -63,7 +63,7 @@ cr_of line = drop (length (without_cr line)) line
 -- What becomes of a line; its CR stays.
 abbrev pub IsRedactedLine : List ℕ → Entry → Entry → List ℕ → Type 0
 IsRedactedLine line entry other redacted =
-    (text : List ℕ) × IsRedactedText (without_cr line) entry other text × (redacted ≡ text ++ cr_of line)
+    (text : List ℕ) × IsRedactedLineText (without_cr line) entry other text × (redacted ≡ text ++ cr_of line)
 
 -- What becomes of lines with these entries, one for each, if the redacted lines are to have the others.
 abbrev pub AreRedactedLines : List (List ℕ) → List Entry → List Entry → List (List ℕ) → Type 0

@@ -1,7 +1,7 @@
 -- What redacting an input answers, and what was written.
-use Rattle.std.specs.Prelude.{◌≡◌, ℕ, ◌+◌, ◌<◌, ◌≤◌, ⊤, false, true, Result, Ok, Err, List, ◌++◌, length, take}
-use Rattle.std.specs.Io.KnownBytes.{Appends, IsAtEnd}
-use Rattle.wsn_io.specs.Transfer.{Incoming, Outgoing, IsReceived, IsWritten, IsPartlyWritten}
+use Rattle.std.specs.Prelude.{◌≡◌, ℕ, ◌+◌, ◌<◌, ◌≤◌, ⊤, false, true, Result, Ok, Err, List, length, take}
+use Rattle.std.specs.Io.KnownBytes.{IsAtEnd}
+use Rattle.wsn_io.specs.Transfer.{Incoming, Outgoing, IsReceived, IsWritten, IsPartlyWritten, IsWrittenBut}
 use Rattle.wsn_io.specs.declared.stop.Stop.{Stop}
 use Rattle.wsn_io.specs.declared.stop.Stop.TheVariants as stop
 use Rattle.wsn_wire.specs.declared.endpoint.Role.{Role}
@@ -40,25 +40,14 @@ IsRedactAnswer role limits new came before after (Err stop.Read) =
     IsRedactionWritten role limits came before after × (length came ≤ limits.input) × (new.failed ≡ true)
 IsRedactAnswer role limits new came before after (Err stop.Memory) = ⊥
 
--- All but the last bytes, at most `chunk_size`, were redacted: their redaction was written, and perhaps more.
-pub record IsRedactedButChunk (role : Role) (limits : Limits) (came : List ℕ) (before after : Outgoing) : Type 0 where
-  pub done : List ℕ
-  pub last : List ℕ
-  pub whole : came ≡ done ++ last
-  pub short : length last ≤ chunk_size
-  pub redacted : List ℕ
-  pub is_redaction : IsRedaction role limits done redacted
-  pub more : List ℕ
-  pub written : Appends before.written after.written (redacted ++ more)
-
 -- These bytes came from the input, at most one past its limit; the answer is right for them, and this was written. After
--- a failed write nothing more was read.
+-- a failed write nothing more was read: the redaction of all but at most the last chunk was written.
 pub record IsRedactedInput (role : Role) (limits : Limits) (old new : Incoming) (before after : Outgoing)
     (result : Result Verdict Stop) : Type 0 where
   pub came : List ℕ
   pub received : IsReceived (limits.input + 1) old new came
   pub answer : IsRedactAnswer role limits new came before after result
-  pub at_once : result ≡ Err stop.Write → IsRedactedButChunk role limits came before after
+  pub at_once : result ≡ Err stop.Write → IsWrittenBut chunk_size (IsRedaction role limits) came before after
 
 -- ---- an input whose bytes are known
 

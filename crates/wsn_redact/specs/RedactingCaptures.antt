@@ -1,8 +1,8 @@
 -- What redacting a capture's text answers, and what was written.
-use Rattle.std.specs.Prelude.{◌≡◌, ◌≢◌, ℕ, ◌+◌, ◌*◌, ◌≤◌, ◌⊎◌, true, false, Result, Ok, Err, List, [], ◌∷◌, ◌++◌, length}
+use Rattle.std.specs.Prelude.{◌≡◌, ◌≢◌, ℕ, ◌+◌, ◌*◌, ◌⊎◌, true, false, Result, Ok, Err, List, [], ◌∷◌, ◌++◌, length}
 use Rattle.std.specs.List.{AllByRecursion}
-use Rattle.std.specs.Io.KnownBytes.{Appends, IsAtEnd}
-use Rattle.wsn_io.specs.Transfer.{Incoming, Outgoing, IsReceived, IsWritten, IsPartlyWritten}
+use Rattle.std.specs.Io.KnownBytes.{IsAtEnd}
+use Rattle.wsn_io.specs.Transfer.{Incoming, Outgoing, IsReceived, IsWritten, IsPartlyWritten, IsWrittenBut}
 use Rattle.wsn_rules.specs.Limits.{Limits}
 use Rattle.wsn_rules.specs.TextLines.{IsLine, ended, AreLines}
 use Rattle.wsn_scan.specs.Judging.{chunk_size}
@@ -63,23 +63,9 @@ IsWrittenBefore limits came number before after = (lines : List (List ℕ)) × (
     × IsWritten before after text
 
 -- The redaction of the lines that came whole.
-abbrev pub IsWrittenOfWhole : Limits → List ℕ → Outgoing → Outgoing → Type 0
-IsWrittenOfWhole limits came before after = (lines : List (List ℕ)) × (begun text : List ℕ)
-    × BeginWithLines came lines begun × IsLine begun × IsTextOfLines limits lines text × IsWritten before after text
-
--- The redaction of the lines that came whole, and perhaps more.
-abbrev pub IsWrittenAtLeast : Limits → List ℕ → Outgoing → Outgoing → Type 0
-IsWrittenAtLeast limits came before after = (lines : List (List ℕ)) × (begun text more : List ℕ)
+abbrev pub IsTextOfWhole : Limits → List ℕ → List ℕ → Type 0
+IsTextOfWhole limits came text = (lines : List (List ℕ)) × (begun : List ℕ)
     × BeginWithLines came lines begun × IsLine begun × IsTextOfLines limits lines text
-    × Appends before.written after.written (text ++ more)
-
--- The same of all but the last bytes, at most this many.
-pub record IsWrittenBut (most : ℕ) (limits : Limits) (came : List ℕ) (before after : Outgoing) : Type 0 where
-  pub done : List ℕ
-  pub last : List ℕ
-  pub whole : came ≡ done ++ last
-  pub short : length last ≤ most
-  pub written : IsWrittenAtLeast limits done before after
 
 -- ---- the answer
 
@@ -93,7 +79,8 @@ IsCaptureRedactAnswer limits new came before after (Err (Capture (capture.Line n
     IsFaultReported limits new came number fault × (new.failed ≡ false)
     × IsWrittenBefore limits came number before after
 IsCaptureRedactAnswer limits new came before after (Err (Capture capture.Read)) =
-    (new.failed ≡ true) × IsUnfaulted limits came × IsWrittenOfWhole limits came before after
+    (new.failed ≡ true) × IsUnfaulted limits came
+    × ((text : List ℕ) × IsTextOfWhole limits came text × IsWritten before after text)
 IsCaptureRedactAnswer limits new came before after (Err Write) =
     (new.failed ≡ false) × ((text : List ℕ) × IsTextOf limits came text × IsPartlyWritten before after text)
 
@@ -104,4 +91,4 @@ pub record IsRedactedCaptureInput (limits : Limits) (old new : Incoming) (before
   pub came : List ℕ
   pub received : IsReceived (1000001 * begun_most + 4095) old new came
   pub answer : IsCaptureRedactAnswer limits new came before after result
-  pub at_once : result ≡ Err Write → IsWrittenBut chunk_size limits came before after
+  pub at_once : result ≡ Err Write → IsWrittenBut chunk_size (IsTextOfWhole limits) came before after

@@ -12,7 +12,7 @@ use Rattle.wsn_rules.specs.Limits.{Limits}
 use Rattle.wsn_rules.specs.Group.{unfinished, first_op, payload_of}
 use Rattle.wsn_rules.specs.Accepted.{HasNoClose, EndsWithClose}
 use Rattle.wsn_rules.specs.Heads.{BeginsWithHead}
-use Rattle.wsn_rules.specs.Verdict.{IsVerdict}
+use Rattle.wsn_rules.specs.Verdict.{IsVerdict, judged_bytes}
 use Rattle.wsn_redact.specs.StandIns.{IsRedacted, stood, due_after}
 
 -- As many zeros as bytes.
@@ -88,11 +88,6 @@ IsRedactedRest role limits fs rest redacted =
 
 -- ---- a stream
 
--- The bytes of which a verdict takes account: up to the offending byte, with it, or all.
-abbrev pub judged : Verdict → List ℕ → List ℕ
-judged (Refused refusal) bytes = take (refusal.place + 1) bytes
-judged verdict bytes = bytes
-
 -- The bytes after the offending byte; none without a refusal.
 abbrev pub unjudged : Verdict → List ℕ → List ℕ
 unjudged (Refused refusal) bytes = drop (refusal.place + 1) bytes
@@ -105,7 +100,7 @@ pub record IsRedactionAt (role : Role) (limits : Limits) (bytes : List ℕ) (fs 
   pub frames : List Frame
   pub are_frames : AreRedacted [] fs frames
   pub rest : List ℕ
-  pub is_rest : IsRedactedRest role limits fs (drop (length (stream fs)) (judged verdict bytes)) rest
+  pub is_rest : IsRedactedRest role limits fs (drop (length (stream fs)) (judged_bytes verdict bytes)) rest
   pub whole : redacted ≡ stream frames ++ (rest ++ zeros_for (unjudged verdict bytes))
 
 -- The redaction of a stream.

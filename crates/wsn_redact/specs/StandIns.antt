@@ -1,13 +1,10 @@
 -- The stand-ins of characters: what is written in place of a text, byte for byte. RFC 6455 sections 5.6 and 8.1.
-use Rattle.std.specs.Prelude.{◌≡◌, ℕ, ◌⊎◌, Bool, ◌&&◌, nat_le, ◌==◌, List, [], ◌∷◌, ◌++◌, length, take, drop, slice_index, if◌then◌else◌}
+use Rattle.std.specs.Prelude.{◌≡◌, ℕ, ◌⊎◌, ◌==◌, List, [], ◌∷◌, ◌++◌, length, take, drop, slice_index, if◌then◌else◌}
 use Rattle.std.specs.List.{AllByRecursion, concat, flat_map}
 use Rattle.wsn_text.specs.Utf8.{IsCharacter, BeginsText}
+use Rattle.wsn_print.specs.EscapedText.{is_from}
 
 -- ---- one character
-
--- The byte is in the range.
-abbrev pub is_from : ℕ → ℕ → ℕ → Bool
-is_from low high b = nat_le low b && nat_le b high
 
 -- A byte that isn't part of a longer character: `x`, `X` or `0` for a letter or a digit, and any other byte itself.
 abbrev pub single_stand_in : ℕ → ℕ

@@ -6,7 +6,7 @@ ghost use Rattle.wsn_wire.specs.declared.endpoint.Role.TheVariants.{Server};
 ghost use Rattle.wsn_rules.specs.Entries.Entry.{Bytes};
 ghost use Rattle.wsn_redact.specs.declared.extension_names.Within.TheVariants.{Name};
 ghost use Rattle.wsn_redact.specs.ExtensionNames.{is_of_token, names_in};
-ghost use Rattle.wsn_redact.specs.RedactedCaptures.{cr_of, IsRedactedText};
+ghost use Rattle.wsn_redact.specs.RedactedCaptures.{cr_of, IsRedactedLineText};
 
 /// Lists of extensions: their names are left.
 pub fn of_extensions()
@@ -29,7 +29,7 @@ pub fn of_tokens()
 
 /// Lines with bytes: their digits are in lower case.
 pub fn of_bytes()
-    ensures hello { IsRedactedText (codes "S 81024A6F") (Bytes Server (0x81 ∷ 0x02 ∷ 0x4a ∷ 0x6f ∷ []))
+    ensures hello { IsRedactedLineText (codes "S 81024A6F") (Bytes Server (0x81 ∷ 0x02 ∷ 0x4a ∷ 0x6f ∷ []))
         (Bytes Server (0x81 ∷ 0x02 ∷ 0x58 ∷ 0x78 ∷ [])) (codes "S 81025878") }
     ensures cr { cr_of (codes "S 8100\r") ≡ codes "\r" }
     ensures no_cr { cr_of (codes "S 8100") ≡ [] }

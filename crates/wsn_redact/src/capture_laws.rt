@@ -10,7 +10,7 @@ ghost use Rattle.wsn_capture.specs.LineFaults.{AreAcceptedLines};
 ghost use Rattle.wsn_show.specs.declared.ended_by.EndedBy.{EndedBy};
 ghost use Rattle.wsn_show.specs.EndedBy.{IsEndedBy};
 ghost use Rattle.wsn_redact.specs.RedactedCaptures.{IsRedactedNothing, IsRedactedCapture};
-ghost use Rattle.wsn_redact.specs.AlikeLines.{AreAlikeLines};
+ghost use Rattle.wsn_redact.specs.AlikeCaptures.{AreAlikeLines};
 ghost use Rattle.wsn_redact.specs.RedactingCaptures.{IsWholeText};
 
 /// What becomes of an empty line or of a comment is determined.

@@ -3,9 +3,9 @@ ghost use Rattle.wsn_io.specs.Transfer.{Outgoing};
 ghost use Rattle.wsn_rules.specs.Limits.{Limits};
 ghost use Rattle.wsn_rules.specs.Entries.{Entry};
 ghost use Rattle.wsn_capture.specs.CaptureLines.{count_of};
-ghost use Rattle.wsn_redact.specs.CaptureRedactors.{HasRedactedLines, IsRedactingLines};
+ghost use Rattle.wsn_capture.specs.LineSplitters.{bytes_ahead};
+ghost use Rattle.wsn_redact.specs.PassedRedactions.{HasRedactedLines, IsRedactingLines, HasWritten, IsWritingLines, PutsLine, StopsAtLine, StopsWithin, EndsRedacting};
 ghost use Rattle.wsn_redact.specs.RedactingCaptures.{IsRedactedCaptureInput};
-ghost use Rattle.wsn_redact.specs.PassedRedactions.{HasWritten, IsWritingLines, PutsLine, StopsAtLine, StopsWithin, EndsRedacting, bytes_ahead};
 
 use crate::capture_redactor::CaptureRedactor;
 use crate::redacted_line::LINE_ROOM;
@@ -44,18 +44,18 @@ pub fn redact_capture<R: Read, W: Write>(
     let mut lines = Lines::new();
     let mut bytes = [0; BYTES_MAX];
     let mut into = [0; LINE_ROOM];
-    let mut piece = [0; CHUNK];
+    let mut chunk = [0; CHUNK];
     loop {
-        let Some(count) = input.read(&mut piece) else {
+        let Some(count) = input.read(&mut chunk) else {
             return Err(RedactStop::Capture(CaptureStop::Read));
         };
         if count == 0 {
             return end(&mut redactor, lines.line(), &mut bytes, &mut into, output);
         }
-        redact_piece(
+        redact_lines(
             &mut redactor,
             &mut lines,
-            &piece[..count],
+            &chunk[..count],
             &mut bytes,
             &mut into,
             output,
@@ -114,12 +114,12 @@ fn end_line(into: &mut [u8; LINE_ROOM], count: usize, lf: bool) -> usize
     count + 1
 }
 
-/// Redacts the lines that a piece of the text ends. The error `Line` is returned at the first byte at which a line isn't
+/// Redacts the lines that a chunk of the text ends. The error `Line` is returned at the first byte at which a line isn't
 /// accepted, whatever follows. The contents of `bytes` and `into` are then unspecified.
-fn redact_piece<W: Write>(
+fn redact_lines<W: Write>(
     redactor: &mut CaptureRedactor,
     lines: &mut Lines,
-    piece: &[u8],
+    chunk: &[u8],
     bytes: &mut [u8; BYTES_MAX],
     into: &mut [u8; LINE_ROOM],
     output: &mut Output<W>,
@@ -130,19 +130,19 @@ fn redact_piece<W: Write>(
     requires writable { output.old.failed ≡ false }
     ensures written { OnOk result ((limits : Limits) (first : Outgoing) (came : List ℕ) →
         HasWritten limits first redactor.old lines.old output.old came →
-        HasWritten limits first redactor.new lines.new output.new (came ++ piece.now)) }
+        HasWritten limits first redactor.new lines.new output.new (came ++ chunk.now)) }
     ensures stop { IfErr result (λ stop. (limits : Limits) (first : Outgoing) (came : List ℕ) →
         HasWritten limits first redactor.old lines.old output.old came →
-        StopsWithin limits first output.new came piece.now stop) }
+        StopsWithin limits first output.new came chunk.now stop) }
     ensures few { OnOk result (count_of redactor.new.lines ≤ 1000000) }
     ensures short { OnOk result (length lines.new < BEGUN_MAX) }
     ensures writable { OnOk result (output.new.failed ≡ false) }
-    ensures left { OnOk result (bytes_ahead redactor.new lines.new + length piece.now
-        ≤ bytes_ahead redactor.old lines.old) }
+    ensures left { OnOk result (bytes_ahead redactor.new.lines lines.new + length chunk.now
+        ≤ bytes_ahead redactor.old.lines lines.old) }
 {
     let mut taken = 0;
-    while taken < piece.len() {
-        let (count, ended) = lines.take(&piece[taken..]);
+    while taken < chunk.len() {
+        let (count, ended) = lines.take(&chunk[taken..]);
         taken += count;
         if ended {
             put_redacted(redactor, lines.line(), true, bytes, into, output)?;

@@ -29,7 +29,7 @@ impl CaptureRedactor {
     ghost use Rattle.wsn_capture.specs.CaptureLines.{count_of};
     ghost use Rattle.wsn_capture.specs.LineFaults.{IsFaultAfter};
     ghost use Rattle.wsn_capture.specs.LineEntries.{FitsInLine, held_entry};
-    ghost use Rattle.wsn_redact.specs.CaptureRedactors.{AreStreams, HasRoomFor, HasRoomForEntry, HasRedactedLines, IsRedactingLines, RedactsLine};
+    ghost use Rattle.wsn_redact.specs.PassedRedactions.{AreStreams, HasRoomFor, HasRoomForEntry, HasRedactedLines, IsRedactingLines, RedactsLine};
 
     /// A redactor that has redacted no line. The limits apply to each endpoint's stream separately.
     pub fn new(limits: Limits) -> CaptureRedactor

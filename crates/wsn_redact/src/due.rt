@@ -1,5 +1,6 @@
 ghost use Rattle.std.specs.Prelude.{◌≡◌, ℕ, ◌+◌, ◌<◌, ◌≤◌, [], length, map, slice_index, drop, IsTrue, IsAscii, if◌then◌else◌};
-ghost use Rattle.wsn_redact.specs.StandIns.{is_from, single_stand_in, due_at, stood, due_after};
+ghost use Rattle.wsn_print.specs.EscapedText.{is_from};
+ghost use Rattle.wsn_redact.specs.StandIns.{single_stand_in, due_at, stood, due_after};
 ghost use Rattle.wsn_redact.specs.Dues.{due_of};
 
 use std::simd::prelude::*;

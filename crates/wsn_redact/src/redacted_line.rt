@@ -5,7 +5,7 @@ ghost use Rattle.wsn_capture.specs.LineEntries.{FitsInLine, held_entry};
 ghost use Rattle.wsn_show.specs.EndedBy.{reset_comment};
 ghost use Rattle.wsn_redact.specs.declared.extension_names.Within.TheVariants.{Name};
 ghost use Rattle.wsn_redact.specs.ExtensionNames.{names_in};
-ghost use Rattle.wsn_redact.specs.RedactedCaptures.{extensions_prefix, IsReset, Stays, IsRedactedNothing, IsRedactedText, IsRedactedLine};
+ghost use Rattle.wsn_redact.specs.RedactedCaptures.{extensions_prefix, IsReset, Stays, IsRedactedNothing, IsRedactedLineText, IsRedactedLine};
 
 use crate::extension_names::put_names;
 use wsn_capture::{LineEntry, strip_cr};
@@ -44,7 +44,7 @@ fn redact_text(text: &[u8], entry: LineEntry, bytes: &[u8], into: &mut [u8; LINE
     requires room { length bytes.now ≡ 4096 }
     ensures within { result ≤ 8194 }
     ensures redacted { (held : List ℕ) → length held ≡ 4096 →
-        IsRedactedText text.now (held_entry entry held) (held_entry entry bytes.now) (take result into.new) }
+        IsRedactedLineText text.now (held_entry entry held) (held_entry entry bytes.now) (take result into.new) }
 {
     match entry {
         LineEntry::Nothing => redact_nothing(text, into),

@@ -2,7 +2,7 @@ ghost use Rattle.std.specs.Prelude.{◌≡◌, ℕ, ◌+◌, ◌≤◌, ◌<◌,
 ghost use Rattle.wsn_wire.specs.Frame.{IsBytes};
 ghost use Rattle.wsn_scan.specs.FollowedScans.{IsCall};
 ghost use Rattle.wsn_scan.specs.Scans.{room_of, refusal_in};
-ghost use Rattle.wsn_redact.specs.Keeping.{IsRunningFor, RedactsOn, Rewrites};
+ghost use Rattle.wsn_redact.specs.RedactedParts.{IsRunningFor, RedactsOn, Rewrites};
 ghost use Rattle.wsn_redact.specs.Redaction.{zeros_for};
 ghost use Rattle.wsn_redact.specs.Redacting.{IsRedactedInput, IsRedactedWhole};
 
@@ -36,41 +36,41 @@ pub fn redact<R: Read, W: Write>(
     let mut chunks = ChunkReader::new(limits);
     let mut buffer = [0; CHUNK];
     while let Some(len) = chunks.next(input, &mut buffer)? {
-        let piece = &mut buffer[..len];
-        redact_chunk(&mut scan, &mut redactor, piece);
-        put_line(output, piece)?;
+        let chunk = &mut buffer[..len];
+        redact_chunk(&mut scan, &mut redactor, chunk);
+        put_line(output, chunk)?;
     }
     Ok(scan.finish())
 }
 
-/// Redacts a piece of a stream in place.
-pub(crate) fn redact_chunk(scan: &mut Scan, redactor: &mut Redactor, piece: &mut [u8])
-    requires { IsRunningFor (length piece.old) scan.old redactor.old }
-    ensures { RedactsOn scan.old redactor.old scan.new redactor.new piece.old piece.new (length piece.old) }
+/// Redacts a chunk of a stream in place.
+pub(crate) fn redact_chunk(scan: &mut Scan, redactor: &mut Redactor, chunk: &mut [u8])
+    requires { IsRunningFor (length chunk.old) scan.old redactor.old }
+    ensures { RedactsOn scan.old redactor.old scan.new redactor.new chunk.old chunk.new (length chunk.old) }
 {
     let mut at = 0;
-    while at < piece.len() {
-        at += redact_part(scan, redactor, &mut piece[at..]);
+    while at < chunk.len() {
+        at += redact_part(scan, redactor, &mut chunk[at..]);
     }
 }
 
-/// Redacts what the scan finds at the start of a piece, in place, or all of it after a refusal. Returns the number of
+/// Redacts what the scan finds at the start of a chunk, in place, or all of it after a refusal. Returns the number of
 /// bytes.
-fn redact_part(scan: &mut Scan, redactor: &mut Redactor, piece: &mut [u8]) -> usize
-    requires begun { IsRunningFor (length piece.old) scan.old redactor.old }
-    requires some { 0 < length piece.old }
-    ensures within { result ≤ length piece.old }
-    ensures kept { drop result piece.new ≡ drop result piece.old }
+fn redact_part(scan: &mut Scan, redactor: &mut Redactor, chunk: &mut [u8]) -> usize
+    requires begun { IsRunningFor (length chunk.old) scan.old redactor.old }
+    requires some { 0 < length chunk.old }
+    ensures within { result ≤ length chunk.old }
+    ensures kept { drop result chunk.new ≡ drop result chunk.old }
     ensures progress { 0 < result }
-    ensures redacts { RedactsOn scan.old redactor.old scan.new redactor.new piece.old piece.new result }
+    ensures redacts { RedactsOn scan.old redactor.old scan.new redactor.new chunk.old chunk.new result }
 {
     if has_refused(scan) {
-        clear(piece);
-        return piece.len();
+        clear(chunk);
+        return chunk.len();
     }
     let mut part = Part::new();
-    let (count, found) = call(scan, piece, &mut part);
-    rewrite(redactor, scan.refusal(), found, &part, &mut piece[..count]);
+    let (count, found) = call(scan, chunk, &mut part);
+    rewrite(redactor, scan.refusal(), found, &part, &mut chunk[..count]);
     count
 }
 
@@ -115,13 +115,13 @@ fn has_refused(scan: &Scan) -> bool
 
 /// Calls the scan once, and returns how many bytes it consumed and what they are.
 #[inline(always)]
-fn call(scan: &mut Scan, piece: &mut [u8], part: &mut Part) -> (usize, Taken)
-    requires { length piece.old ≤ room_of scan.old }
-    ensures in_bytes { IsBytes piece.old }
-    ensures call { IsBytes piece.old → IsCall scan.old scan.new piece.old piece.new result.0 result.1 part.new }
-    ensures kept { drop result.0 piece.new ≡ drop result.0 piece.old }
+fn call(scan: &mut Scan, chunk: &mut [u8], part: &mut Part) -> (usize, Taken)
+    requires { length chunk.old ≤ room_of scan.old }
+    ensures in_bytes { IsBytes chunk.old }
+    ensures call { IsBytes chunk.old → IsCall scan.old scan.new chunk.old chunk.new result.0 result.1 part.new }
+    ensures kept { drop result.0 chunk.new ≡ drop result.0 chunk.old }
     ensures start { result.1 ≡ Taken.Part → (part.new.start ≤ result.0)
-        × (take part.new.start piece.new ≡ take part.new.start piece.old) }
+        × (take part.new.start chunk.new ≡ take part.new.start chunk.old) }
 {
-    scan.next(piece, part)
+    scan.next(chunk, part)
 }

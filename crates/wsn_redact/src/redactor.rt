@@ -30,7 +30,7 @@ impl Redactor {
     ghost use Rattle.wsn_frame.specs.Payloads.{unmasked_by};
     ghost use Rattle.wsn_text.specs.Utf8.{BeginsText};
     ghost use Rattle.wsn_text.specs.Validated.{HasValidated};
-    ghost use Rattle.wsn_redact.specs.Keeping.{IsBegunWith, Replaces, IsBadReason, TakesPart, RefusesPart, KeepsAt};
+    ghost use Rattle.wsn_redact.specs.RedactedParts.{IsBegunWith, Replaces, IsBadReason, TakesPart, RefusesPart, KeepsAt};
     ghost use Rattle.wsn_scan.specs.Positions.{BetweenFrames};
 
     /// No part has come.

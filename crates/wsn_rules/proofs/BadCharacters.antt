@@ -26,8 +26,7 @@ use Rattle.wsn_rules.specs.Evidence.Evidence.{ByFirst, BySecond, ByLength, ByPay
 use Rattle.wsn_rules.specs.Group.{unfinished, payload_of}
 use Rattle.wsn_rules.specs.Heads.{BeginsWithHead}
 use Rattle.wsn_rules.specs.Verdict.{IsRefused}
-use Rattle.wsn_rules.specs.PlacedByte.{PlacedByte, placed}
-use Rattle.wsn_rules.specs.BadCharacter.{BadCharacter, GoesWrongWith, IsPayloadByte, IsEarlierEnd, payload_offset, last_of, open_payload, message_payload, first_offset, bytes_of, earlier_end, bad_character, character_of}
+use Rattle.wsn_rules.specs.BadCharacter.{PlacedByte, placed, BadCharacter, GoesWrongWith, IsPayloadByte, IsEarlierEnd, payload_offset, last_of, open_payload, message_payload, first_offset, bytes_of, earlier_end, bad_character, character_of}
 use Rattle.wsn_rules.specs.ShownStream.{Item, Shown, shown_after, interrupted, IsShownEvidence, IsShownRefusal}
 use Rattle.wsn_rules.specs.ShownStream.Item.{RefusedFrame}
 use Rattle.wsn_rules.proofs.Groups.{IsGroup, group_of_lawful}

@@ -5,7 +5,7 @@ use Rattle.wsn_wire.specs.declared.endpoint.Role.{Role}
 use Rattle.wsn_wire.specs.declared.refusal.Reason.{Reason}
 use Rattle.wsn_wire.specs.Frame.{Frame, IsBytes, head_bytes, stream, wire_payload}
 use Rattle.wsn_wire.specs.Layout.{HasLayout, len_form_at, length_count, encoded_length, key_count}
-use Rattle.wsn_wire.specs.HeadsWithoutEvidence.{HeadHasNoEvidence}
+use Rattle.wsn_wire.specs.EvidenceInHeads.{HeadHasNoEvidence}
 use Rattle.wsn_wire.proofs.FrameLemmas.{IsBytes-append, IsBytes-left, IsBytes-right, fronts_agree, frame_at}
 use Rattle.wsn_wire.proofs.HeadLemmas.{frame_of_layout}
 use Rattle.wsn_rules.specs.declared.detail.Detail.{Detail}

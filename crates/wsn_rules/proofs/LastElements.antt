@@ -2,8 +2,7 @@
 use Rattle.std.proofs.Common.{◌≡◌, ℕ, ◌+◌, ◌-◌, ◌≤◌, List, [], ◌∷◌, ◌++◌, length, drop, sym, ap, ◌∙◌, length-append, length-drop, inl, inr, arith}
 use Rattle.std.proofs.lemmas.List.{drop-append-le, drop-drop, drop_all, drop-map, length-map}
 use Rattle.std.proofs.Math.Seq.{drop-append-add}
-use Rattle.wsn_rules.specs.BadCharacter.{last_of, bytes_of}
-use Rattle.wsn_rules.specs.PlacedByte.{PlacedByte}
+use Rattle.wsn_rules.specs.BadCharacter.{last_of, bytes_of, PlacedByte}
 use Rattle.wsn_text.proofs.Numbers.{less_or_not}
 
 module _ {A : Type 0} where

@@ -6,8 +6,7 @@ use Rattle.wsn_wire.specs.declared.opcode.Op.TheVariants.{Continue, Text, Binary
 use Rattle.wsn_wire.specs.Frame.{Frame, stream}
 use Rattle.wsn_rules.specs.Limits.{Limits}
 use Rattle.wsn_rules.specs.Group.{unfinished}
-use Rattle.wsn_rules.specs.Lawful.{LawAt, IsLawful}
-use Rattle.wsn_rules.specs.LawfulAfter.{AreLawfulAfter}
+use Rattle.wsn_rules.specs.Lawful.{LawAt, IsLawful, AreLawfulAfter}
 use Rattle.wsn_rules.specs.Accepted.{HasNoClose, EndsWithClose, IsAccepted}
 use Rattle.wsn_rules.proofs.Prefixes.{nil-push, nil-cons, split_push, push-append, tail_same, head_same}
 

@@ -8,7 +8,7 @@ use Rattle.wsn_wire.specs.declared.refusal.Reason.{Reason}
 use Rattle.wsn_wire.specs.declared.refusal.Reason.TheVariants.{ReservedBits, ReservedOpcode, ControlNotFinal, NothingToContinue, MessageOpen, LengthTopBit, LengthNotMinimal, MessageTooBig, CloseCode, CloseReason, TextBad, TextCut, TooManyFrames}
 use Rattle.wsn_wire.specs.Frame.{Frame, opcode, is_control, second_byte, len_form_of, length_bytes, key_bytes, wire_payload, masked}
 use Rattle.wsn_wire.specs.Layout.{HasLayout, opcode_field, mask_bit, encoded_length}
-use Rattle.wsn_wire.specs.HeadsWithoutEvidence.{HeadHasNoEvidence}
+use Rattle.wsn_wire.specs.EvidenceInHeads.{HeadHasNoEvidence}
 use Rattle.wsn_wire.proofs.MaskLemmas.{masked-masked}
 use Rattle.wsn_wire.proofs.FrameLemmas.{layout_of_frame, first_byte_fields, second_byte_fields, length_bytes_fields, spells-len_form_of}
 use Rattle.wsn_wire.proofs.HeadLemmas.{IsSpelledBy, frame_shows_nothing, close_from_opcode}
@@ -16,8 +16,7 @@ use Rattle.wsn_text.specs.Utf8.{IsText, BeginsText}
 use Rattle.wsn_text.specs.CloseBody.{IsCloseBody}
 use Rattle.wsn_rules.specs.Limits.{Limits}
 use Rattle.wsn_rules.specs.Group.{unfinished, payload_of}
-use Rattle.wsn_rules.specs.FrameLaw.{FrameLaw}
-use Rattle.wsn_rules.specs.Lawful.{LawAt}
+use Rattle.wsn_rules.specs.Lawful.{FrameLaw, LawAt}
 use Rattle.wsn_rules.specs.Evidence.{EvidentByFirst, EvidentByLength, EvidentByPayload, IsOfText}
 use Rattle.wsn_rules.proofs.RowsOfLayout.{RowAt, payload_in, reported_by, length-unmasked}
 use Rattle.wsn_rules.proofs.RowsOfLayout.RowAt.{FirstShows, SecondShows, LengthShows, PayloadShows}

@@ -43,7 +43,6 @@ pub mod EveryTime
 pub mod EveryCapture
 pub mod ShownPlaces
 pub mod ShownHeads
-pub mod ShownBytes
 pub mod PlacedExamples
 pub mod OpenPayloads
 pub mod BadCharacters

@@ -10,8 +10,7 @@ use Rattle.wsn_rules.specs.declared.head_info.HeadInfo.{HeadInfo}
 use Rattle.wsn_rules.specs.Group.{is_data, with_frame, unfinished, payload_of}
 use Rattle.wsn_rules.specs.Heads.{info_of}
 use Rattle.wsn_rules.specs.Summary.{ends_message}
-use Rattle.wsn_rules.specs.PlacedByte.{PlacedByte, placed}
-use Rattle.wsn_rules.specs.BadCharacter.{IsPayloadByte, payload_offset, placed_payloads, last_of, open_payload, message_payload, first_offset, bytes_of}
+use Rattle.wsn_rules.specs.BadCharacter.{PlacedByte, placed, IsPayloadByte, payload_offset, placed_payloads, last_of, open_payload, message_payload, first_offset, bytes_of}
 use Rattle.wsn_rules.proofs.AllOfList.{all_push, all_front}
 use Rattle.wsn_rules.proofs.Prefixes.{head_same, tail_same, two_fronts}
 use Rattle.wsn_rules.proofs.Groups.{unfinished_control, unfinished_final, unfinished_more}

@@ -5,8 +5,8 @@ use Rattle.std.proofs.lemmas.List.{map-append}
 use Rattle.std.proofs.lemmas.List.Concat.{flat_map-append}
 use Rattle.wsn_wire.specs.Frame.{Frame, frame_bytes}
 use Rattle.wsn_rules.specs.Meaning.{Message, Control}
-use Rattle.wsn_rules.specs.ShownBytes.{AreDealt}
-use Rattle.wsn_rules.specs.PlacedByte.{PlacedByte, placed}
+use Rattle.wsn_rules.specs.ShownPlaces.{AreDealt}
+use Rattle.wsn_rules.specs.BadCharacter.{PlacedByte, placed}
 use Rattle.wsn_rules.specs.ShownPlaces.{end_or, end_of, PlacedFrame, frames_in, placed_frames, IsPlaced, ArePlaced, is_open_message, IsShownWithNext, IsEnd, AreInOrder}
 use Rattle.wsn_rules.specs.ShownStream.{Item, Shown}
 use Rattle.wsn_rules.specs.ShownStream.Item.{Event, Head, Unfinished, UnfinishedHead, RefusedFrame, Unread, Tail}

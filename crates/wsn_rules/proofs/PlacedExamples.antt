@@ -1,7 +1,7 @@
 -- Where items are, for bytes that are written out.
 use Rattle.std.proofs.Common.{◌≡◌, ℕ, List, [], ◌∷◌, ◌++◌, map, sym, ap, ◌∙◌, subst}
-use Rattle.wsn_rules.specs.ShownBytes.{AreDealt}
-use Rattle.wsn_rules.specs.PlacedByte.{PlacedByte, placed}
+use Rattle.wsn_rules.specs.ShownPlaces.{AreDealt}
+use Rattle.wsn_rules.specs.BadCharacter.{PlacedByte, placed}
 use Rattle.wsn_rules.specs.ShownPlaces.{IsPlaced, ArePlaced, AreInPlace}
 use Rattle.wsn_rules.specs.ShownStream.{Shown}
 use Rattle.wsn_rules.proofs.Prefixes.{nil-push, head_same, tail_same}

@@ -13,7 +13,7 @@ use Rattle.wsn_rules.specs.Limits.{Limits}
 use Rattle.wsn_rules.specs.Group.{unfinished}
 use Rattle.wsn_rules.specs.Heads.{info_of, heads_from, heads_of, BeginsWithHead, IsBegun}
 use Rattle.wsn_rules.specs.Verdict.{IsRefused, IsVerdict}
-use Rattle.wsn_rules.specs.PlacedByte.{PlacedByte, placed}
+use Rattle.wsn_rules.specs.BadCharacter.{PlacedByte, placed}
 use Rattle.wsn_rules.specs.ShownPlaces.{IsEncodableHead, IsPlaced, ArePlaced, is_open_message, IsEnd, AreInOrder, IsPartOf, AreHeadsInPlace}
 use Rattle.wsn_rules.specs.ShownStream.{Shown, shown_head, IsShownVerdict, IsShownStream}
 use Rattle.wsn_rules.proofs.Prefixes.{append_cancel, two_fronts}

@@ -6,7 +6,7 @@ use Rattle.std.proofs.lemmas.Bool.{cases_Bool, cond-true, cond-false}
 use Rattle.std.proofs.lemmas.List.{map-append, take_at}
 use Rattle.wsn_wire.specs.declared.endpoint.Role.{Role}
 use Rattle.wsn_wire.specs.declared.opcode.Op.{Op}
-use Rattle.wsn_wire.specs.declared.opcode.Op.TheVariants.{Continue, Text, Binary, Close, Ping, Pong}
+use Rattle.wsn_wire.specs.declared.opcode.Op.TheVariants.{Continue, Close}
 use Rattle.wsn_wire.specs.Frame.{Frame, IsEncodable, frame_bytes, stream, is_control, wire_payload}
 use Rattle.wsn_rules.specs.declared.detail.Detail.TheVariants.{Events}
 use Rattle.wsn_rules.specs.declared.head_info.HeadInfo.{HeadInfo}
@@ -17,14 +17,12 @@ use Rattle.wsn_rules.specs.Limits.{Limits}
 use Rattle.wsn_rules.specs.Accepted.{HasNoClose, EndsWithClose}
 use Rattle.wsn_rules.specs.Group.{is_data, unfinished, kind_of, payload_of}
 use Rattle.wsn_rules.specs.Heads.{BeginsWithHead}
-use Rattle.wsn_rules.specs.Lawful.{IsLawful}
-use Rattle.wsn_rules.specs.LawfulAfter.{AreLawfulAfter}
+use Rattle.wsn_rules.specs.Lawful.{IsLawful, AreLawfulAfter}
 use Rattle.wsn_rules.specs.Meaning.{MeantEvent, Message, Control, event_at}
 use Rattle.wsn_rules.specs.Summary.{is_close}
 use Rattle.wsn_rules.specs.Verdict.{EndsWithinFrame, IsCut, IsRefused, IsVerdict}
-use Rattle.wsn_rules.specs.ShownBytes.{IsGroupOf, begun_bytes}
-use Rattle.wsn_rules.specs.BadCharacter.{BadCharacter}
-use Rattle.wsn_rules.specs.PlacedByte.{PlacedByte, placed}
+use Rattle.wsn_rules.specs.ShownPlaces.{IsGroupOf, begun_bytes}
+use Rattle.wsn_rules.specs.BadCharacter.{BadCharacter, PlacedByte, placed}
 use Rattle.wsn_rules.specs.ShownPlaces.{BeginsAt, end_of, PlacedFrame, frames_in, placed_frames, IsFragment, IsLastFrame, IsControlFrame, BeginOnce, IsMessageOf, IsEncodableHead, IsPartOfHead, HasBegun, IsPlaced, is_open_message, Interrupts, IsShownWithNext, AreInPlace}
 use Rattle.wsn_rules.specs.ShownStream.{Item, Shown, shown_after, open_offset, open_item, open_items, event_offset, event_frames, items_of_final, shown_at, shown_of, items_of_bytes, frame_so_far, items_of_part, items_of_head, IsLeftOfRest, IsLeftOf, IsLeftOver, IsShownEvidence, IsShownVerdict, IsShownStream}
 use Rattle.wsn_rules.specs.ShownStream.Item.{Event, Unfinished, UnfinishedHead, RefusedFrame, Unread, Tail}

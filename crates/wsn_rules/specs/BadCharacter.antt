@@ -11,7 +11,16 @@ use Rattle.wsn_rules.specs.declared.head_info.HeadInfo.{HeadInfo}
 use Rattle.wsn_rules.specs.Group.{is_data, unfinished, payload_of}
 use Rattle.wsn_rules.specs.Heads.{info_of}
 use Rattle.wsn_rules.specs.Summary.{ends_message}
-use Rattle.wsn_rules.specs.PlacedByte.{PlacedByte, placed}
+
+-- A byte of a stream, and its offset.
+pub record PlacedByte : Type 0 where
+  pub place : ℕ
+  pub byte : ℕ
+
+-- Bytes in one piece, the first of them at this offset.
+abbrev pub placed : ℕ → List ℕ → List PlacedByte
+placed place [] = []
+placed place (b ∷ bytes) = record { place = place; byte = b } ∷ placed (place + 1) bytes
 
 -- The offset of its first byte in the stream, the place of that byte in the payload of the message, from 0, its bytes up
 -- to the offending one, and the end of the payload of the message in frames before the refused one.

@@ -3,6 +3,7 @@ use Rattle.std.specs.Prelude.{◌≡◌, ◌≢◌, ℕ, ◌⊎◌, ◌==◌, Ok
 use Rattle.hex.specs.Hex.{decode_of}
 use Rattle.wsn_wire.specs.declared.endpoint.Role.{Role}
 use Rattle.wsn_wire.specs.declared.endpoint.Role.TheVariants.{Client, Server}
+use Rattle.std.specs.List.{AllZip}
 
 -- A line without the CR at its end, if there is one.
 abbrev pub without_cr : List ℕ → List ℕ
@@ -42,6 +43,4 @@ IsEntry line entry = GivesEntry (without_cr line) entry
 
 -- The entries of lines, one for each.
 abbrev pub AreEntries : List (List ℕ) → List Entry → Type 0
-AreEntries [] [] = Unit {0}
-AreEntries (line ∷ lines) (entry ∷ entries) = IsEntry line entry × AreEntries lines entries
-AreEntries lines entries = ⊥
+AreEntries = AllZip IsEntry

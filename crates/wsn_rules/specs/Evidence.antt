@@ -103,3 +103,8 @@ pub data Evidence (role : Role) (limits : Limits) (group : List Frame) (reason :
   ByPayload : (p : IntoPayload seen) →
       EvidentByPayload group reason p.first (encoded_length (len_form_at p.second) p.len)
       (unmasked p.second p.key p.wire) → Evidence role limits group reason seen
+
+-- No prefix of these bytes is evidence for a refusal, nor are all of them.
+pub record HasNoEvidence (role : Role) (limits : Limits) (group : List Frame) (bytes : List ℕ) : Type 0 where
+  pub none : (seen later : List ℕ) (reason : Reason) → bytes ≡ seen ++ later → Evidence role limits group reason seen →
+      ⊥

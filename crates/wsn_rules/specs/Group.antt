@@ -2,7 +2,7 @@
 use Rattle.std.specs.Prelude.{◌≢◌, ℕ, Bool, not, List, [], ◌∷◌, ◌++◌, if◌then◌else◌}
 use Rattle.std.specs.List.{fold, flat_map}
 use Rattle.wsn_wire.specs.declared.opcode.Op.{Op}
-use Rattle.wsn_wire.specs.declared.opcode.Op.TheVariants.{Continue, Text, Binary, Close, Ping, Pong}
+use Rattle.wsn_wire.specs.declared.opcode.Op.TheVariants.{Continue, Text}
 use Rattle.wsn_wire.specs.declared.opcode.Kind.{Kind}
 use Rattle.wsn_wire.specs.declared.opcode.Kind.TheVariants as kind
 use Rattle.wsn_wire.specs.Frame.{Frame, is_control}
@@ -32,12 +32,8 @@ first_op (f ∷ group) = f.op
 
 -- The kind of a message that begins with an opcode. Only opcode 1 begins text.
 abbrev pub kind_at : Op → Kind
-kind_at Continue = kind.Binary
 kind_at Text = kind.Text
-kind_at Binary = kind.Binary
-kind_at Close = kind.Binary
-kind_at Ping = kind.Binary
-kind_at Pong = kind.Binary
+kind_at op = kind.Binary
 
 -- The kind of a group's message.
 abbrev pub kind_of : List Frame → Kind

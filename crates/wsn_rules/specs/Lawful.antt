@@ -1,5 +1,5 @@
 -- Lawful lists of frames. RFC 6455 sections 5.4, 5.5.1, 5.6 and 8.1.
-use Rattle.std.specs.Prelude.{◌≡◌, ◌≢◌, ◌≤◌, ◌↔◌, true, List, [], ◌∷◌, ◌++◌, length}
+use Rattle.std.specs.Prelude.{◌≡◌, ◌≢◌, ◌≤◌, ◌↔◌, true, List, [], ◌∷◌, ◌++◌, length, ⊤}
 use Rattle.std.specs.Option.{ForSome}
 use Rattle.wsn_wire.specs.declared.endpoint.Role.{Role}
 use Rattle.wsn_wire.specs.declared.opcode.Op.TheVariants.{Continue, Text, Close}
@@ -7,7 +7,16 @@ use Rattle.wsn_wire.specs.Frame.{Frame}
 use Rattle.wsn_text.specs.Utf8.{IsText, BeginsText}
 use Rattle.wsn_rules.specs.Limits.{Limits}
 use Rattle.wsn_rules.specs.Group.{is_data, unfinished, first_op, payload_of}
-use Rattle.wsn_rules.specs.FrameLaw.{FrameLaw}
+use Rattle.wsn_wire.specs.declared.length_forms.Lengths.{Lengths}
+use Rattle.wsn_wire.specs.HeadLaw.{IsEncodedFor}
+use Rattle.wsn_text.specs.CloseBody.{IsCloseBody}
+
+-- The frame is lawful by itself.
+pub record FrameLaw (role : Role) (lengths : Lengths) (f : Frame) : Type 0 where
+  -- [5.1, 5.2, 5.5] It is encoded as its sender must.
+  pub encoded : IsEncodedFor role lengths f
+  -- [7.4] The body of a Close is empty, or an accepted code and a reason.
+  pub close : f.op ≡ Close → IsCloseBody f.payload
 
 -- The rules for a group whose last frame is f; `earlier` is the group's frames before f.
 pub record GroupLaw (limits : Limits) (earlier : List Frame) (f : Frame) : Type 0 where
@@ -28,3 +37,9 @@ pub record LawAt (role : Role) (limits : Limits) (before : List Frame) (f : Fram
 pub record IsLawful (role : Role) (limits : Limits) (fs : List Frame) : Type 0 where
   pub each : (before after : List Frame) (f : Frame) → fs ≡ before ++ f ∷ after → LawAt role limits before f
   pub close_last : (before after : List Frame) (f : Frame) → fs ≡ before ++ f ∷ after → f.op ≡ Close → after ≡ []
+
+-- After the frames `before`, each of the frames fs is lawful in its turn, and a Close is last.
+abbrev pub AreLawfulAfter : Role → Limits → List Frame → List Frame → Type 0
+AreLawfulAfter role limits before [] = ⊤
+AreLawfulAfter role limits before (f ∷ fs) =
+    LawAt role limits before f × (f.op ≡ Close → fs ≡ []) × AreLawfulAfter role limits (before ++ f ∷ []) fs

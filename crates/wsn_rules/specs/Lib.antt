@@ -2,10 +2,8 @@
 
 -- a stream that may be sent
 pub mod Limits
-pub mod FrameLaw
 pub mod Group
 pub mod Lawful
-pub mod LawfulAfter
 -- the meaning of a stream
 pub mod Meaning
 pub mod LawfulEvents
@@ -17,7 +15,6 @@ pub mod Evidence
 pub mod Summary
 pub mod Verdict
 -- the heads that are reported
-pub mod NoEvidence
 pub mod Heads
 -- recuts
 pub mod Plan
@@ -35,16 +32,11 @@ pub mod Entries
 pub mod Sides
 pub mod Reports
 -- what is shown of a stream, and of a capture
-pub mod PlacedByte
 pub mod BadCharacter
 pub mod ShownStream
 pub mod ShownEvents
-pub mod ShownBytes
 pub mod ShownPlaces
 pub mod ShownCapture
 -- for the examples
 pub mod Examples
 pub mod PlanExamples
-pub mod ShownExamples
--- the names that the clauses in src/ import
-pub mod Words

@@ -10,6 +10,11 @@ pub data MeantEvent : Type 0 where
   Message : Kind → List ℕ → MeantEvent
   Control : Op → List ℕ → MeantEvent
 
+-- The payload of an event: a message's, joined from its frames, or a control's.
+abbrev pub payload_in : MeantEvent → List ℕ
+payload_in (Message kind payload) = payload
+payload_in (Control op body) = body
+
 -- The event that a final frame completes after the frames before it: the control, or the message of its group.
 abbrev pub event_at : List Frame → Frame → MeantEvent
 event_at before f =

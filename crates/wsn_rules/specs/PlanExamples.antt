@@ -1,5 +1,5 @@
 -- The form of the examples of plans and recuts, and the plans and events in them.
-use Rattle.std.specs.Prelude.{◌≡◌, ℕ, Option, None, Some, List, [], ◌∷◌}
+use Rattle.std.specs.Prelude.{◌≡◌, ℕ, Option, None, Some, List, [], ◌∷◌, Bool}
 use Rattle.wsn_wire.specs.declared.endpoint.Role.{Role}
 use Rattle.wsn_wire.specs.declared.opcode.Op.TheVariants.{Ping}
 use Rattle.wsn_wire.specs.declared.opcode.Kind.TheVariants.{Text}
@@ -16,6 +16,7 @@ use Rattle.wsn_rules.specs.Meaning as meant
 use Rattle.wsn_rules.specs.Fitting.{Fits}
 use Rattle.wsn_rules.specs.Recut.{recut_bytes, plan_of}
 use Rattle.wsn_rules.specs.Examples.{greatest}
+use Rattle.wsn_wire.specs.declared.opcode.Op.{Op}
 
 -- A Piece without a key, with the shortest encoding of its length.
 abbrev pub bare_piece : ℕ → Step
@@ -76,3 +77,7 @@ pub record RecutsTo (role : Role) (limits : Limits) (bytes : List ℕ) (plan : L
   pub accepted : IsAccepted role limits bytes frames
   pub fits : Fits role limits plan (meaning frames)
   pub is : recut_bytes plan (meaning frames) ≡ others
+
+-- A frame that a server sends.
+abbrev pub server_frame : Bool → Op → List ℕ → Frame
+server_frame fin op payload = record { fin = fin; op = op; key = None; form = Shortest; payload = payload }

@@ -1,18 +1,37 @@
 -- Where the items that are shown of a stream are in it: every byte of the stream, with its offset, is in exactly one
 -- item, each item has the bytes that it says, the first of them is at its offset, and it is shown with the last of them.
 use Rattle.std.specs.Prelude.{◌≡◌, ◌≢◌, ℕ, ◌+◌, ◌<◌, ◌≤◌, ◌^◌, ◌⊎◌, ⊤, Bool, true, false, IfSome, Option, None, Some, List, [], ◌∷◌, ◌++◌, length, map}
-use Rattle.std.specs.List.{AllByRecursion, flat_map}
+use Rattle.std.specs.List.{AllByRecursion, flat_map, AllZip}
 use Rattle.wsn_wire.specs.declared.opcode.Kind.{Kind}
 use Rattle.wsn_wire.specs.declared.opcode.Op.TheVariants.{Continue, Close}
 use Rattle.wsn_wire.specs.Frame.{Frame, IsKey, FormFits, IsEncodable, is_control, head_bytes, frame_bytes, wire_payload}
 use Rattle.wsn_wire.specs.Layout.{len_form_at, length_count, key_count}
 use Rattle.wsn_rules.specs.declared.head_info.HeadInfo.{HeadInfo}
-use Rattle.wsn_rules.specs.Group.{is_data}
-use Rattle.wsn_rules.specs.PlacedByte.{PlacedByte, placed}
+use Rattle.wsn_rules.specs.Group.{is_data, kind_of, payload_of}
+use Rattle.wsn_rules.specs.BadCharacter.{PlacedByte, placed}
 use Rattle.wsn_rules.specs.Meaning.{Message, Control}
 use Rattle.wsn_rules.specs.ShownStream.{Item, Shown, frame_so_far}
 use Rattle.wsn_rules.specs.ShownStream.Item.{Event, Head, Unfinished, UnfinishedHead, RefusedFrame, Unread, Tail}
-use Rattle.wsn_rules.specs.ShownBytes.{AreDealt, IsGroupOf, begun_bytes}
+
+-- ---- parts of a stream
+
+-- The elements are dealt to these piles: each is in exactly one pile, and a pile has its elements in their order.
+abbrev pub AreDealt : {A : Type 0} → List A → List (List A) → Type 0
+AreDealt [] piles = AllByRecursion (λ pile. pile ≡ []) piles
+AreDealt {A} (x ∷ xs) piles =
+    (before : List (List A)) × (pile : List A) × (after : List (List A)) × (piles ≡ before ++ (x ∷ pile) ∷ after)
+    × AreDealt xs (before ++ pile ∷ after)
+
+-- The frames are those of a message of this kind, with this payload and this number of frames.
+pub record IsGroupOf (group : List Frame) (kind : Kind) (payload : List ℕ) (count : ℕ) : Type 0 where
+  pub data_frames : AllByRecursion (λ f. is_data f ≡ true) group
+  pub of_kind : kind ≡ kind_of group
+  pub joined : payload ≡ payload_of group
+  pub counted : count ≡ length group
+
+-- A whole head, and what has come of the payload behind it.
+abbrev pub begun_bytes : HeadInfo → List ℕ → List ℕ
+begun_bytes info following = head_bytes info.fin info.op info.key info.form info.len ++ following
 
 -- ---- bytes and frames at their offsets
 
@@ -167,9 +186,7 @@ pub record IsPlaced (s : Shown) (pile : List PlacedByte) : Type 0 where
 
 -- Each pile is placed as its item says.
 abbrev pub ArePlaced : List Shown → List (List PlacedByte) → Type 0
-ArePlaced [] [] = ⊤
-ArePlaced (s ∷ shown) (pile ∷ piles) = IsPlaced s pile × ArePlaced shown piles
-ArePlaced shown piles = ⊥
+ArePlaced = AllZip IsPlaced
 
 -- The item is a message that isn't complete.
 abbrev pub is_open_message : Item → Bool

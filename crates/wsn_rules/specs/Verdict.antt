@@ -1,5 +1,5 @@
 -- The verdict on a stream: accepted, cut, or refused at an offset for a reason. RFC 6455 sections 5 and 7.
-use Rattle.std.specs.Prelude.{◌≡◌, ◌≢◌, ℕ, ◌+◌, ◌-◌, ◌<◌, ◌≤◌, ◌⊎◌, List, [], ◌++◌, length}
+use Rattle.std.specs.Prelude.{◌≡◌, ◌≢◌, ℕ, ◌+◌, ◌-◌, ◌<◌, ◌≤◌, ◌⊎◌, List, [], ◌++◌, length, take}
 use Rattle.wsn_wire.specs.declared.endpoint.Role.{Role}
 use Rattle.wsn_wire.specs.declared.refusal.Reason.{Reason}
 use Rattle.wsn_wire.specs.Frame.{Frame, stream}
@@ -64,3 +64,8 @@ IsVerdict role limits bytes fs (Accepted summary) =
 IsVerdict role limits bytes fs (Cut summary) =
     IsCut role limits bytes fs × (summary ≡ counted fs (length bytes) 0)
 IsVerdict role limits bytes fs (Refused refusal) = IsRefused role limits bytes fs refusal.place refusal.reason
+
+-- The bytes of which a verdict takes account: up to the offending byte, with it, or all.
+abbrev pub judged_bytes : Verdict → List ℕ → List ℕ
+judged_bytes (Refused refusal) bytes = take (refusal.place + 1) bytes
+judged_bytes verdict bytes = bytes

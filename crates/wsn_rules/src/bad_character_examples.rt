@@ -4,9 +4,8 @@ ghost use Rattle.std.specs.Prelude.{◌≡◌, true, false, None, Some, [], ◌�
 ghost use Rattle.wsn_wire.specs.declared.opcode.Op.TheVariants.{Continue, Text, Ping};
 ghost use Rattle.wsn_wire.specs.declared.length_forms.Form.TheVariants.{Shortest};
 ghost use Rattle.wsn_wire.specs.declared.refusal.Reason.TheVariants.{TextBad, TextCut, CloseReason};
-ghost use Rattle.wsn_rules.specs.PlacedByte.{placed};
-ghost use Rattle.wsn_rules.specs.BadCharacter.{open_payload, message_payload, earlier_end, bad_character, character_of};
-ghost use Rattle.wsn_rules.specs.ShownExamples.{server_frame};
+ghost use Rattle.wsn_rules.specs.BadCharacter.{placed, open_payload, message_payload, earlier_end, bad_character, character_of};
+ghost use Rattle.wsn_rules.specs.PlanExamples.{server_frame};
 
 /// The character at the end of a payload: its bytes, and the offsets of the first one in the stream and in the payload.
 pub fn characters()

@@ -8,8 +8,12 @@ ghost use Rattle.wsn_wire.specs.declared.length_forms.Form.TheVariants.{Shortest
 ghost use Rattle.wsn_wire.specs.declared.length_forms.Lengths.TheVariants.{Any};
 ghost use Rattle.wsn_rules.specs.declared.step.Step.TheVariants.{Piece, Last, Control};
 ghost use Rattle.wsn_rules.specs.declared.why.Why.TheVariants.{KeyMismatch, StepsLeft, NoMessage, PieceTooLong, TooManyPieces, NotAControl, NotAMessage, WrongForm, EventsLeft};
-ghost use Rattle.wsn_rules.specs.Words.{Message, Fits, IsFault, uniform_plan, greatest, bare_piece, bare_last};
-ghost use Rattle.wsn_rules.specs.Words.{bare_control, zeros, ping_and_hello, two_letters, frames_of, any_length};
+ghost use Rattle.wsn_rules.specs.Meaning.{Message};
+ghost use Rattle.wsn_rules.specs.Fitting.{Fits};
+ghost use Rattle.wsn_rules.specs.Fault.{IsFault};
+ghost use Rattle.wsn_rules.specs.UniformPlan.{uniform_plan};
+ghost use Rattle.wsn_rules.specs.Examples.{greatest};
+ghost use Rattle.wsn_rules.specs.PlanExamples.{bare_piece, bare_last, bare_control, zeros, ping_and_hello, two_letters, frames_of, any_length};
 ghost use Rattle.wsn_rules.specs.Meaning as meant;
 
 /// A key for a server's frame, or no key for a client's: before any other reason.

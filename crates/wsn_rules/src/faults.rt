@@ -2,8 +2,17 @@
 //! functions do nothing when called; their contracts are proved.
 
 ghost use Rattle.std.specs.Prelude.{◌≡◌, ◌≢◌, ℕ, ◌+◌, ◌≤◌, Some, None, ◌⊎◌, Option, List, [], ◌∷◌, ◌++◌, length, drop};
-ghost use Rattle.wsn_rules.specs.Words.{ForSome, Role, Form, Step, Why, Limits, InRange, MeantEvent, next_text, Fits};
-ghost use Rattle.wsn_rules.specs.Words.{Holds, IsFirstWhy, IsFault, HasWalked};
+ghost use Rattle.std.specs.Option.{ForSome};
+ghost use Rattle.wsn_wire.specs.declared.endpoint.Role.{Role};
+ghost use Rattle.wsn_wire.specs.declared.length_forms.Form.{Form};
+ghost use Rattle.wsn_rules.specs.declared.step.Step.{Step};
+ghost use Rattle.wsn_rules.specs.declared.why.Why.{Why};
+ghost use Rattle.wsn_rules.specs.Limits.{Limits, InRange};
+ghost use Rattle.wsn_rules.specs.Meaning.{MeantEvent};
+ghost use Rattle.wsn_rules.specs.Plan.{next_text};
+ghost use Rattle.wsn_rules.specs.Fitting.{Fits};
+ghost use Rattle.wsn_rules.specs.Fault.{Holds, IsFirstWhy, IsFault};
+ghost use Rattle.wsn_rules.specs.WalkedPlan.{HasWalked};
 ghost use Rattle.wsn_rules.specs.declared.step.Step.TheVariants.{Piece, Last, Control};
 ghost use Rattle.wsn_rules.specs.declared.why.Why.TheVariants.{EventsLeft};
 

@@ -1,10 +1,24 @@
 //! Laws of the definitions in `specs/`. The functions do nothing when called; their contracts are proved.
 
 ghost use Rattle.std.specs.Prelude.{◌≡◌, ◌≢◌, ℕ, ◌+◌, ◌↔◌, List, [], ◌∷◌, ◌++◌, take, map};
-ghost use Rattle.wsn_rules.specs.Words.{Role, Reason, Frame, IsBytes, frame_bytes, stream, HasLayout, Limits, InRange};
-ghost use Rattle.wsn_rules.specs.Words.{unfinished, LawAt, IsLawful, IsAccepted, events_after, meaning, MeantEvent};
-ghost use Rattle.wsn_rules.specs.Words.{IsEvidentAt, IsRefused, IsVerdict, Verdict, AreLawful, normal_frame, normal_form};
-ghost use Rattle.wsn_rules.specs.Words.{Step, IsPlan, Fits, Encode, AreRecut, recut, recut_bytes, plan_of, normal_plan};
+ghost use Rattle.wsn_wire.specs.declared.endpoint.Role.{Role};
+ghost use Rattle.wsn_wire.specs.declared.refusal.Reason.{Reason};
+ghost use Rattle.wsn_wire.specs.Frame.{Frame, IsBytes, frame_bytes, stream};
+ghost use Rattle.wsn_wire.specs.Layout.{HasLayout};
+ghost use Rattle.wsn_rules.specs.Limits.{Limits, InRange};
+ghost use Rattle.wsn_rules.specs.Group.{unfinished};
+ghost use Rattle.wsn_rules.specs.Lawful.{LawAt, IsLawful};
+ghost use Rattle.wsn_rules.specs.Accepted.{IsAccepted};
+ghost use Rattle.wsn_rules.specs.Meaning.{events_after, meaning, MeantEvent};
+ghost use Rattle.wsn_rules.specs.Verdict.{IsEvidentAt, IsRefused, IsVerdict};
+ghost use Rattle.wsn_rules.specs.declared.verdict.Verdict.{Verdict};
+ghost use Rattle.wsn_rules.specs.LawfulEvents.{AreLawful};
+ghost use Rattle.wsn_rules.specs.NormalForm.{normal_frame, normal_form};
+ghost use Rattle.wsn_rules.specs.declared.step.Step.{Step};
+ghost use Rattle.wsn_rules.specs.Plan.{IsPlan};
+ghost use Rattle.wsn_rules.specs.Fitting.{Fits};
+ghost use Rattle.wsn_rules.specs.Encodings.{Encode, AreRecut};
+ghost use Rattle.wsn_rules.specs.Recut.{recut, recut_bytes, plan_of, normal_plan};
 ghost use Rattle.wsn_rules.specs.TextLines.{AreLines, lines_of};
 ghost use Rattle.wsn_rules.specs.declared.verdict.Verdict.TheVariants.{Refused};
 

@@ -2,9 +2,15 @@
 //! when called; their contracts are proved.
 
 ghost use Rattle.std.specs.Prelude.{◌≡◌, ◌≢◌, ℕ, ◌+◌, ◌≤◌, ◌⊎◌, ◌↔◌, true, false, List, [], ◌∷◌, ◌++◌, length, if◌then◌else◌};
-ghost use Rattle.wsn_rules.specs.Words.{ForSome, Role, Frame, stream, BeginsText, Limits, is_data, unfinished};
-ghost use Rattle.wsn_rules.specs.Words.{first_op, payload_of, LawAt, IsLawful, AreLawfulAfter, HasNoClose, EndsWithClose};
-ghost use Rattle.wsn_rules.specs.Words.{event_at, events_after, meaning};
+ghost use Rattle.std.specs.Option.{ForSome};
+ghost use Rattle.wsn_wire.specs.declared.endpoint.Role.{Role};
+ghost use Rattle.wsn_wire.specs.Frame.{Frame, stream};
+ghost use Rattle.wsn_text.specs.Utf8.{BeginsText};
+ghost use Rattle.wsn_rules.specs.Limits.{Limits};
+ghost use Rattle.wsn_rules.specs.Group.{is_data, unfinished, first_op, payload_of};
+ghost use Rattle.wsn_rules.specs.Lawful.{LawAt, IsLawful, AreLawfulAfter};
+ghost use Rattle.wsn_rules.specs.Accepted.{HasNoClose, EndsWithClose};
+ghost use Rattle.wsn_rules.specs.Meaning.{event_at, events_after, meaning};
 ghost use Rattle.wsn_wire.specs.declared.opcode.Op.TheVariants.{Text, Binary, Close};
 
 /// A prefix of a lawful list is lawful.

@@ -4,9 +4,9 @@ ghost use Rattle.std.specs.Prelude.{◌≡◌, None, Some, [], ◌∷◌, ◌++�
 ghost use Rattle.wsn_wire.specs.declared.endpoint.Role.TheVariants.{Client, Server};
 ghost use Rattle.wsn_wire.specs.declared.length_forms.Form.TheVariants.{Shortest, Two, Eight};
 ghost use Rattle.wsn_rules.specs.declared.step.Step.TheVariants.{Piece, Last, Control};
-ghost use Rattle.wsn_rules.specs.Words.{recut_bytes, normal_plan, greatest, HasPlan, RecutsTo, bare_piece, bare_last};
-ghost use Rattle.wsn_rules.specs.Words.{bare_control, zeros, ping_and_hello, two_letters, one_key, four_keys};
-ghost use Rattle.wsn_rules.specs.Words.{whole_ping_and_hello, frames_of, any_length};
+ghost use Rattle.wsn_rules.specs.Recut.{recut_bytes, normal_plan};
+ghost use Rattle.wsn_rules.specs.Examples.{greatest};
+ghost use Rattle.wsn_rules.specs.PlanExamples.{HasPlan, RecutsTo, bare_piece, bare_last, bare_control, zeros, ping_and_hello, two_letters, one_key, four_keys, whole_ping_and_hello, frames_of, any_length};
 
 /// Plans of inputs: keys, forms, empty pieces, pieces that end inside a character, controls between them, and a Close
 /// before a tail.

@@ -2,7 +2,12 @@
 
 ghost use Rattle.std.specs.Prelude.{◌≡◌, ℕ, ◌<◌, ◌≤◌, Option, List, [], ◌++◌, length, map, slice_get};
 ghost use Rattle.std.specs.List.{AllByRecursion};
-ghost use Rattle.wsn_rules.specs.Words.{Role, Frame, IsBytes, Limits, InRange, Verdict, IsVerdict, meaning};
+ghost use Rattle.wsn_wire.specs.declared.endpoint.Role.{Role};
+ghost use Rattle.wsn_wire.specs.Frame.{Frame, IsBytes};
+ghost use Rattle.wsn_rules.specs.Limits.{Limits, InRange};
+ghost use Rattle.wsn_rules.specs.declared.verdict.Verdict.{Verdict};
+ghost use Rattle.wsn_rules.specs.Verdict.{IsVerdict};
+ghost use Rattle.wsn_rules.specs.Meaning.{meaning};
 ghost use Rattle.wsn_rules.specs.declared.detail.Detail.{Detail};
 ghost use Rattle.wsn_rules.specs.declared.detail.Detail.TheVariants.{Events, Frames};
 ghost use Rattle.wsn_rules.specs.declared.head_info.HeadInfo.{HeadInfo};
@@ -13,7 +18,6 @@ ghost use Rattle.wsn_rules.specs.LeftOut.{events_without};
 ghost use Rattle.wsn_rules.specs.Reports.{IsReportOf};
 ghost use Rattle.wsn_rules.specs.Sides.{sent};
 ghost use Rattle.wsn_rules.specs.ShownStream.{Item, Shown, shown_after, IsShownStream, IsLeftOver, events_shown, heads_shown};
-ghost use Rattle.wsn_rules.specs.ShownBytes.{AreSharedOut};
 ghost use Rattle.wsn_rules.specs.ShownPlaces.{AreInPlace, AreHeadsInPlace};
 ghost use Rattle.wsn_rules.specs.ShownEvents.{IsShownAt, ShowsEvent};
 ghost use Rattle.wsn_rules.specs.declared.report.Report.{Report};
@@ -46,14 +50,7 @@ pub fn law_shown_event()
 {}
 
 /// Every byte of a stream is in exactly one of its items: those that are shown of it in the detail of events, and those
-/// that are left over where it ends.
-pub fn law_shown_bytes()
-    ensures { (role : Role) (limits : Limits) (bytes : List ℕ) (shown : List Shown) (left : List Item) →
-        IsShownStream Events role limits bytes shown → IsLeftOver role limits bytes left →
-        AreSharedOut bytes (map (λ s. s.item) shown ++ left) }
-{}
-
-/// Each of these items is where it says. The first of its bytes is at its offset; its frames, their number and the number
+/// that are left over where it ends. Each of these items is where it says. The first of its bytes is at its offset; its frames, their number and the number
 /// of bytes that it lacks are exact; a refused frame ends with the offending byte and shows the evidence in its bytes.
 /// Each is shown with its last byte, in order; a message that isn't complete, with what interrupts it. In the detail of
 /// frames each head is at its offset, and shown with its last byte.

@@ -11,7 +11,7 @@ ghost use Rattle.wsn_rules.specs.Heads.{heads_of};
 ghost use Rattle.wsn_rules.specs.ShownStream.{shown_of, shown_head, items_of_part, items_of_head, items_of_bytes};
 ghost use Rattle.wsn_rules.specs.ShownStream.Item.{Event, Head, Unfinished, UnfinishedHead, Tail};
 ghost use Rattle.wsn_rules.specs.ShownCapture.{IsTimeOfLast};
-ghost use Rattle.wsn_rules.specs.ShownExamples.{server_frame};
+ghost use Rattle.wsn_rules.specs.PlanExamples.{server_frame};
 
 /// What frames show: each event with its last byte, at the offset of its first frame.
 pub fn of_frames()

@@ -1,11 +1,22 @@
 //! Laws of uniform plans: where they fit, how `weave` interleaves the controls, and which frames they are the plan of.
 //! The functions do nothing when called; their contracts are proved.
 
-ghost use Rattle.std.specs.Prelude.{◌≡◌, ℕ, ◌≤◌, ◌⊎◌, ◌↔◌, Bool, true, false, Option, None, IsSome, IfSome, List};
-ghost use Rattle.std.specs.Prelude.{[], ◌∷◌, ◌++◌};
-ghost use Rattle.wsn_rules.specs.Words.{Role, Frame, IsKey, Why, Limits, InRange, unfinished, IsLawful, MeantEvent};
-ghost use Rattle.wsn_rules.specs.Words.{meaning, Step, IsPlan, pending, Fits, IsFault, plan_of, uniform_plan};
-ghost use Rattle.wsn_rules.specs.Words.{IsInterleaved, AreUniform};
+ghost use Rattle.std.specs.Prelude.{◌≡◌, ℕ, ◌≤◌, ◌⊎◌, ◌↔◌, Bool, true, false, Option, None, IsSome, IfSome, List, [], ◌∷◌, ◌++◌};
+ghost use Rattle.wsn_wire.specs.declared.endpoint.Role.{Role};
+ghost use Rattle.wsn_wire.specs.Frame.{Frame, IsKey};
+ghost use Rattle.wsn_rules.specs.declared.why.Why.{Why};
+ghost use Rattle.wsn_rules.specs.Limits.{Limits, InRange};
+ghost use Rattle.wsn_rules.specs.Group.{unfinished};
+ghost use Rattle.wsn_rules.specs.Lawful.{IsLawful};
+ghost use Rattle.wsn_rules.specs.Meaning.{MeantEvent, meaning};
+ghost use Rattle.wsn_rules.specs.declared.step.Step.{Step};
+ghost use Rattle.wsn_rules.specs.Plan.{IsPlan, pending};
+ghost use Rattle.wsn_rules.specs.Fitting.{Fits};
+ghost use Rattle.wsn_rules.specs.Fault.{IsFault};
+ghost use Rattle.wsn_rules.specs.Recut.{plan_of};
+ghost use Rattle.wsn_rules.specs.UniformPlan.{uniform_plan};
+ghost use Rattle.wsn_rules.specs.InterleavedPlan.{IsInterleaved};
+ghost use Rattle.wsn_rules.specs.UniformFrames.{AreUniform};
 ghost use Rattle.wsn_wire.specs.declared.endpoint.Role.TheVariants.{Client};
 ghost use Rattle.wsn_rules.specs.declared.step.Step.TheVariants.{Control};
 ghost use Rattle.wsn_rules.specs.declared.why.Why.TheVariants.{TooManyPieces};

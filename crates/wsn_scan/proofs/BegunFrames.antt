@@ -1,4 +1,4 @@
--- A frame that begins in a piece: its head, and what the piece has of its payload.
+-- A frame that begins in a chunk: its head, and what the chunk has of its payload.
 use Rattle.std.proofs.Common.{rules, nat_eq, Bool, None, Some, false, ◌≡◌, ◌↔◌, ℕ, zero, suc, ◌+◌, ◌-◌, ◌≤◌, true, Ok, Option, List, [], ◌++◌, length, take, drop, refl, sym, ap, ◌∙◌, subst, arith, append-nil}
 use Rattle.wsn_wire.specs.declared.endpoint.Role.{Role}
 use Rattle.wsn_wire.specs.declared.refusal.Reason.{Reason}
@@ -23,7 +23,7 @@ use Rattle.wsn_scan.specs.Positions.{Position, BetweenFrames}
 use Rattle.wsn_scan.specs.declared.part.Taken.{Taken}
 use Rattle.wsn_scan.specs.declared.scan.Scan.{Scan}
 use Rattle.wsn_scan.specs.Scans.{IsReachedBy}
-use Rattle.wsn_scan.specs.Parts.{GoesOn, Finds}
+use Rattle.wsn_scan.specs.Parts.{ContinuesFrame, Finds}
 
 -- The check of this part of the payload is that of the frame's bytes so far, also where the frame is empty.
 pub holds_begun : (role : Role) (limits : Limits) (group : List Frame) (head : Head) (check next : PayloadCheck) (head_bytes wire rest : List ℕ) → rest ≡ head_bytes ++ wire → IsBytes wire
@@ -59,19 +59,19 @@ total_is count len fed size = (ends, whole)
     whole : 0 + length fed ≡ len → nat_eq count len ≡ true
     whole all = let same : count ≡ len = omega (arith, all, size) in search (rules, same)
 
--- The payload in the piece after it was unmasked: from its start up to the end of the part.
-pub drop_mid : (start count : ℕ) (piece new : List ℕ) (key : Option (List ℕ)) → start + count ≤ length piece → new ≡ unmasked_by key 0 (mid_of start (start + count - start) piece)
-    → drop start (take (start + count) (put_mid start (start + count - start) piece new)) ≡ unmasked_by key 0 (mid_of start (start + count - start) piece)
-drop_mid start count piece new key within unmasked =
-    let after = put_mid start (start + count - start) piece new in
+-- The payload in the chunk after it was unmasked: from its start up to the end of the part.
+pub drop_mid : (start count : ℕ) (chunk new : List ℕ) (key : Option (List ℕ)) → start + count ≤ length chunk → new ≡ unmasked_by key 0 (mid_of start (start + count - start) chunk)
+    → drop start (take (start + count) (put_mid start (start + count - start) chunk new)) ≡ unmasked_by key 0 (mid_of start (start + count - start) chunk)
+drop_mid start count chunk new key within unmasked =
+    let after = put_mid start (start + count - start) chunk new in
     let same : count ≡ start + count - start = omega arith in
-    drop-take start count after ∙ ap (λ (n : ℕ). take n (drop start after)) same ∙ payload_after key start (start + count) piece new (omega arith) within unmasked
+    drop-take start count after ∙ ap (λ (n : ℕ). take n (drop start after)) same ∙ payload_after key start (start + count) chunk new (omega arith) within unmasked
 
 -- Whether a part begins its frame doesn't say how the frame goes on.
-pub begun_part : (fs : List Frame) (part : Part) (payload shown : List ℕ) (frames : List Frame) (position : Position) → shown ≡ payload → GoesOn fs [] part payload frames position
-    → GoesOn fs [] (record part { begins = true }) shown frames position
+pub begun_part : (fs : List Frame) (part : Part) (payload shown : List ℕ) (frames : List Frame) (position : Position) → shown ≡ payload → ContinuesFrame fs [] part payload frames position
+    → ContinuesFrame fs [] (record part { begins = true }) shown frames position
 begun_part fs part payload shown frames position same goes_on =
-    subst (λ (bs : List ℕ). GoesOn fs [] (record part { begins = true }) bs frames position) (sym same) (record { within = goes_on.within; ends = goes_on.ends })
+    subst (λ (bs : List ℕ). ContinuesFrame fs [] (record part { begins = true }) bs frames position) (sym same) (record { within = goes_on.within; ends = goes_on.ends })
 
 -- A part that doesn't end the frame is not all of it.
 not_both : (b : Bool) → b ≡ true → b ≡ false → ⊥
@@ -95,6 +95,6 @@ pub if_some : {P Q : ℕ → Type 0} (found : Option ℕ) → ((n : ℕ) → P n
 if_some None each is = tt
 if_some (Some n) each is = each n is
 
-pub goes_on_as : (fs : List Frame) (before : List ℕ) (part : Part) (payload shown : List ℕ) (frames : List Frame) (position : Position) → shown ≡ payload → GoesOn fs before part payload frames position
-    → GoesOn fs before part shown frames position
-goes_on_as fs before part payload shown frames position same goes_on = subst (λ (bs : List ℕ). GoesOn fs before part bs frames position) (sym same) goes_on
+pub goes_on_as : (fs : List Frame) (before : List ℕ) (part : Part) (payload shown : List ℕ) (frames : List Frame) (position : Position) → shown ≡ payload → ContinuesFrame fs before part payload frames position
+    → ContinuesFrame fs before part shown frames position
+goes_on_as fs before part payload shown frames position same goes_on = subst (λ (bs : List ℕ). ContinuesFrame fs before part bs frames position) (sym same) goes_on

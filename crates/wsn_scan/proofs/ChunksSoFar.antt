@@ -11,7 +11,7 @@ use Rattle.wsn_wire.specs.Frame.{IsBytes}
 use Rattle.wsn_rules.specs.Limits.{Limits}
 use Rattle.wsn_rules.proofs.PlanTheory.MessageFrames.{bytes_take}
 use Rattle.wsn_scan.specs.declared.chunk_reader.ChunkReader.{ChunkReader}
-use Rattle.wsn_scan.specs.ChunkReaders.{HasCounted, HasCome, IsChunkOf, IsEndOf, IsHaltOf, IsNextOf, reads_left}
+use Rattle.wsn_scan.specs.ChunkReaders.{HasCounted, HasCome, IsChunkOf, IsEndOf, IsHaltOf, IsNextOf, chunks_ahead}
 use Rattle.wsn_scan.specs.Judging.{chunk_size}
 use Rattle.wsn_frame.proofs.HeadsAtOnce.{no_items}
 
@@ -20,8 +20,8 @@ by_past true if_so if_not = if_so refl
 by_past false if_so if_not = if_not refl
 
 -- a buffer of which a call had the first n items
-pub same_size : (n : ℕ) (buffer piece : List ℕ) → n ≤ length buffer → length piece ≡ length (take n buffer) → length (piece ++ drop n buffer) ≡ length buffer
-same_size n buffer piece within same = omega (arith, same, length-take-le n buffer within, length-append piece (drop n buffer), length-drop n buffer)
+pub same_size : (n : ℕ) (buffer chunk : List ℕ) → n ≤ length buffer → length chunk ≡ length (take n buffer) → length (chunk ++ drop n buffer) ≡ length buffer
+same_size n buffer chunk within same = omega (arith, same, length-take-le n buffer within, length-append chunk (drop n buffer), length-drop n buffer)
 
 -- ---- what came within the limit, and past it
 
@@ -65,12 +65,12 @@ module _ (now new : Incoming) (chunks after : ChunkReader) (buffer : List ℕ) (
   not_over is = let most = ltb-false len n (sym read.past_is ∙ is) in omega (arith, most, in_count)
 
   -- a bound on the chunks that can still come falls with each
-  pub falls : chunks.past_limit ≡ false → reads_left after < reads_left chunks
+  pub falls : chunks.past_limit ≡ false → chunks_ahead after < chunks_ahead chunks
   falls none =
-      let before : reads_left chunks ≡ chunks.room + 1 = ap (λ (p : Bool). chunks.room + (if p then 0 else 1)) none in
+      let before : chunks_ahead chunks ≡ chunks.room + 1 = ap (λ (p : Bool). chunks.room + (if p then 0 else 1)) none in
       by_past after.past_limit
-      (λ is. let later : reads_left after ≡ after.room + 0 = ap (λ (p : Bool). after.room + (if p then 0 else 1)) is in omega (arith, before, later, read.left))
-      (λ is. let later : reads_left after ≡ after.room + 1 = ap (λ (p : Bool). after.room + (if p then 0 else 1)) is in omega (arith, before, later, read.left, read.some, not_over is))
+      (λ is. let later : chunks_ahead after ≡ after.room + 0 = ap (λ (p : Bool). after.room + (if p then 0 else 1)) is in omega (arith, before, later, read.left))
+      (λ is. let later : chunks_ahead after ≡ after.room + 1 = ap (λ (p : Bool). after.room + (if p then 0 else 1)) is in omega (arith, before, later, read.left, read.some, not_over is))
 
   abbrev bytes_past : List ℕ
   bytes_past = drop len (take n buffer)

@@ -72,43 +72,43 @@ module _ (role : Role) (limits : Limits) (head : Head) (front : List ℕ) (h : I
   holds : HoldsPayload role limits [] head checked.0 [] front
   holds = starts_empty role limits [] head front h checked.0 checked.1 empty (λ row. quiet _ TextCut row other) (λ reason no_cut row. quiet _ reason row other)
 
--- ---- the piece after the head's key is cleared
+-- ---- the chunk after the head's key is cleared
 
-module _ (role : Role) (limits : Limits) (head : Head) (piece bytes : List ℕ) (start : ℕ) (empty : head.len ≡ 0) (within : start ≤ length piece)
-    (cleared : bytes ≡ with_key_cleared head.key (take start piece)) (size : length bytes ≡ length (take start piece)) where
+module _ (role : Role) (limits : Limits) (head : Head) (chunk bytes : List ℕ) (start : ℕ) (empty : head.len ≡ 0) (within : start ≤ length chunk)
+    (cleared : bytes ≡ with_key_cleared head.key (take start chunk)) (size : length bytes ≡ length (take start chunk)) where
   abbrev after : List ℕ
-  after = bytes ++ drop start piece
+  after = bytes ++ drop start chunk
 
-  size_front : length (take start piece) ≡ start
-  size_front = length-take-le start piece within
+  size_front : length (take start chunk) ≡ start
+  size_front = length-take-le start chunk within
 
   front_after : take start after ≡ bytes
-  front_after = take-append-le start bytes (drop start piece) (omega (arith, size, size_front)) ∙ take_all start bytes (omega (arith, size, size_front))
+  front_after = take-append-le start bytes (drop start chunk) (omega (arith, size, size_front)) ∙ take_all start bytes (omega (arith, size, size_front))
 
   -- the bytes after the frame are unchanged
-  pub kept_after_head : drop (length (take start piece)) after ≡ drop (length (take start piece)) piece
+  pub kept_after_head : drop (length (take start chunk)) after ≡ drop (length (take start chunk)) chunk
   kept_after_head =
-      let own : length (take start piece) ≡ length bytes + 0 = omega (arith, size) in
-      ap (λ (n : ℕ). drop n after) own ∙ drop-append-add bytes (drop start piece) 0 ∙ ap (λ (n : ℕ). drop n piece) (sym size_front)
+      let own : length (take start chunk) ≡ length bytes + 0 = omega (arith, size) in
+      ap (λ (n : ℕ). drop n after) own ∙ drop-append-add bytes (drop start chunk) 0 ∙ ap (λ (n : ℕ). drop n chunk) (sym size_front)
 
-  pub empty_event : IsBytes piece → ((group : List Frame) → group ≡ [] → IsHead role limits group head (take start piece)) → head.first.fin ≡ true → head.first.op ≢ op.Close → encoded_form head.encoded head.len ≡ Shortest
-      → IsEventFrame role limits piece after (record { op = head.first.op; key = head.key; size = length (take start piece); len = 0 })
-  empty_event in_piece heads final no_close shortest = (no_close, ends)
+  pub empty_event : IsBytes chunk → ((group : List Frame) → group ≡ [] → IsHead role limits group head (take start chunk)) → head.first.fin ≡ true → head.first.op ≢ op.Close → encoded_form head.encoded head.len ≡ Shortest
+      → IsEventFrame role limits chunk after (record { op = head.first.op; key = head.key; size = length (take start chunk); len = 0 })
+  empty_event in_chunk heads final no_close shortest = (no_close, ends)
     where
-      ends : (fs : List Frame) → InRange limits → IsLawful role limits fs → HasNoClose fs → unfinished fs ≡ [] → EndsEventAt role limits fs piece after (record { op = head.first.op; key = head.key; size = length (take start piece); len = 0 })
+      ends : (fs : List Frame) → InRange limits → IsLawful role limits fs → HasNoClose fs → unfinished fs ≡ [] → EndsEventAt role limits fs chunk after (record { op = head.first.op; key = head.key; size = length (take start chunk); len = 0 })
       ends fs range lawful none_closed none =
           let group = unfinished fs in
           let h = heads [] refl in
-          let next = (checked role limits head (take start piece) h empty no_close).0 in
-          let joined : take start piece ++ [] ≡ take start piece = append-nil (take start piece) in
-          let of_group : HoldsPayload role limits group head next [] (take start piece) =
-          subst (λ (g : List Frame). HoldsPayload role limits g head next [] (take start piece)) (sym none) (holds role limits head (take start piece) h empty no_close) in
-          let holds_all : HoldsPayload role limits group head next [] (take start piece ++ []) =
+          let next = (checked role limits head (take start chunk) h empty no_close).0 in
+          let joined : take start chunk ++ [] ≡ take start chunk = append-nil (take start chunk) in
+          let of_group : HoldsPayload role limits group head next [] (take start chunk) =
+          subst (λ (g : List Frame). HoldsPayload role limits g head next [] (take start chunk)) (sym none) (holds role limits head (take start chunk) h empty no_close) in
+          let holds_all : HoldsPayload role limits group head next [] (take start chunk ++ []) =
           subst (λ (bs : List ℕ). HoldsPayload role limits group head next [] bs) (sym joined) of_group in
-          let in_front : IsBytes (take start piece ++ []) = subst IsBytes (sym joined) (bytes_take start piece in_piece) in
-          let was : take (length (take start piece)) piece ≡ take start piece ++ [] = ap (λ (n : ℕ). take n piece) size_front ∙ sym joined in
-          let is : take (length (take start piece)) after ≡ with_key_cleared head.key (take start piece) ++ unmasked_by head.key 0 [] =
-          ap (λ (n : ℕ). take n after) size_front ∙ front_after ∙ cleared ∙ sym (append-nil (with_key_cleared head.key (take start piece)))
-          ∙ ap (λ (bs : List ℕ). with_key_cleared head.key (take start piece) ++ bs) (sym (unmasked_by-nil head.key)) in
-          subst (λ (len : ℕ). EndsEventAt role limits fs piece after (record { op = head.first.op; key = head.key; size = length (take start piece); len = len })) empty
-          (ends_event role limits fs head next (take start piece) [] range lawful none (heads group none) holds_all (sym empty) in_front final shortest piece after (length (take start piece)) was is)
+          let in_front : IsBytes (take start chunk ++ []) = subst IsBytes (sym joined) (bytes_take start chunk in_chunk) in
+          let was : take (length (take start chunk)) chunk ≡ take start chunk ++ [] = ap (λ (n : ℕ). take n chunk) size_front ∙ sym joined in
+          let is : take (length (take start chunk)) after ≡ with_key_cleared head.key (take start chunk) ++ unmasked_by head.key 0 [] =
+          ap (λ (n : ℕ). take n after) size_front ∙ front_after ∙ cleared ∙ sym (append-nil (with_key_cleared head.key (take start chunk)))
+          ∙ ap (λ (bs : List ℕ). with_key_cleared head.key (take start chunk) ++ bs) (sym (unmasked_by-nil head.key)) in
+          subst (λ (len : ℕ). EndsEventAt role limits fs chunk after (record { op = head.first.op; key = head.key; size = length (take start chunk); len = len })) empty
+          (ends_event role limits fs head next (take start chunk) [] range lawful none (heads group none) holds_all (sym empty) in_front final shortest chunk after (length (take start chunk)) was is)

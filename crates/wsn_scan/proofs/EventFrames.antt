@@ -54,9 +54,9 @@ key_fits role limits group head bytes h = of head.key h.of_four h.whole
     of (Some key) four whole = let size : length bytes ≡ suc (suc (length (h.lengths ++ key))) = ap (λ (bs : List ℕ). length bs) whole in omega (arith, size, length-append h.lengths key, four.0)
 
 -- the first byte of a final frame, by its head
-pub first_of : (role : Role) (limits : Limits) (head : Head) (piece : List ℕ) (start : ℕ) → 0 < start → IsHead role limits [] head (take start piece) → head.first.fin ≡ true → take 1 piece ≡ first_byte true head.first.op ∷ []
-first_of role limits head piece start some h final =
-    sym (take-take 1 start piece (omega (arith, some))) ∙ ap (λ (bs : List ℕ). take 1 bs) h.whole ∙ ap (λ (fin : Bool). first_byte fin head.first.op ∷ []) final
+pub first_of : (role : Role) (limits : Limits) (head : Head) (chunk : List ℕ) (start : ℕ) → 0 < start → IsHead role limits [] head (take start chunk) → head.first.fin ≡ true → take 1 chunk ≡ first_byte true head.first.op ∷ []
+first_of role limits head chunk start some h final =
+    sym (take-take 1 start chunk (omega (arith, some))) ∙ ap (λ (bs : List ℕ). take 1 bs) h.whole ∙ ap (λ (fin : Bool). first_byte fin head.first.op ∷ []) final
 
 -- ---- the event
 
@@ -93,9 +93,9 @@ normal_of role limits fs f law none = by (is_control f.op) refl
 module _ (role : Role) (limits : Limits) (fs : List Frame) (head : Head) (check : PayloadCheck) (front wire : List ℕ) (range : InRange limits) (lawful : IsLawful role limits fs) (none : unfinished fs ≡ [])
     (is_head : IsHead role limits (unfinished fs) head front) (holds : HoldsPayload role limits (unfinished fs) head check wire (front ++ wire)) (all : length wire ≡ head.len)
     (in_bytes : IsBytes (front ++ wire)) (final : head.first.fin ≡ true) (shortest : encoded_form head.encoded head.len ≡ Shortest) where
-  pub ends_event : (piece after : List ℕ) (n : ℕ) → take n piece ≡ front ++ wire → take n after ≡ with_key_cleared head.key front ++ unmasked_by head.key 0 wire
-      → EndsEventAt role limits fs piece after (record { op = head.first.op; key = head.key; size = n; len = head.len })
-  ends_event piece after n was is =
+  pub ends_event : (chunk after : List ℕ) (n : ℕ) → take n chunk ≡ front ++ wire → take n after ≡ with_key_cleared head.key front ++ unmasked_by head.key 0 wire
+      → EndsEventAt role limits fs chunk after (record { op = head.first.op; key = head.key; size = n; len = head.len })
+  ends_event chunk after n was is =
       let w = whole_frame role limits (front ++ wire) wire fs head check range lawful in_bytes holds all in
       let encoded : front ≡ head_bytes head.first.fin head.first.op head.key Shortest head.len =
       head_encoded role limits fs head front is_head (front_without_evidence role limits (unfinished fs) front wire holds.has_no_evidence)
@@ -117,40 +117,40 @@ module _ (role : Role) (limits : Limits) (fs : List Frame) (head : Head) (check 
             ∙ ap (λ (f : Frame). frame_bytes f) (sym (normal_of role limits fs w.frame w.law none));
       }
 
--- ---- the piece after both writes: the payload from `start` to `end`, and then the head
+-- ---- the chunk after both writes: the payload from `start` to `end`, and then the head
 
-module _ (key : Option (List ℕ)) (start end : ℕ) (piece new : List ℕ) (ordered : start ≤ end) (within : end ≤ length piece) (unmasked : new ≡ unmasked_by key 0 (mid_of start (end - start) piece)) where
-  abbrev unmasked_piece : List ℕ
-  unmasked_piece = put_mid start (end - start) piece new
+module _ (key : Option (List ℕ)) (start end : ℕ) (chunk new : List ℕ) (ordered : start ≤ end) (within : end ≤ length chunk) (unmasked : new ≡ unmasked_by key 0 (mid_of start (end - start) chunk)) where
+  abbrev unmasked_chunk : List ℕ
+  unmasked_chunk = put_mid start (end - start) chunk new
 
-  same_front : take start unmasked_piece ≡ take start piece
-  same_front = take_put start (end - start) piece new (omega arith)
+  same_front : take start unmasked_chunk ≡ take start chunk
+  same_front = take_put start (end - start) chunk new (omega arith)
 
-  size_front : length (take start unmasked_piece) ≡ start
-  size_front = ap (λ (bs : List ℕ). length bs) same_front ∙ length-take-le start piece (omega arith)
+  size_front : length (take start unmasked_chunk) ≡ start
+  size_front = ap (λ (bs : List ℕ). length bs) same_front ∙ length-take-le start chunk (omega arith)
 
   -- the head keeps room for its key
-  pub key_room : IfSome key (λ k. 4 ≤ length (take start piece)) → IfSome key (λ k. 4 ≤ length (take start unmasked_piece))
+  pub key_room : IfSome key (λ k. 4 ≤ length (take start chunk)) → IfSome key (λ k. 4 ≤ length (take start unmasked_chunk))
   key_room fits = subst (λ (bs : List ℕ). IfSome key (λ k. 4 ≤ length bs)) (sym same_front) fits
 
   -- the bytes after the frame are unchanged
-  pub kept_before : (head : List ℕ) → length head ≡ length (take start unmasked_piece) → drop end (head ++ drop start unmasked_piece) ≡ drop end piece
+  pub kept_before : (head : List ℕ) → length head ≡ length (take start unmasked_chunk) → drop end (head ++ drop start unmasked_chunk) ≡ drop end chunk
   kept_before head size =
       let sum : end ≡ length head + (end - start) = omega (arith, size, size_front) in
-      let own : end ≡ length (take start unmasked_piece) + (end - start) = omega (arith, size_front) in
-      ap (λ (n : ℕ). drop n (head ++ drop start unmasked_piece)) sum
-      ∙ drop-append-add head (drop start unmasked_piece) (end - start)
-      ∙ sym (drop-append-add (take start unmasked_piece) (drop start unmasked_piece) (end - start))
-      ∙ ap (λ (n : ℕ). drop n (take start unmasked_piece ++ drop start unmasked_piece)) (sym own)
-      ∙ ap (drop end) (take-append-drop start unmasked_piece)
-      ∙ kept_after_frame key start end piece new ordered within unmasked
+      let own : end ≡ length (take start unmasked_chunk) + (end - start) = omega (arith, size_front) in
+      ap (λ (n : ℕ). drop n (head ++ drop start unmasked_chunk)) sum
+      ∙ drop-append-add head (drop start unmasked_chunk) (end - start)
+      ∙ sym (drop-append-add (take start unmasked_chunk) (drop start unmasked_chunk) (end - start))
+      ∙ ap (λ (n : ℕ). drop n (take start unmasked_chunk ++ drop start unmasked_chunk)) (sym own)
+      ∙ ap (drop end) (take-append-drop start unmasked_chunk)
+      ∙ kept_after_frame key start end chunk new ordered within unmasked
 
   -- the frame's bytes are the head without its key, and the payload
-  pub written_after : (head : List ℕ) → head ≡ with_key_cleared key (take start unmasked_piece) → length head ≡ length (take start unmasked_piece)
-      → take end (head ++ drop start unmasked_piece) ≡ with_key_cleared key (take start piece) ++ unmasked_by key 0 (mid_of start (end - start) piece)
+  pub written_after : (head : List ℕ) → head ≡ with_key_cleared key (take start unmasked_chunk) → length head ≡ length (take start unmasked_chunk)
+      → take end (head ++ drop start unmasked_chunk) ≡ with_key_cleared key (take start chunk) ++ unmasked_by key 0 (mid_of start (end - start) chunk)
   written_after head is size =
       let sum : end ≡ length head + (end - start) = omega (arith, size, size_front) in
-      ap (λ (n : ℕ). take n (head ++ drop start unmasked_piece)) sum
-      ∙ take-append-add head (drop start unmasked_piece) (end - start)
-      ∙ ap (λ (bs : List ℕ). bs ++ mid_of start (end - start) unmasked_piece) (is ∙ ap (with_key_cleared key) same_front)
-      ∙ ap (λ (bs : List ℕ). with_key_cleared key (take start piece) ++ bs) (payload_after key start end piece new ordered within unmasked)
+      ap (λ (n : ℕ). take n (head ++ drop start unmasked_chunk)) sum
+      ∙ take-append-add head (drop start unmasked_chunk) (end - start)
+      ∙ ap (λ (bs : List ℕ). bs ++ mid_of start (end - start) unmasked_chunk) (is ∙ ap (with_key_cleared key) same_front)
+      ∙ ap (λ (bs : List ℕ). with_key_cleared key (take start chunk) ++ bs) (payload_after key start end chunk new ordered within unmasked)

@@ -19,7 +19,7 @@ use Rattle.wsn_scan.specs.EventFrames.{IsIdle, TakesEvents, info_found}
 use Rattle.wsn_scan.proofs.EventRuns.{TakesEvent}
 use Rattle.wsn_scan.proofs.HeadsReported.{heads_push}
 use Rattle.wsn_scan.proofs.FrameEnds.{frames_few}
-use Rattle.wsn_scan.proofs.FedPieces.{takes_none}
+use Rattle.wsn_scan.proofs.FedChunks.{takes_none}
 
 heads_from-append : (place : ℕ) (fs gs : List Frame) (next : ℕ) → place + length (stream fs) ≡ next → heads_from place (fs ++ gs) ≡ heads_from place fs ++ heads_from next gs
 heads_from-append place [] gs next is = let same : place ≡ next = omega (arith, is) in ap (λ (n : ℕ). heads_from n gs) same
@@ -56,35 +56,35 @@ alike fs gs first second is =
     let size : 0 ≡ length (stream more.0) = ap (λ (bs : List ℕ). length bs) more.2 in
     sym (more.1 ∙ ap (λ (hs : List Frame). fs ++ hs) (none_of more.0 (sym size)) ∙ append-nil fs)
 
-module _ (old new : Scan) (piece after : List ℕ) (n : ℕ) (idle : IsIdle old) (takes : TakesEvents old new piece after n) where
+module _ (old new : Scan) (chunk after : List ℕ) (n : ℕ) (idle : IsIdle old) (takes : TakesEvents old new chunk after n) where
   -- What was taken after these frames: some frames more, whose bytes are these.
   record IsMore (role : Role) (limits : Limits) (bytes : List ℕ) (fs : List Frame) : Type 0 where
     pub more : List Frame
-    pub spells : take n piece ≡ stream more
+    pub spells : take n chunk ≡ stream more
     pub spellable : AreSpellable more
     pub place : length bytes ≡ length (stream fs)
-    pub has_scanned : HasScanned role limits new (bytes ++ take n piece) (fs ++ more) [] BetweenFrames
+    pub has_scanned : HasScanned role limits new (bytes ++ take n chunk) (fs ++ more) [] BetweenFrames
 
   more_of : (role : Role) (limits : Limits) (bytes since : List ℕ) (fs : List Frame) (at : Position) → HasScanned role limits old bytes fs since at → IsMore role limits bytes fs × (at ≡ BetweenFrames)
   more_of role limits bytes since fs at has =
       let is : IsAt role limits stages.Between bytes fs since at = subst (λ (stage : Stage). IsAt role limits stage bytes fs since at) idle.0 has.is_at in
       let one = takes role limits bytes since fs at has in
       let before : bytes ≡ stream fs = has.has_consumed.whole ∙ ap (λ (bs : List ℕ). stream fs ++ bs) is.1 ∙ append-nil (stream fs) in
-      let whole : stream one.frames ≡ stream fs ++ take n piece =
-      sym (append-nil (stream one.frames)) ∙ sym one.has_scanned.has_consumed.whole ∙ ap (λ (bs : List ℕ). bs ++ take n piece) before in
+      let whole : stream one.frames ≡ stream fs ++ take n chunk =
+      sym (append-nil (stream one.frames)) ∙ sym one.has_scanned.has_consumed.whole ∙ ap (λ (bs : List ℕ). bs ++ take n chunk) before in
       let second = spellable_of_lawful role limits one.frames one.has_scanned.has_consumed.lawful in
-      let on = further fs one.frames (take n piece) (spellable_of_lawful role limits fs has.has_consumed.lawful) second whole in (
+      let on = further fs one.frames (take n chunk) (spellable_of_lawful role limits fs has.has_consumed.lawful) second whole in (
         record {
           more = on.0;
           spells = on.2;
           spellable = spellable_after fs on.0 (subst (λ (hs : List Frame). AreSpellable hs) on.1 second);
           place = ap (λ (bs : List ℕ). length bs) before;
-          has_scanned = subst (λ (hs : List Frame). HasScanned role limits new (bytes ++ take n piece) hs [] BetweenFrames) on.1 one.has_scanned;
+          has_scanned = subst (λ (hs : List Frame). HasScanned role limits new (bytes ++ take n chunk) hs [] BetweenFrames) on.1 one.has_scanned;
         },
         is.2,
       )
 
-  pub events_prefix : IsRunning old → (more : List HeadInfo) × ConsumesPrefix old new piece n more
+  pub events_prefix : IsRunning old → (more : List HeadInfo) × ConsumesPrefix old new chunk n more
   events_prefix running = (heads_from place first.more, prefix)
     where
       first : IsMore running.role running.limits running.bytes running.taken.frames
@@ -93,7 +93,7 @@ module _ (old new : Scan) (piece after : List ℕ) (n : ℕ) (idle : IsIdle old)
       place : ℕ
       place = length running.bytes
 
-      prefix : ConsumesPrefix old new piece n (heads_from place first.more)
+      prefix : ConsumesPrefix old new chunk n (heads_from place first.more)
       prefix role limits bytes heads taken =
           let fs = taken.frames in
           let both = more_of role limits bytes taken.since fs taken.position taken.has_scanned in
@@ -116,21 +116,21 @@ module _ (old new : Scan) (piece after : List ℕ) (n : ℕ) (idle : IsIdle old)
           }
 
 -- the same if it may take none
-pub events_taken : (old new : Scan) (piece after : List ℕ) (n : ℕ) → (0 < n → IsIdle old × TakesEvents old new piece after n) → (n ≡ 0 → (new ≡ old) × (after ≡ piece)) → IsRunning old
-    → (more : List HeadInfo) × ConsumesPrefix old new piece n more
-events_taken old new piece after n some none running =
+pub events_taken : (old new : Scan) (chunk after : List ℕ) (n : ℕ) → (0 < n → IsIdle old × TakesEvents old new chunk after n) → (n ≡ 0 → (new ≡ old) × (after ≡ chunk)) → IsRunning old
+    → (more : List HeadInfo) × ConsumesPrefix old new chunk n more
+events_taken old new chunk after n some none running =
     elim (cases_eq n 0) [
       | inl zero ↦
           let same = (none zero).0 in
-          ([], subst (λ (scan : Scan). ConsumesPrefix old scan piece n []) (sym same) (subst (λ (k : ℕ). ConsumesPrefix old old piece k []) (sym zero) (takes_none old piece)))
-      | inr more ↦ let took = some (omega (arith, more)) in events_prefix old new piece after n took.0 took.1 running
+          ([], subst (λ (scan : Scan). ConsumesPrefix old scan chunk n []) (sym same) (subst (λ (k : ℕ). ConsumesPrefix old old chunk k []) (sym zero) (takes_none old chunk)))
+      | inr more ↦ let took = some (omega (arith, more)) in events_prefix old new chunk after n took.0 took.1 running
     ]
 
 -- ---- one frame
 
--- Whatever the scan has consumed, it consumes the frame at the start of the piece too, and takes its head.
-pub event_head : (old new : Scan) (piece after : List ℕ) (found : EventFrame) → IsIdle old → TakesEvent old new piece after found → ConsumesPrefix old new piece found.size (info_found old.used found ∷ [])
-event_head old new piece after found idle takes role limits bytes heads taken =
+-- Whatever the scan has consumed, it consumes the frame at the start of the chunk too, and takes its head.
+pub event_head : (old new : Scan) (chunk after : List ℕ) (found : EventFrame) → IsIdle old → TakesEvent old new chunk after found → ConsumesPrefix old new chunk found.size (info_found old.used found ∷ [])
+event_head old new chunk after found idle takes role limits bytes heads taken =
     let fs = taken.frames in
     let has = taken.has_scanned in
     let is : IsAt role limits stages.Between bytes fs taken.since taken.position = subst (λ (stage : Stage). IsAt role limits stage bytes fs taken.since taken.position) idle.0 has.is_at in

@@ -1,4 +1,4 @@
--- A frame that ends an event, as the part of a piece that is all of the frame.
+-- A frame that ends an event, as the part of a chunk that is all of the frame.
 use Rattle.std.proofs.Common.{◌≡◌, ℕ, ◌+◌, ◌-◌, ◌<◌, ◌≤◌, true, false, List, [], ◌∷◌, ◌++◌, length, take, drop, refl, sym, ap, ◌∙◌, subst, arith, length-append}
 use Rattle.std.proofs.lemmas.List.{length-take-le}
 use Rattle.std.proofs.Math.Seq.{drop-append-add}
@@ -25,9 +25,9 @@ use Rattle.wsn_scan.proofs.EventFrames.{normal_of, normal_wire}
 use Rattle.wsn_scan.proofs.EventRuns.{TakesEvent}
 
 -- what the frame's place has after its head is its payload
-payload_is : (role : Role) (limits : Limits) (fs : List Frame) (piece after : List ℕ) (found : EventFrame) (ends : EndsEventAt role limits fs piece after found) → unfinished fs ≡ [] → found.size ≤ length after
+payload_is : (role : Role) (limits : Limits) (fs : List Frame) (chunk after : List ℕ) (found : EventFrame) (ends : EndsEventAt role limits fs chunk after found) → unfinished fs ≡ [] → found.size ≤ length after
     → drop (found.size - found.len) (take found.size after) ≡ ends.frame.payload
-payload_is role limits fs piece after found ends none fits =
+payload_is role limits fs chunk after found ends none fits =
     let f = ends.frame in
     let head = head_bytes true f.op (normal_key role) Shortest (length f.payload) in
     let bytes : take found.size after ≡ head ++ f.payload =
@@ -37,12 +37,12 @@ payload_is role limits fs piece after found ends none fits =
     let start : found.size - found.len ≡ length head + 0 = omega (arith, size, sum, ends.size) in
     ap (λ (bs : List ℕ). drop (found.size - found.len) bs) bytes ∙ ap (λ (n : ℕ). drop n (head ++ f.payload)) start ∙ drop-append-add head f.payload 0
 
--- Whatever the scan has consumed, it takes the frame at the start of the piece as one part.
-pub event_part : (old new : Scan) (piece after : List ℕ) (found : EventFrame) → IsIdle old → (IsBytes piece → TakesEvent old new piece after found) → 0 < found.size → found.size ≤ length after
-    → AdvancesFrom old.stage old new piece after found.size taken.Part (whole_part (info_found old.used found) found.size)
-event_part old new piece after found idle takes some fits role limits bytes rest fs at in_piece has =
+-- Whatever the scan has consumed, it takes the frame at the start of the chunk as one part.
+pub event_part : (old new : Scan) (chunk after : List ℕ) (found : EventFrame) → IsIdle old → (IsBytes chunk → TakesEvent old new chunk after found) → 0 < found.size → found.size ≤ length after
+    → AdvancesFrom old.stage old new chunk after found.size taken.Part (whole_part (info_found old.used found) found.size)
+event_part old new chunk after found idle takes some fits role limits bytes rest fs at in_chunk has =
     let is : IsAt role limits stages.Between bytes fs rest at = subst (λ (stage : Stage). IsAt role limits stage bytes fs rest at) idle.0 has.is_at in
-    let one = takes in_piece role limits bytes rest fs at has in
+    let one = takes in_chunk role limits bytes rest fs at has in
     let ends = one.ends in
     let part = whole_part (info_found old.used found) found.size in
     let head : info_found old.used found ≡ info_of (length (stream fs)) ends.frame =
@@ -57,7 +57,7 @@ event_part old new piece after found idle takes some fits role limits bytes rest
           is_at = subst (λ (p : Position). IsPartAt p part []) (sym is.2) (refl, refl);
           goes_on = record {
             within = λ no. let both : true ≡ false = no in absurd cc;
-            ends = λ yes. (ends.frame, head, sym (payload_is role limits fs piece after found ends one.none_before fits), refl, refl);
+            ends = λ yes. (ends.frame, head, sym (payload_is role limits fs chunk after found ends one.none_before fits), refl, refl);
           };
         };
       },

@@ -39,13 +39,13 @@ pub normal_form_push : (role : Role) (events : List MeantEvent) (e : MeantEvent)
 normal_form_push role events e =
     normal_form-append role events (e ∷ []) ∙ ap (λ (bs : List ℕ). normal_form role events ++ bs) (append-nil (frame_bytes (normal_frame role e)))
 
--- ---- the scan after a part of the piece
+-- ---- the scan after a part of the chunk
 
 -- The scan after `at` bytes of frames without a message open, with these counts.
 abbrev pub after_frames : Scan → ℕ → Counts → Scan
 after_frames scan at counts = record scan { room = scan.room - at; used = scan.context.limits.input - (scan.room - at); counts = counts }
 
--- what a call wrote to the start of a part is the piece's next bytes
+-- what a call wrote to the start of a part is the chunk's next bytes
 pub taken_with : (at n : ℕ) (here new : List ℕ) → at ≤ length here → n ≤ length new → take (at + n) (put_mid at (length here - at) here new) ≡ take at here ++ take n new
 taken_with at n here new within fits =
     let size : length (take at here) ≡ at = length-take-le at here within in
@@ -71,18 +71,18 @@ pub record IsPastEvent (old new : Scan) (found : EventFrame) : Type 0 where
   pub counts : (fs : List Frame) (f : Frame) → AreCounts old.counts fs → length fs < 2 ^ 63 → f.fin ≡ true → f.op ≡ found.op → AreCounts new.counts (fs ++ f ∷ [])
 
 -- The scan has consumed one frame more.
-module _ (role : Role) (limits : Limits) (old new : Scan) (bytes piece after : List ℕ) (fs : List Frame) (found : EventFrame) (pos : Position) where
-  one_more : HasScannedAt role limits old stages.Between bytes fs [] pos → unfinished fs ≡ [] → (ends : EndsEventAt role limits fs piece after found) → (found.op ≡ Close → ⊥) → found.size ≤ length piece → IsBytes piece → IsPastEvent old new found
-      → HasScanned role limits new (bytes ++ take found.size piece) (fs ++ ends.frame ∷ []) [] BetweenFrames
-  one_more has none ends no_more within in_piece past =
+module _ (role : Role) (limits : Limits) (old new : Scan) (bytes chunk after : List ℕ) (fs : List Frame) (found : EventFrame) (pos : Position) where
+  one_more : HasScannedAt role limits old stages.Between bytes fs [] pos → unfinished fs ≡ [] → (ends : EndsEventAt role limits fs chunk after found) → (found.op ≡ Close → ⊥) → found.size ≤ length chunk → IsBytes chunk → IsPastEvent old new found
+      → HasScanned role limits new (bytes ++ take found.size chunk) (fs ++ ends.frame ∷ []) [] BetweenFrames
+  one_more has none ends no_more within in_chunk past =
       let hc = has.has_consumed in
       let f = ends.frame in
       let all = fs ++ f ∷ [] in
-      let came = take found.size piece in
+      let came = take found.size chunk in
       let whole : bytes ++ came ≡ stream all =
       ap (λ (bs : List ℕ). bs ++ came) (hc.whole ∙ append-nil (stream fs)) ∙ ap (λ (bs : List ℕ). stream fs ++ bs) (sym ends.bytes_are) ∙ sym (stream_push fs f) in
       let size : length (bytes ++ came) ≡ length bytes + length came = length-append bytes came in
-      let size_came : length came ≡ found.size = length-take-le found.size piece within in
+      let size_came : length came ≡ found.size = length-take-le found.size chunk within in
       let size_whole : length (bytes ++ came) ≡ length (stream all) = ap (λ (bs : List ℕ). length bs) whole in
       let size_done : length bytes ≡ length (stream fs) = ap (λ (bs : List ℕ). length bs) (hc.whole ∙ append-nil (stream fs)) in
       let input : old.context.limits.input ≡ limits.input = ap (λ (b : Limits). b.input) hc.under in
@@ -95,7 +95,7 @@ module _ (role : Role) (limits : Limits) (old new : Scan) (bytes piece after : L
           in_range = hc.in_range;
           lawful = lawful_push role limits fs f hc.lawful no_close ends.law;
           whole = whole ∙ sym (append-nil (stream all));
-          in_bytes = IsBytes-append bytes came hc.in_bytes (bytes_take found.size piece in_piece);
+          in_bytes = IsBytes-append bytes came hc.in_bytes (bytes_take found.size chunk in_chunk);
           room = omega (arith, hc.room, size, size_came, past.room);
           used = omega (arith, hc.room, size, size_came, size_whole, input, past.room, past.used);
           counts = past.counts fs f hc.counts few ends.final ends.op_is;
@@ -109,43 +109,43 @@ module _ (role : Role) (limits : Limits) (old new : Scan) (bytes piece after : L
 
 -- After the frames fs, which leave no message open, the scan has consumed one frame more, up to the end of these bytes.
 -- It is the found frame.
-pub record ConsumesEvent (role : Role) (limits : Limits) (new : Scan) (bytes : List ℕ) (fs : List Frame) (piece after : List ℕ) (found : EventFrame) : Type 0 where
+pub record ConsumesEvent (role : Role) (limits : Limits) (new : Scan) (bytes : List ℕ) (fs : List Frame) (chunk after : List ℕ) (found : EventFrame) : Type 0 where
   pub none_before : unfinished fs ≡ []
-  pub ends : EndsEventAt role limits fs piece after found
+  pub ends : EndsEventAt role limits fs chunk after found
   pub has_scanned : HasScanned role limits new bytes (fs ++ ends.frame ∷ []) [] BetweenFrames
 
--- Whatever the scan has consumed, it consumes the frame at the start of the piece, which ends an event.
+-- Whatever the scan has consumed, it consumes the frame at the start of the chunk, which ends an event.
 abbrev pub TakesEvent : Scan → Scan → List ℕ → List ℕ → EventFrame → Type 0
-TakesEvent old new piece after found =
+TakesEvent old new chunk after found =
     (role : Role) (limits : Limits) (bytes since : List ℕ) (fs : List Frame) (pos : Position) →
-    HasScanned role limits old bytes fs since pos → ConsumesEvent role limits new (bytes ++ take found.size piece) fs piece after found
+    HasScanned role limits old bytes fs since pos → ConsumesEvent role limits new (bytes ++ take found.size chunk) fs chunk after found
 
-pub takes_event : (old new : Scan) (piece after : List ℕ) (found : EventFrame) → IsIdle old → IsPastEvent old new found → found.size ≤ length piece → IsBytes piece → IsEventFrame old.context.role old.context.limits piece after found
-    → TakesEvent old new piece after found
-takes_event old new piece after found idle past within in_piece is role limits bytes since fs pos has =
+pub takes_event : (old new : Scan) (chunk after : List ℕ) (found : EventFrame) → IsIdle old → IsPastEvent old new found → found.size ≤ length chunk → IsBytes chunk → IsEventFrame old.context.role old.context.limits chunk after found
+    → TakesEvent old new chunk after found
+takes_event old new chunk after found idle past within in_chunk is role limits bytes since fs pos has =
     let hc = has.has_consumed in
     let at : IsAt role limits stages.Between bytes fs since pos = subst (λ (stage : Stage). IsAt role limits stage bytes fs since pos) idle.0 has.is_at in
     let none : unfinished fs ≡ [] = subst (λ (m : Option OpenMessage). IsOpenMessage m (unfinished fs)) idle.1 hc.message in
     let between : HasScannedAt role limits old stages.Between bytes fs [] pos =
     subst (λ (rest : List ℕ). HasScannedAt role limits old stages.Between bytes fs rest pos) at.1 (record { has_consumed = hc; is_at = at }) in
-    let of_role : IsEventFrame role old.context.limits piece after found = subst (λ (r : Role). IsEventFrame r old.context.limits piece after found) hc.sender is in
-    let event : IsEventFrame role limits piece after found = subst (λ (b : Limits). IsEventFrame role b piece after found) hc.under of_role in
+    let of_role : IsEventFrame role old.context.limits chunk after found = subst (λ (r : Role). IsEventFrame r old.context.limits chunk after found) hc.sender is in
+    let event : IsEventFrame role limits chunk after found = subst (λ (b : Limits). IsEventFrame role b chunk after found) hc.under of_role in
     let ends = event.1 fs hc.in_range hc.lawful at.0 none in
-    record { none_before = none; ends = ends; has_scanned = one_more role limits old new bytes piece after fs found pos between none ends event.0 within in_piece past }
+    record { none_before = none; ends = ends; has_scanned = one_more role limits old new bytes chunk after fs found pos between none ends event.0 within in_chunk past }
 
 -- ---- a run
 
-module _ (scan : Scan) (idle : IsIdle scan) (piece : List ℕ) where
+module _ (scan : Scan) (idle : IsIdle scan) (chunk : List ℕ) where
   -- nothing consumed yet
   begun : (role : Role) (limits : Limits) (bytes since : List ℕ) (fs : List Frame) (pos : Position) → HasScanned role limits scan bytes fs since pos
-      → HasScanned role limits (after_frames scan 0 scan.counts) (bytes ++ take 0 piece) fs [] BetweenFrames
+      → HasScanned role limits (after_frames scan 0 scan.counts) (bytes ++ take 0 chunk) fs [] BetweenFrames
   begun role limits bytes since fs pos has =
       let hc = has.has_consumed in
       let at : IsAt role limits stages.Between bytes fs since pos = subst (λ (stage : Stage). IsAt role limits stage bytes fs since pos) idle.0 has.is_at in
-      let same : bytes ++ take 0 piece ≡ bytes = append-nil bytes in
-      let whole : bytes ++ take 0 piece ≡ stream fs ++ [] = same ∙ hc.whole ∙ ap (λ (bs : List ℕ). stream fs ++ bs) at.1 in
+      let same : bytes ++ take 0 chunk ≡ bytes = append-nil bytes in
+      let whole : bytes ++ take 0 chunk ≡ stream fs ++ [] = same ∙ hc.whole ∙ ap (λ (bs : List ℕ). stream fs ++ bs) at.1 in
       let size : length bytes ≡ length (stream fs) = ap (λ (bs : List ℕ). length bs) (sym same ∙ whole ∙ append-nil (stream fs)) in
-      let size_too : length (bytes ++ take 0 piece) ≡ length bytes = ap (λ (bs : List ℕ). length bs) same in
+      let size_too : length (bytes ++ take 0 chunk) ≡ length bytes = ap (λ (bs : List ℕ). length bs) same in
       let input : scan.context.limits.input ≡ limits.input = ap (λ (b : Limits). b.input) hc.under in
       record {
         has_consumed = record {
@@ -160,10 +160,10 @@ module _ (scan : Scan) (idle : IsIdle scan) (piece : List ℕ) where
           counts = hc.counts;
           message = hc.message;
         };
-        is_at = subst (λ (stage : Stage). IsAt role limits stage (bytes ++ take 0 piece) fs [] BetweenFrames) (sym idle.0) (at.0, refl, refl);
+        is_at = subst (λ (stage : Stage). IsAt role limits stage (bytes ++ take 0 chunk) fs [] BetweenFrames) (sym idle.0) (at.0, refl, refl);
       }
 
-  pub begins : TakesEvents scan (after_frames scan 0 scan.counts) piece piece 0
+  pub begins : TakesEvents scan (after_frames scan 0 scan.counts) chunk chunk 0
   begins role limits bytes since fs pos has = record {
     frames = fs;
     events = [];
@@ -174,19 +174,19 @@ module _ (scan : Scan) (idle : IsIdle scan) (piece : List ℕ) where
   }
 
   -- one frame more
-  pub goes_on : (here share new after : List ℕ) (at : ℕ) (counts next : Counts) (found : EventFrame) → TakesEvents scan (after_frames scan at counts) piece here at
-      → share ≡ drop at piece → TakesEvent (after_frames scan at counts) (after_frames scan (at + found.size) next) share new found
-      → take (at + found.size) after ≡ take at here ++ take found.size new → TakesEvents scan (after_frames scan (at + found.size) next) piece after (at + found.size)
+  pub goes_on : (here share new after : List ℕ) (at : ℕ) (counts next : Counts) (found : EventFrame) → TakesEvents scan (after_frames scan at counts) chunk here at
+      → share ≡ drop at chunk → TakesEvent (after_frames scan at counts) (after_frames scan (at + found.size) next) share new found
+      → take (at + found.size) after ≡ take at here ++ take found.size new → TakesEvents scan (after_frames scan (at + found.size) next) chunk after (at + found.size)
   goes_on here share new after at counts next found so_far is takes after_is role limits bytes since fs pos has =
       let sofar = so_far role limits bytes since fs pos has in
       let done = sofar.frames in
-      let one = takes role limits (bytes ++ take at piece) [] done BetweenFrames sofar.has_scanned in
+      let one = takes role limits (bytes ++ take at chunk) [] done BetweenFrames sofar.has_scanned in
       let ends = one.ends in
       let f = ends.frame in
       let all = done ++ f ∷ [] in
       let n = found.size in
-      let joined : bytes ++ take (at + n) piece ≡ (bytes ++ take at piece) ++ take n share =
-      ap (λ (bs : List ℕ). bytes ++ bs) (take-add at n piece ∙ ap (λ (bs : List ℕ). take at piece ++ take n bs) (sym is)) ∙ sym (append_assoc bytes (take at piece) (take n share)) in
+      let joined : bytes ++ take (at + n) chunk ≡ (bytes ++ take at chunk) ++ take n share =
+      ap (λ (bs : List ℕ). bytes ++ bs) (take-add at n chunk ∙ ap (λ (bs : List ℕ). take at chunk ++ take n bs) (sym is)) ∙ sym (append_assoc bytes (take at chunk) (take n share)) in
       let e = event_at done f in
       record {
         frames = all;

@@ -14,12 +14,11 @@ use Rattle.wsn_rules.specs.declared.verdict.Refusal.{Refusal}
 use Rattle.wsn_rules.specs.declared.verdict.Verdict.{Verdict}
 use Rattle.wsn_rules.specs.Limits.{Limits}
 use Rattle.wsn_rules.specs.Accepted.{HasNoClose, EndsWithClose}
-use Rattle.wsn_rules.specs.Evidence.{IsOfText}
+use Rattle.wsn_rules.specs.Evidence.{IsOfText, HasNoEvidence}
 use Rattle.wsn_rules.specs.Group.{unfinished, first_op, payload_of}
 use Rattle.wsn_rules.specs.BadCharacter.{payload_offset}
 use Rattle.wsn_rules.specs.Heads.{heads_of, info_of, BeginsWithHead, IsBegun, AreHeads}
 use Rattle.wsn_rules.specs.Lawful.{IsLawful}
-use Rattle.wsn_rules.specs.NoEvidence.{HasNoEvidence}
 use Rattle.wsn_rules.specs.ShownStream.{frame_so_far}
 use Rattle.wsn_rules.specs.Verdict.{IsVerdict}
 use Rattle.wsn_rules.proofs.Groups.{group_of_lawful}
@@ -203,14 +202,14 @@ module _ (role : Role) (limits : Limits) where
 
   -- ---- a call
 
-  module _ (old new : Scan) (piece after : List ℕ) (n : ℕ) (found : Taken) (part : Part) (came : List ℕ) (done : List Frame) (at : Position) (rest : List ℕ) (h : HasFollowed role limits old came done at rest) (call : IsCall old new piece after n found part) where
+  module _ (old new : Scan) (chunk after : List ℕ) (n : ℕ) (found : Taken) (part : Part) (came : List ℕ) (done : List Frame) (at : Position) (rest : List ℕ) (h : HasFollowed role limits old came done at rest) (call : IsCall old new chunk after n found part) where
     abbrev share : List ℕ
-    share = take n piece
+    share = take n chunk
 
     pub size_of_share : length share ≡ n
-    size_of_share = length-take-le n piece call.within
+    size_of_share = length-take-le n chunk call.within
 
-    pub reached : IsReachedBy role limits new (came ++ share) (Finds found part (drop part.start (take n after)) done at) × Consumes found part (length piece) n
+    pub reached : IsReachedBy role limits new (came ++ share) (Finds found part (drop part.start (take n after)) done at) × Consumes found part (length chunk) n
     reached = call.advances role limits came rest done at call.in_bytes h.has_scanned
 
     pub same_whole : stream done ++ (rest ++ share) ≡ stream reached.0.frames ++ reached.0.since
@@ -257,21 +256,21 @@ module _ (role : Role) (limits : Limits) where
               absurd (omega (arith, before, now, length-append rest share, size_of_share, some))
 
   -- A part was taken.
-  module _ (old new : Scan) (piece after : List ℕ) (n : ℕ) (part : Part) (came : List ℕ) (done : List Frame) (at : Position) (rest : List ℕ) (h : HasFollowed role limits old came done at rest) (call : IsCall old new piece after n taken.Part part) where
-    pub reach : IsReachedBy role limits new (came ++ take n piece) (IsPart done at part (drop part.start (take n after)))
-    reach = (reached old new piece after n taken.Part part came done at rest h call).0
+  module _ (old new : Scan) (chunk after : List ℕ) (n : ℕ) (part : Part) (came : List ℕ) (done : List Frame) (at : Position) (rest : List ℕ) (h : HasFollowed role limits old came done at rest) (call : IsCall old new chunk after n taken.Part part) where
+    pub reach : IsReachedBy role limits new (came ++ take n chunk) (IsPart done at part (drop part.start (take n after)))
+    reach = (reached old new chunk after n taken.Part part came done at rest h call).0
 
-    same_size : length (stream done) + (length rest + length (take n piece)) ≡ length (stream reach.frames) + length reach.since
+    same_size : length (stream done) + (length rest + length (take n chunk)) ≡ length (stream reach.frames) + length reach.since
     unfolding reach reached
     same_size =
-        let all = ap (λ (bs : List ℕ). length bs) (same_whole old new piece after n taken.Part part came done at rest h call) in
-        omega (arith, all, length-append (stream done) (rest ++ take n piece), length-append rest (take n piece), length-append (stream reach.frames) reach.since)
+        let all = ap (λ (bs : List ℕ). length bs) (same_whole old new chunk after n taken.Part part came done at rest h call) in
+        omega (arith, all, length-append (stream done) (rest ++ take n chunk), length-append rest (take n chunk), length-append (stream reach.frames) reach.since)
 
     abbrev payload : List ℕ
     payload = reach.found.before ++ drop part.start (take n after)
 
     -- The payload that was taken is at the end of the bytes.
-    payload_at_end : (part.ends ≡ true → reach.since ≡ []) → payload_offset part.head + length payload ≡ length (stream done) + (length rest + length (take n piece))
+    payload_at_end : (part.ends ≡ true → reach.since ≡ []) → payload_offset part.head + length payload ≡ length (stream done) + (length rest + length (take n chunk))
     unfolding reach reached
     payload_at_end no_rest =
         elim (cases_Bool part.ends) [
@@ -280,7 +279,7 @@ module _ (role : Role) (limits : Limits) where
         ]
       where
         at_frame_end : ((frame : Frame) × (part.head ≡ info_of (length (stream done)) frame) × (frame.payload ≡ payload) × (reach.frames ≡ done ++ frame ∷ []) × (reach.position ≡ BetweenFrames)) → reach.since ≡ []
-            → payload_offset part.head + length payload ≡ length (stream done) + (length rest + length (take n piece))
+            → payload_offset part.head + length payload ≡ length (stream done) + (length rest + length (take n chunk))
         at_frame_end (frame, head_is, payload_is, frames_are, there) none =
             let head : payload_offset part.head ≡ payload_offset (info_of (length (stream done)) frame) = ap payload_offset head_is in
             let size : length payload ≡ length frame.payload = ap (λ (bs : List ℕ). length bs) (sym payload_is) in
@@ -290,22 +289,22 @@ module _ (role : Role) (limits : Limits) where
             ap (λ (gs : List Frame). length (stream gs)) frames_are ∙ ap (λ (bs : List ℕ). length bs) (stream_push done frame) ∙ length-append (stream done) (frame_bytes frame) in
             omega (arith, head, size, own, wire, all, same_size, ap (λ (bs : List ℕ). length bs) none)
 
-        in_the_frame : (reach.frames ≡ done) × (reach.position ≡ InFrame part.head payload) → payload_offset part.head + length payload ≡ length (stream done) + (length rest + length (take n piece))
+        in_the_frame : (reach.frames ≡ done) × (reach.position ≡ InFrame part.head payload) → payload_offset part.head + length payload ≡ length (stream done) + (length rest + length (take n chunk))
         in_the_frame g =
-            let now = follows old new piece after n taken.Part part came done at rest h call (λ same. cc) in
-            let all = came ++ take n piece in
+            let now = follows old new chunk after n taken.Part part came done at rest h call (λ same. cc) in
+            let all = came ++ take n chunk in
             let size = size_in_frame new all reach.frames reach.position reach.since now part.head payload g.1 in
             let place = (in_frame new all reach.frames reach.position reach.since now part.head payload g.1).begins.place in
             omega (arith, size, place, same_size, ap (λ (gs : List Frame). length (stream gs)) g.0)
 
-    taken_whole : IsTaken role limits done rest reach.found.before part (drop part.start (take n after)) (take n piece) reach.frames reach.position reach.since
+    taken_whole : IsTaken role limits done rest reach.found.before part (drop part.start (take n after)) (take n chunk) reach.frames reach.position reach.since
     unfolding reach reached
     taken_whole =
         let consumed = reach.has_scanned.has_consumed in
         let size = rest_few old came done at rest h in
         let most = few old came done at rest h in
-        let own = size_of_share old new piece after n taken.Part part came done at rest h call in
-        let more = few_more old new piece after n taken.Part part came done at rest h call in
+        let own = size_of_share old new chunk after n taken.Part part came done at rest h call in
+        let more = few_more old new chunk after n taken.Part part came done at rest h call in
         let open_few = few_open old came done at rest h in
         let before = before_few old came done at rest h part reach.found.before reach.found.is_at in
         let room = call.room in
@@ -320,7 +319,7 @@ module _ (role : Role) (limits : Limits) where
         record {
           goes_on = reach.found.goes_on;
           lawful = consumed.lawful;
-          whole = same_whole old new piece after n taken.Part part came done at rest h call;
+          whole = same_whole old new chunk after n taken.Part part came done at rest h call;
           no_rest = no_rest;
           sized = payload_at_end no_rest;
           small = omega (arith, size, most, own, room, all, input);
@@ -329,28 +328,28 @@ module _ (role : Role) (limits : Limits) where
         }
 
     -- all bytes after the first `start` are passed on
-    pub part_taken : IsTaken role limits done rest reach.found.before part (take (length (take n after) - part.start) (drop part.start (take n after))) (take n piece) reach.frames reach.position reach.since
+    pub part_taken : IsTaken role limits done rest reach.found.before part (take (length (take n after) - part.start) (drop part.start (take n after))) (take n chunk) reach.frames reach.position reach.since
     part_taken =
-        subst (λ (bs : List ℕ). IsTaken role limits done rest reach.found.before part bs (take n piece) reach.frames reach.position reach.since) (sym (all_left part.start (take n after))) taken_whole
+        subst (λ (bs : List ℕ). IsTaken role limits done rest reach.found.before part bs (take n chunk) reach.frames reach.position reach.since) (sym (all_left part.start (take n after))) taken_whole
 
-    pub part_follows : HasFollowed role limits new (came ++ take n piece) reach.frames reach.position reach.since
+    pub part_follows : HasFollowed role limits new (came ++ take n chunk) reach.frames reach.position reach.since
     unfolding reach reached
-    part_follows = follows old new piece after n taken.Part part came done at rest h call (λ same. cc)
+    part_follows = follows old new chunk after n taken.Part part came done at rest h call (λ same. cc)
 
   -- ---- a refusal
 
-  module _ (old new : Scan) (piece after : List ℕ) (n : ℕ) (part : Part) (came : List ℕ) (done : List Frame) (at : Position) (rest : List ℕ) (h : HasFollowed role limits old came done at rest) (refusal : Refusal) (is : refusal_in new ≡ Some refusal)
-      (call : IsCall old new piece after n taken.Refused part) where
+  module _ (old new : Scan) (chunk after : List ℕ) (n : ℕ) (part : Part) (came : List ℕ) (done : List Frame) (at : Position) (rest : List ℕ) (h : HasFollowed role limits old came done at rest) (refusal : Refusal) (is : refusal_in new ≡ Some refusal)
+      (call : IsCall old new chunk after n taken.Refused part) where
     abbrev all : List ℕ
-    all = came ++ take n piece
+    all = came ++ take n chunk
 
     abbrev longer : List ℕ
-    longer = rest ++ take n piece
+    longer = rest ++ take n chunk
 
     pub refused_there : (scanned : HasScanned role limits new all done longer at) × IsRefusedThere role limits refusal all done at
     refused_there =
-        let r = reached old new piece after n taken.Refused part came done at rest h call in
-        let there = same_scanned old new piece after n taken.Refused part came done at rest h call r.0.found.0 r.0.found.1 in
+        let r = reached old new chunk after n taken.Refused part came done at rest h call in
+        let there = same_scanned old new chunk after n taken.Refused part came done at rest h call r.0.found.0 r.0.found.1 in
         let scanned : HasScannedBytes role limits new all (heads_of done ++ begun_at at) = record { frames = done; since = longer; position = at; has_scanned = there; heads_are = refl } in
         (there, refused role limits new all (heads_of done ++ begun_at at) refusal scanned is)
 

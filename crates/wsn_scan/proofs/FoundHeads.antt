@@ -10,16 +10,16 @@ use Rattle.wsn_scan.specs.declared.part.Taken.{Taken}
 use Rattle.wsn_scan.specs.declared.part.Taken.TheVariants as taken
 use Rattle.wsn_scan.specs.declared.scan.Scan.{Scan}
 use Rattle.wsn_scan.specs.Positions.{Position, BetweenFrames, InFrame, begun_at}
-use Rattle.wsn_scan.specs.Parts.{GoesOn, IsPartAt, Finds, Consumes}
+use Rattle.wsn_scan.specs.Parts.{ContinuesFrame, IsPartAt, Finds, Consumes}
 use Rattle.wsn_scan.specs.Scans.{AdvancesFrom, refusal_in}
 use Rattle.wsn_scan.specs.Feeding.{ConsumesPrefix, IsRunning, heads_in}
-use Rattle.wsn_scan.proofs.FedPieces.{takes_further, bytes_after}
+use Rattle.wsn_scan.proofs.FedChunks.{takes_further, bytes_after}
 use Rattle.wsn_scan.proofs.HeadsReported.{heads_push}
 
 -- ---- the heads after a call
 
 -- after a part, its head is the last
-pub heads_after : (fs : List Frame) (before : List ℕ) (part : Part) (payload : List ℕ) (frames : List Frame) (position : Position) → GoesOn fs before part payload frames position
+pub heads_after : (fs : List Frame) (before : List ℕ) (part : Part) (payload : List ℕ) (frames : List Frame) (position : Position) → ContinuesFrame fs before part payload frames position
     → heads_of frames ++ begun_at position ≡ heads_of fs ++ part.head ∷ []
 heads_after fs before part payload frames position goes_on =
     elim (cases_Bool part.ends) [
@@ -46,8 +46,8 @@ heads_found taken.Refused part payload fs at frames position is = (λ i. heads_o
 
 -- ---- what a call consumes
 
-module _ (old new : Scan) (piece after : List ℕ) (n : ℕ) (found : Taken) (part : Part) (advances : AdvancesFrom old.stage old new piece after n found part) (in_bytes : IsBytes piece) where
-  pub takes_by : ConsumesPrefix old new piece n (heads_in found part)
+module _ (old new : Scan) (chunk after : List ℕ) (n : ℕ) (found : Taken) (part : Part) (advances : AdvancesFrom old.stage old new chunk after n found part) (in_bytes : IsBytes chunk) where
+  pub takes_by : ConsumesPrefix old new chunk n (heads_in found part)
   takes_by role limits bytes heads came =
       let reached = (advances role limits bytes came.since came.frames came.position in_bytes came.has_scanned).0 in
       record {
@@ -60,29 +60,29 @@ module _ (old new : Scan) (piece after : List ℕ) (n : ℕ) (found : Taken) (pa
       }
 
   -- unless it refuses, it consumes a byte
-  pub takes_some : IsRunning old → (found ≡ taken.Refused → ⊥) → 0 < length piece → 0 < n
+  pub takes_some : IsRunning old → (found ≡ taken.Refused → ⊥) → 0 < length chunk → 0 < n
   takes_some running other some =
       let came = running.taken in
       of found (advances running.role running.limits running.bytes came.since came.frames came.position in_bytes came.has_scanned).1 other
     where
-      of : (f : Taken) → Consumes f part (length piece) n → (f ≡ taken.Refused → ⊥) → 0 < n
+      of : (f : Taken) → Consumes f part (length chunk) n → (f ≡ taken.Refused → ⊥) → 0 < n
       of taken.More is more = omega (arith, is, some)
       of taken.Part is more = is.0 some
       of taken.Closed is more = omega (arith, is, some)
       of taken.Refused is more = absurd (more refl)
 
--- after what was consumed of the piece before
-pub takes_on : (old mid new : Scan) (piece share after : List ℕ) (at n : ℕ) (found : Taken) (part : Part) (more : List HeadInfo) → IsBytes piece → share ≡ drop at piece → ConsumesPrefix old mid piece at more
-    → AdvancesFrom mid.stage mid new share after n found part → ConsumesPrefix old new piece (at + n) (more ++ heads_in found part)
-takes_on old mid new piece share after at n found part more in_bytes is consumes advances =
-    takes_further old mid new piece share at n more (heads_in found part) is consumes (takes_by mid new share after n found part advances (subst IsBytes (sym is) (bytes_after at piece in_bytes)))
+-- after what was consumed of the chunk before
+pub takes_on : (old mid new : Scan) (chunk share after : List ℕ) (at n : ℕ) (found : Taken) (part : Part) (more : List HeadInfo) → IsBytes chunk → share ≡ drop at chunk → ConsumesPrefix old mid chunk at more
+    → AdvancesFrom mid.stage mid new share after n found part → ConsumesPrefix old new chunk (at + n) (more ++ heads_in found part)
+takes_on old mid new chunk share after at n found part more in_bytes is consumes advances =
+    takes_further old mid new chunk share at n more (heads_in found part) is consumes (takes_by mid new share after n found part advances (subst IsBytes (sym is) (bytes_after at chunk in_bytes)))
 
 -- a scan that has consumed more has consumed something
-pub runs_on : (old new : Scan) (piece : List ℕ) (n : ℕ) (more : List HeadInfo) → IsRunning old → ConsumesPrefix old new piece n more → IsRunning new
-runs_on old new piece n more running consumes = record {
+pub runs_on : (old new : Scan) (chunk : List ℕ) (n : ℕ) (more : List HeadInfo) → IsRunning old → ConsumesPrefix old new chunk n more → IsRunning new
+runs_on old new chunk n more running consumes = record {
   role = running.role;
   limits = running.limits;
-  bytes = running.bytes ++ take n piece;
+  bytes = running.bytes ++ take n chunk;
   heads = running.heads ++ more;
   taken = consumes running.role running.limits running.bytes running.heads running.taken;
 }

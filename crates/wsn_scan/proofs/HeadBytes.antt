@@ -1,4 +1,4 @@
--- A head that a piece continues.
+-- A head that a chunk continues.
 use Rattle.std.proofs.Common.{◌≡◌, ◌≢◌, ℕ, ◌+◌, ◌-◌, ◌<◌, ◌≤◌, Bool, true, false, cond, Result, Ok, Err, List, [], ◌∷◌, ◌++◌, length, take, drop, min, get_or, inl, inr, refl, sym, ap, ◌∙◌, subst, take-append-drop, take-take, length-append, arith}
 use Rattle.std.specs.Prelude.{◌↔◌, IsOk, OnOk}
 use Rattle.std.proofs.Math.Seq.{take-append-add}
@@ -13,14 +13,12 @@ use Rattle.wsn_wire.specs.Layout.{mask_bit, len_form_at, length_count, key_count
 use Rattle.wsn_rules.specs.declared.head_info.HeadInfo.{HeadInfo}
 use Rattle.wsn_rules.specs.Limits.{Limits}
 use Rattle.wsn_rules.specs.Group.{unfinished}
-use Rattle.wsn_rules.specs.Evidence.{Evidence}
+use Rattle.wsn_rules.specs.Evidence.{Evidence, HasNoEvidence}
 use Rattle.wsn_rules.specs.Heads.{BeginsWithHead}
-use Rattle.wsn_rules.specs.NoEvidence.{HasNoEvidence}
 use Rattle.wsn_frame.specs.declared.heads.Head.{Head}
 use Rattle.wsn_frame.specs.declared.parsing.Parsed.{Parsed}
 use Rattle.wsn_frame.specs.OpenMessages.{IsOpenMessage}
-use Rattle.wsn_frame.specs.EvidentLast.{IsEvidentLast}
-use Rattle.wsn_frame.specs.PartialHeads.{IsShort, IsHeadSoFar, IsHead, IsParsed}
+use Rattle.wsn_frame.specs.PartialHeads.{IsEvidentLast, IsShort, IsHeadSoFar, IsHead, IsParsed}
 use Rattle.wsn_scan.specs.declared.scan.Scan.{Scan}
 use Rattle.wsn_scan.specs.Scans.{HasConsumed}
 use Rattle.wsn_scan.proofs.HeadsReported.{refused_begins_none, short_begins_none, head_begins, front_without_evidence}
@@ -32,28 +30,28 @@ parsed_on role limits scan bytes rest joined fs parsed has_consumed each =
     let of_role = subst (λ (r : Role). IsParsed r scan.context.limits (unfinished fs) joined parsed) has_consumed.sender (each (unfinished fs) has_consumed.message) in
     subst (λ (b : Limits). IsParsed role b (unfinished fs) joined parsed) has_consumed.under of_role
 
--- The bytes of a head that came before, and as many of the piece as there is room for.
-pub record AreJoined (begun bytes piece : List ℕ) (came : ℕ) : Type 0 where
-  pub is : bytes ≡ begun ++ take came piece
+-- The bytes of a head that came before, and as many of the chunk as there is room for.
+pub record AreJoined (begun bytes chunk : List ℕ) (came : ℕ) : Type 0 where
+  pub is : bytes ≡ begun ++ take came chunk
   pub size : length bytes ≡ length begun + came
-  pub within : came ≤ length piece
-  pub whole : length bytes < 14 → bytes ≡ begun ++ take (length piece) piece
+  pub within : came ≤ length chunk
+  pub whole : length bytes < 14 → bytes ≡ begun ++ take (length chunk) chunk
 
-pub joined : {T E : Type 0} (r : Result T E) (begun new bytes piece : List ℕ) (room came : ℕ) → room + length begun ≡ 14 → came ≡ min (length piece) room → IsOk r ↔ (length begun + length (take came piece) ≤ 14)
-    → OnOk r (new ≡ begun ++ take came piece) → bytes ≡ new → AreJoined begun bytes piece came
-joined r begun new bytes piece room came all came_is fits extends same =
-    let within : came ≤ length piece = omega (arith, came_is) in
-    let part = length-take-le came piece within in
-    let is : bytes ≡ begun ++ take came piece = same ∙ taken r fits extends (omega (arith, all, came_is, part)) in
-    let size : length bytes ≡ length begun + came = ap (λ (bs : List ℕ). length bs) is ∙ length-append begun (take came piece) ∙ ap (λ (n : ℕ). length begun + n) part in
+pub joined : {T E : Type 0} (r : Result T E) (begun new bytes chunk : List ℕ) (room came : ℕ) → room + length begun ≡ 14 → came ≡ min (length chunk) room → IsOk r ↔ (length begun + length (take came chunk) ≤ 14)
+    → OnOk r (new ≡ begun ++ take came chunk) → bytes ≡ new → AreJoined begun bytes chunk came
+joined r begun new bytes chunk room came all came_is fits extends same =
+    let within : came ≤ length chunk = omega (arith, came_is) in
+    let part = length-take-le came chunk within in
+    let is : bytes ≡ begun ++ take came chunk = same ∙ taken r fits extends (omega (arith, all, came_is, part)) in
+    let size : length bytes ≡ length begun + came = ap (λ (bs : List ℕ). length bs) is ∙ length-append begun (take came chunk) ∙ ap (λ (n : ℕ). length begun + n) part in
     record {
       is = is;
       size = size;
       within = within;
-      whole = λ short. let last : came ≡ length piece = omega (arith, all, came_is, size, short) in is ∙ ap (λ (n : ℕ). begun ++ take n piece) last;
+      whole = λ short. let last : came ≡ length chunk = omega (arith, all, came_is, size, short) in is ∙ ap (λ (n : ℕ). begun ++ take n chunk) last;
     }
   where
-    taken : {T E : Type 0} (r : Result T E) → IsOk r ↔ (length begun + length (take came piece) ≤ 14) → OnOk r (new ≡ begun ++ take came piece) → length begun + length (take came piece) ≤ 14 → new ≡ begun ++ take came piece
+    taken : {T E : Type 0} (r : Result T E) → IsOk r ↔ (length begun + length (take came chunk) ≤ 14) → OnOk r (new ≡ begun ++ take came chunk) → length begun + length (take came chunk) ≤ 14 → new ≡ begun ++ take came chunk
     taken (Ok v) fits extends few = extends
     taken (Err e) fits extends few = absurd (false≢true (fits.1 few))
 
@@ -79,9 +77,9 @@ short_size [] short = omega arith
 short_size (first ∷ []) short = omega arith
 short_size (first ∷ second ∷ following) short = omega (arith, short, few_lengths (len_form_at second), few_keys second)
 
-module _ (role : Role) (limits : Limits) (fs : List Frame) (begun : List ℕ) (so_far : IsHeadSoFar role limits (unfinished fs) begun) (bytes piece : List ℕ) (came size : ℕ) (are : AreJoined begun bytes piece came) where
+module _ (role : Role) (limits : Limits) (fs : List Frame) (begun : List ℕ) (so_far : IsHeadSoFar role limits (unfinished fs) begun) (bytes chunk : List ℕ) (came size : ℕ) (are : AreJoined begun bytes chunk came) where
   earlier : size ≤ length begun → take size bytes ≡ take size begun
-  earlier before = ap (λ (bs : List ℕ). take size bs) are.is ∙ take-append-le size begun (take came piece) before
+  earlier before = ap (λ (bs : List ℕ). take size bs) are.is ∙ take-append-le size begun (take came chunk) before
 
   -- a whole head ends in the bytes that came since
   pub head_since : (head : Head) → IsHead role limits (unfinished fs) head (take size bytes) → length begun < size
@@ -105,13 +103,13 @@ module _ (role : Role) (limits : Limits) (fs : List Frame) (begun : List ℕ) (s
             (subst (λ (bs : List ℕ). Evidence role limits (unfinished fs) reason bs) (earlier before) is.is_evident))
       ]
 
--- those up to a byte of the piece
-pub joined_front : (begun bytes piece : List ℕ) (came size : ℕ) → AreJoined begun bytes piece came → length begun < size → size ≤ length bytes → take size bytes ≡ begun ++ take (size - length begun) piece
-joined_front begun bytes piece came size are since within =
+-- those up to a byte of the chunk
+pub joined_front : (begun bytes chunk : List ℕ) (came size : ℕ) → AreJoined begun bytes chunk came → length begun < size → size ≤ length bytes → take size bytes ≡ begun ++ take (size - length begun) chunk
+joined_front begun bytes chunk came size are since within =
     let start = size - length begun in
     let same : size ≡ length begun + start = omega (arith, since) in
-    ap (λ (bs : List ℕ). take size bs) are.is ∙ ap (λ (n : ℕ). take n (begun ++ take came piece)) same ∙ take-append-add begun (take came piece) start
-    ∙ ap (λ (bs : List ℕ). begun ++ bs) (take-take start came piece (omega (arith, within, are.size)))
+    ap (λ (bs : List ℕ). take size bs) are.is ∙ ap (λ (n : ℕ). take n (begun ++ take came chunk)) same ∙ take-append-add begun (take came chunk) start
+    ∙ ap (λ (bs : List ℕ). begun ++ bs) (take-take start came chunk (omega (arith, within, are.size)))
 
 -- no whole head is reported if the offending byte is in the head
 pub refused_head : (role : Role) (limits : Limits) (fs : List Frame) (bytes : List ℕ) (size : ℕ) (reason : Reason) → 0 < size → size ≤ length bytes → IsShort (take (size - 1) bytes)

@@ -7,16 +7,15 @@ use Rattle.wsn_wire.specs.declared.length_forms.LenForm.{LenForm}
 use Rattle.wsn_wire.specs.declared.length_forms.LenForm.TheVariants as len_form
 use Rattle.wsn_wire.specs.Frame.{Frame, IsBytes, IsEncodable, FormFits, first_byte, second_byte, len_form_of, length_bytes, key_bytes, head_bytes, wire_payload, frame_bytes, stream}
 use Rattle.wsn_wire.specs.Layout.{HasLayout, mask_bit, len_form_at, length_count, encoded_length, key_count}
-use Rattle.wsn_wire.specs.HeadsWithoutEvidence.{HeadHasNoEvidence}
+use Rattle.wsn_wire.specs.EvidenceInHeads.{HeadHasNoEvidence}
 use Rattle.wsn_wire.proofs.FrameLemmas.{IsBytes-append, first_byte_fields, second_byte_fields, length_bytes_fields, spells-len_form_of, key_bytes_count, op_at, op_at-opcode, key_at, key_at-key_bytes, form_at, frame_at, fronts_agree, length-wire_payload}
 use Rattle.wsn_wire.proofs.HeadLemmas.{frame_of_layout}
 use Rattle.wsn_rules.specs.declared.head_info.HeadInfo.{HeadInfo}
 use Rattle.wsn_frame.specs.declared.heads.Head.{Head}
 use Rattle.wsn_rules.specs.Limits.{Limits}
 use Rattle.wsn_rules.specs.Group.{unfinished}
-use Rattle.wsn_rules.specs.Evidence.{Evidence}
+use Rattle.wsn_rules.specs.Evidence.{Evidence, HasNoEvidence}
 use Rattle.wsn_rules.specs.Evidence.Evidence.{ByFirst, BySecond, ByLength}
-use Rattle.wsn_rules.specs.NoEvidence.{HasNoEvidence}
 use Rattle.wsn_frame.specs.PartialHeads.{IsShort, IsHead, encoded_form, info_at}
 use Rattle.wsn_rules.specs.Heads.{info_of, heads_from, heads_of, BeginsWithHead, IsBegun}
 use Rattle.wsn_rules.proofs.Prefixes.{two_fronts}

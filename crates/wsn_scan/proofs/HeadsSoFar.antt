@@ -8,7 +8,7 @@ use Rattle.wsn_scan.specs.declared.stage.Stage.TheVariants as stages
 use Rattle.wsn_scan.specs.declared.scan.Scan.{Scan}
 use Rattle.wsn_rules.specs.Limits.{Limits}
 use Rattle.wsn_rules.specs.Group.{unfinished}
-use Rattle.wsn_rules.specs.NoEvidence.{HasNoEvidence}
+use Rattle.wsn_rules.specs.Evidence.{HasNoEvidence}
 use Rattle.wsn_frame.specs.PartialHeads.{info_at}
 use Rattle.wsn_rules.specs.Lawful.{IsLawful}
 use Rattle.wsn_rules.specs.Accepted.{HasNoClose}

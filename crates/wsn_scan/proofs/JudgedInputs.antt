@@ -64,43 +64,43 @@ module _ (role : Role) (limits : Limits) where
         by_verdict (Refused r) is_v none = absurd cc
 
     -- The scan got the next chunk.
-    module _ (new : Incoming) (after : ChunkReader) (next : Scan) (piece : List ℕ) (come : HasCome limits old new after (came ++ piece)) where
-      pub fits : length piece ≤ room_of scan
-      fits = omega (arith, come.counted.room, room_is scan came heads read.taken, length-append came piece)
+    module _ (new : Incoming) (after : ChunkReader) (next : Scan) (chunk : List ℕ) (come : HasCome limits old new after (came ++ chunk)) where
+      pub fits : length chunk ≤ room_of scan
+      fits = omega (arith, come.counted.room, room_is scan came heads read.taken, length-append came chunk)
 
       -- it has consumed all of it
-      pub taken_whole : (fed : HasFed scan next piece None) → HasScannedBytes role limits next (came ++ piece) (heads ++ fed.heads)
+      pub taken_whole : (fed : HasFed scan next chunk None) → HasScannedBytes role limits next (came ++ chunk) (heads ++ fed.heads)
       taken_whole fed =
-          subst (λ (bs : List ℕ). HasScannedBytes role limits next (came ++ bs) (heads ++ fed.heads)) (take_all fed.count piece (omega (arith, fed.all refl))) (fed.consumes role limits came heads read.taken)
+          subst (λ (bs : List ℕ). HasScannedBytes role limits next (came ++ bs) (heads ++ fed.heads)) (take_all fed.count chunk (omega (arith, fed.all refl))) (fed.consumes role limits came heads read.taken)
 
-      pub goes_on : (fed : HasFed scan next piece None) → HasRead role limits old new after next (came ++ piece) (heads ++ fed.heads)
+      pub goes_on : (fed : HasFed scan next chunk None) → HasRead role limits old new after next (came ++ chunk) (heads ++ fed.heads)
       goes_on fed = record { come = come; taken = taken_whole fed; none = sym fed.answered }
 
       -- what the scan has consumed, and what came after it
-      pub parted : (count : ℕ) (later : List ℕ) → (came ++ take count piece) ++ ((drop count piece ++ come.past) ++ later) ≡ ((came ++ piece) ++ come.past) ++ later
+      pub parted : (count : ℕ) (later : List ℕ) → (came ++ take count chunk) ++ ((drop count chunk ++ come.past) ++ later) ≡ ((came ++ chunk) ++ come.past) ++ later
       parted count later =
-          sym (append_assoc (came ++ take count piece) (drop count piece ++ come.past) later)
-          ∙ ap (λ (bs : List ℕ). bs ++ later) (sym (append_assoc (came ++ take count piece) (drop count piece) come.past)
-          ∙ ap (λ (bs : List ℕ). bs ++ come.past) (append_assoc came (take count piece) (drop count piece) ∙ ap (λ (bs : List ℕ). came ++ bs) (take-append-drop count piece)))
+          sym (append_assoc (came ++ take count chunk) (drop count chunk ++ come.past) later)
+          ∙ ap (λ (bs : List ℕ). bs ++ later) (sym (append_assoc (came ++ take count chunk) (drop count chunk) come.past)
+          ∙ ap (λ (bs : List ℕ). bs ++ come.past) (append_assoc came (take count chunk) (drop count chunk) ∙ ap (λ (bs : List ℕ). came ++ bs) (take-append-drop count chunk)))
 
-      pub refuses_input : length piece + length come.past ≤ chunk_size → (refusal : Refusal) → HasFed scan next piece (Some refusal) → IsJudgedOf role limits old new ((came ++ piece) ++ come.past) (Ok (Refused refusal))
+      pub refuses_input : length chunk + length come.past ≤ chunk_size → (refusal : Refusal) → HasFed scan next chunk (Some refusal) → IsJudgedOf role limits old new ((came ++ chunk) ++ come.past) (Ok (Refused refusal))
       refuses_input short refusal fed =
           let taken = fed.consumes role limits came heads read.taken in
-          let here = (refused role limits next (came ++ take fed.count piece) (heads ++ fed.heads) refusal taken (sym fed.answered)).refused in
-          let refused_all : (later : List ℕ) → IsRefused role limits (((came ++ piece) ++ come.past) ++ later) taken.frames refusal.place refusal.reason =
-          λ later. subst (λ (bs : List ℕ). IsRefused role limits bs taken.frames refusal.place refusal.reason) (parted fed.count later) (here ((drop fed.count piece ++ come.past) ++ later)) in
+          let here = (refused role limits next (came ++ take fed.count chunk) (heads ++ fed.heads) refusal taken (sym fed.answered)).refused in
+          let refused_all : (later : List ℕ) → IsRefused role limits (((came ++ chunk) ++ come.past) ++ later) taken.frames refusal.place refusal.reason =
+          λ later. subst (λ (bs : List ℕ). IsRefused role limits bs taken.frames refusal.place refusal.reason) (parted fed.count later) (here ((drop fed.count chunk ++ come.past) ++ later)) in
           let following : length came ≤ refusal.place =
-          place_after role limits came (take fed.count piece) taken.frames refusal.place refusal.reason none_refused
-          (subst (λ (bs : List ℕ). IsRefused role limits bs taken.frames refusal.place refusal.reason) (append-nil (came ++ take fed.count piece)) (here [])) in
+          place_after role limits came (take fed.count chunk) taken.frames refusal.place refusal.reason none_refused
+          (subst (λ (bs : List ℕ). IsRefused role limits bs taken.frames refusal.place refusal.reason) (append-nil (came ++ take fed.count chunk)) (here [])) in
           let before_end = place_within role limits taken.frames _ refusal.place refusal.reason (here []).is_evident in
-          let evident_whole : length ((came ++ take fed.count piece) ++ []) ≡ length (came ++ take fed.count piece) = ap (λ (bs : List ℕ). length bs) (append-nil (came ++ take fed.count piece)) in
+          let evident_whole : length ((came ++ take fed.count chunk) ++ []) ≡ length (came ++ take fed.count chunk) = ap (λ (bs : List ℕ). length bs) (append-nil (came ++ take fed.count chunk)) in
           record {
-            received = received limits old new after (came ++ piece) come;
+            received = received limits old new after (came ++ chunk) come;
             answer = (
               taken.frames,
               refused_all,
-              omega (arith, following, short, length-append (came ++ piece) come.past, length-append came piece),
-              omega (arith, room_is next (came ++ take fed.count piece) (heads ++ fed.heads) taken, before_end, evident_whole),
+              omega (arith, following, short, length-append (came ++ chunk) come.past, length-append came chunk),
+              omega (arith, room_is next (came ++ take fed.count chunk) (heads ++ fed.heads) taken, before_end, evident_whole),
               come.unfailed,
             );
           }

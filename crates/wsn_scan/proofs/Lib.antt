@@ -6,7 +6,7 @@ pub mod EventFrames
 pub mod EventHeads
 pub mod EventParts
 pub mod EventRuns
-pub mod FedPieces
+pub mod FedChunks
 pub mod FollowedScans
 pub mod FoundHeads
 pub mod FrameEnds

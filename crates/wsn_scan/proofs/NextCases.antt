@@ -15,7 +15,7 @@ use Rattle.wsn_scan.specs.declared.scan.Scan.{Scan}
 use Rattle.wsn_scan.specs.declared.stage.Stage.{Stage}
 use Rattle.wsn_scan.specs.declared.stage.Stage.TheVariants as stages
 use Rattle.wsn_scan.specs.Positions.{Position, BetweenFrames, InFrame}
-use Rattle.wsn_scan.specs.Parts.{GoesOn, Finds, FindsByCase, Consumes}
+use Rattle.wsn_scan.specs.Parts.{ContinuesFrame, Finds, FindsByCase, Consumes}
 use Rattle.wsn_scan.specs.Scans.{IsAt, HasScanned, IsReachedBy, ScanCall, IsAnswered, refusal_at, refusal_in}
 
 no_close_and_close : (fs : List Frame) → HasNoClose fs → EndsWithClose fs → ⊥
@@ -51,7 +51,7 @@ again_of (Some held) found n again refusal is = again
 
 module _ (role : Role) (limits : Limits) (new : Scan) (bytes : List ℕ) (fs : List Frame) (at : Position) (part : Part) (payload : List ℕ) (size n : ℕ) where
   -- a part of a frame comes after no Close
-  no_part_after : (frames : List Frame) (since : List ℕ) (position : Position) (before : List ℕ) → HasScanned role limits new bytes frames since position → GoesOn fs before part payload frames position
+  no_part_after : (frames : List Frame) (since : List ℕ) (position : Position) (before : List ℕ) → HasScanned role limits new bytes frames since position → ContinuesFrame fs before part payload frames position
       → (IsSome (refusal_in new) → ⊥) → EndsWithClose fs → (ends : Bool) → part.ends ≡ ends → ⊥
   no_part_after frames since position before has_scanned goes_on unrefused close true is =
       let ended = goes_on.ends is in
@@ -76,14 +76,14 @@ module _ (role : Role) (limits : Limits) (new : Scan) (bytes : List ℕ) (fs : L
   open_of taken.Closed reached none is = no_close_and_close fs none reached.found.2
   open_of taken.Refused reached none is = cc
 
-pub next_cases : (role : Role) (limits : Limits) (bytes : List ℕ) (fs : List Frame) (rest : List ℕ) (at : Position) (call : ScanCall) → HasScanned role limits call.before bytes fs rest at → IsBytes call.piece → IsAnswered call
-    → FindsByCase fs (refusal_in call.before) (length call.piece) call.count call.found call.part
+pub next_cases : (role : Role) (limits : Limits) (bytes : List ℕ) (fs : List Frame) (rest : List ℕ) (at : Position) (call : ScanCall) → HasScanned role limits call.before bytes fs rest at → IsBytes call.chunk → IsAnswered call
+    → FindsByCase fs (refusal_in call.before) (length call.chunk) call.count call.found call.part
 next_cases role limits bytes fs rest at call has_scanned in_bytes answered =
     let reached = answered.advances role limits bytes rest fs at in_bytes has_scanned in
-    let all = bytes ++ take call.count call.piece in
-    let shown = drop call.part.start (take call.count call.piece_after) in
+    let all = bytes ++ take call.count call.chunk in
+    let shown = drop call.part.start (take call.count call.chunk_after) in
     record {
       again = again_of (refusal_in call.before) call.found call.count answered.again;
-      tail = λ unrefused close. tail_of role limits call.after all fs at call.part shown (length call.piece) call.count call.found reached.0 reached.1 answered.reported close;
-      frame = λ unrefused none. (open_of role limits call.after all fs at call.part shown (length call.piece) call.count call.found reached.0 none, reached.1);
+      tail = λ unrefused close. tail_of role limits call.after all fs at call.part shown (length call.chunk) call.count call.found reached.0 reached.1 answered.reported close;
+      frame = λ unrefused none. (open_of role limits call.after all fs at call.part shown (length call.chunk) call.count call.found reached.0 none, reached.1);
     }

@@ -5,7 +5,7 @@ use Rattle.wsn_wire.specs.Frame.{Frame, stream}
 use Rattle.wsn_rules.specs.declared.head_info.HeadInfo.{HeadInfo}
 use Rattle.wsn_rules.specs.Limits.{Limits}
 use Rattle.wsn_rules.specs.Group.{unfinished}
-use Rattle.wsn_rules.specs.NoEvidence.{HasNoEvidence}
+use Rattle.wsn_rules.specs.Evidence.{HasNoEvidence}
 use Rattle.wsn_frame.specs.declared.heads.Head.{Head}
 use Rattle.wsn_frame.specs.PartialHeads.{IsHead, info_at}
 use Rattle.wsn_frame.specs.Payloads.{unmasked_by}

@@ -17,9 +17,8 @@ use Rattle.wsn_scan.specs.declared.frame_reader.FrameReader.{FrameReader}
 use Rattle.wsn_io.specs.declared.stop.Stop.{Stop}
 use Rattle.wsn_scan.specs.Positions.{Position}
 use Rattle.wsn_scan.specs.FrameReaders.{HasTaken, IsReading}
-use Rattle.wsn_scan.specs.ReadParts.{ReadsOn, IsNextPart, IsDone}
+use Rattle.wsn_scan.specs.ReadParts.{ReadsOn, IsNextPart, IsJudgedAt, StepsOn, IsUsed, IsFilled, HasRefused}
 use Rattle.wsn_scan.specs.Scans.{refusal_judged}
-use Rattle.wsn_scan.specs.ReaderSteps.{StepsOn, IsUsed, IsFilled, HasRefused}
 
 -- A call has read these bytes more and taken nothing yet.
 pub record HasRead (role : Role) (limits : Limits) (old new : Incoming) (reader : FrameReader) (came : List ℕ) (fs : List Frame) (at : Position) : Type 0 where
@@ -43,16 +42,16 @@ module _ (role : Role) (limits : Limits) (old : Incoming) (came : List ℕ) (fs 
     answers next part result is = record { more = read.more; consumed = read.consumed; few = read.has_taken.buffered.few; next = is }
 
     pub refused_done : (next : FrameReader) (verdict : Verdict) (refused : HasRefused role limits next (came ++ read.more) fs at) → refusal_judged verdict ≡ Some refused.refusal → mid.failed ≡ false
-        → IsDone role limits mid (came ++ read.more) fs at verdict
+        → IsJudgedAt role limits mid (came ++ read.more) fs at verdict
     refused_done next verdict refused judged unfailed =
         let refusal = refused.refusal in
         let by = refused.refused_by in
-        let is_done : IsDone role limits mid (came ++ read.more) fs at (Refused refusal) = (
+        let is_done : IsJudgedAt role limits mid (came ++ read.more) fs at (Refused refusal) = (
           (fs, by.refused, by.soon, by.within, unfailed),
           subst (λ (bs : List ℕ). IsRefused role limits bs fs refusal.place refusal.reason) (append-nil (came ++ read.more)) (by.refused []),
           by.all_taken,
         ) in
-        subst (λ (v : Verdict). IsDone role limits mid (came ++ read.more) fs at v) (sym (refused_as verdict refusal judged)) is_done
+        subst (λ (v : Verdict). IsJudgedAt role limits mid (came ++ read.more) fs at v) (sym (refused_as verdict refusal judged)) is_done
 
     -- one read more
     module _ (new : Incoming) (next : FrameReader) where

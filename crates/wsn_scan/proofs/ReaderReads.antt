@@ -25,8 +25,7 @@ use Rattle.wsn_scan.specs.Feeding.{HasScannedBytes}
 use Rattle.wsn_scan.specs.Positions.{Position, begun_at}
 use Rattle.wsn_scan.specs.Judging.{IsUnrefused, IsReached}
 use Rattle.wsn_scan.specs.FrameReaders.{unread}
-use Rattle.wsn_scan.specs.ReadParts.{AllTaken, IsDone, IsHaltedAt}
-use Rattle.wsn_scan.specs.ReaderSteps.{IsUsed, IsFilled, IsFilledBy}
+use Rattle.wsn_scan.specs.ReadParts.{AllTaken, IsJudgedAt, IsHaltedAt, IsUsed, IsFilled, IsFilledBy}
 use Rattle.wsn_scan.specs.Scans.{HasScanned, refusal_in, refusal_judged}
 use Rattle.wsn_scan.proofs.ChunksSoFar.{by_past, few_counted}
 use Rattle.wsn_scan.proofs.HeadsSoFar.{heads_reported}
@@ -113,7 +112,7 @@ module _ (role : Role) (limits : Limits) (reader : FrameReader) (came : List ℕ
   read_failed new none failed = ((failed, few none, subst (IsUnrefused role limits) (sym (all_came none)) unrefused_so_far), verdict_so_far, taken_so_far)
 
   pub input_ended : (new : Incoming) (verdict : Verdict) → reader.chunks.past_limit ≡ false → IsAtEnd new.remaining → new.failed ≡ false → IsVerdict role limits scanned fs verdict
-      → refusal_judged verdict ≡ None → IsDone role limits new came fs at verdict
+      → refusal_judged verdict ≡ None → IsJudgedAt role limits new came fs at verdict
   input_ended new verdict none at_end unfailed is other = (by verdict is_done other, is_done, subst (λ (bs : List ℕ). AllTaken role limits bs fs at) (sym (all_came none)) scanned_taken)
     where
       is_done : IsVerdict role limits came fs verdict

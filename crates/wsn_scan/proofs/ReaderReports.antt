@@ -7,13 +7,13 @@ use Rattle.wsn_rules.specs.declared.head_info.HeadInfo.{HeadInfo}
 use Rattle.wsn_rules.specs.Limits.{Limits}
 use Rattle.wsn_rules.specs.Accepted.{HasNoClose}
 use Rattle.wsn_rules.specs.Group.{unfinished}
-use Rattle.wsn_rules.specs.NoEvidence.{HasNoEvidence}
+use Rattle.wsn_rules.specs.Evidence.{HasNoEvidence}
 use Rattle.wsn_scan.specs.declared.frame_reader.FrameReader.{FrameReader}
 use Rattle.wsn_scan.specs.declared.stage.Inside.{Inside}
 use Rattle.wsn_scan.specs.declared.stage.Stage.{Stage}
 use Rattle.wsn_scan.specs.declared.stage.Stage.TheVariants as stages
 use Rattle.wsn_scan.specs.Positions.{Position, BetweenFrames, InFrame, IsBegunBy, IsTakenOf}
-use Rattle.wsn_scan.specs.FrameReaders.{HasTaken, unread, parts_left}
+use Rattle.wsn_scan.specs.FrameReaders.{HasTaken, unread, parts_ahead}
 use Rattle.wsn_frame.specs.PartialHeads.{info_at}
 use Rattle.wsn_frame.specs.Payloads.{unmasked_by}
 use Rattle.wsn_scan.specs.Scans.{IsAt, IsInPayload, refusal_at}
@@ -77,5 +77,5 @@ module _ (role : Role) (limits : Limits) where
     }
 
     -- each part takes a byte at least of those within the limit
-    pub left_few : parts_left reader ≤ limits.input
+    pub left_few : parts_ahead reader ≤ limits.input
     left_few = omega (arith, h.has_scanned.has_consumed.room)

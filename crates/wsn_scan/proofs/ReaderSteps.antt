@@ -9,7 +9,7 @@ use Rattle.wsn_rules.specs.declared.verdict.Refusal.{Refusal}
 use Rattle.wsn_rules.specs.Limits.{Limits}
 use Rattle.wsn_rules.specs.Verdict.{IsRefused}
 use Rattle.wsn_rules.specs.Heads.{heads_of}
-use Rattle.wsn_scan.specs.ReadParts.{AllTaken}
+use Rattle.wsn_scan.specs.ReadParts.{AllTaken, StepsOn, IsUsed, HasRefused}
 use Rattle.wsn_scan.specs.declared.part.Part.{Part}
 use Rattle.wsn_scan.specs.declared.part.Taken.{Taken}
 use Rattle.wsn_scan.specs.declared.part.Taken.TheVariants as taken
@@ -18,7 +18,6 @@ use Rattle.wsn_scan.specs.Feeding.{HasScannedBytes}
 use Rattle.wsn_scan.specs.Parts.{IsPart, Finds, Consumes}
 use Rattle.wsn_scan.specs.Positions.{Position, begun_at}
 use Rattle.wsn_scan.specs.FrameReaders.{HasTaken, IsBuffered, unread, held_payload}
-use Rattle.wsn_scan.specs.ReaderSteps.{StepsOn, IsUsed, HasRefused}
 use Rattle.wsn_scan.specs.Scans.{HasScanned, HasNoRest, AdvancesFrom, IsReachedBy, IsRefusedThere, room_of, refusal_in}
 use Rattle.wsn_scan.proofs.ReaderBuffers.{length_unread, length_came, within, buffered_on}
 use Rattle.wsn_scan.proofs.Unrefused.{unrefused, refused, place_after}

@@ -12,7 +12,7 @@ use Rattle.wsn_rules.specs.Lawful.{IsLawful}
 use Rattle.wsn_rules.specs.Accepted.{HasNoClose}
 use Rattle.wsn_rules.specs.Evidence.{Evidence}
 use Rattle.wsn_rules.specs.Verdict.{IsRefused}
-use Rattle.wsn_frame.specs.EvidentLast.{IsEvidentLast}
+use Rattle.wsn_frame.specs.PartialHeads.{IsEvidentLast}
 use Rattle.wsn_rules.specs.declared.head_info.HeadInfo.{HeadInfo}
 use Rattle.wsn_rules.specs.Heads.{IsBegun}
 use Rattle.wsn_scan.specs.Scans.{HasConsumed, HasScanned, refusal_of}

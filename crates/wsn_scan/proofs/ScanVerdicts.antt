@@ -16,7 +16,7 @@ use Rattle.wsn_rules.specs.Group.{unfinished}
 use Rattle.wsn_rules.specs.Accepted.{HasNoClose, EndsWithClose}
 use Rattle.wsn_rules.specs.Summary.{size_of_open, is_close, close_code, close_of, counted}
 use Rattle.wsn_rules.specs.Verdict.{IsEvidentAt, EndsWithinFrame, IsVerdict}
-use Rattle.wsn_rules.specs.NoEvidence.{HasNoEvidence}
+use Rattle.wsn_rules.specs.Evidence.{HasNoEvidence}
 use Rattle.wsn_frame.specs.OpenMessages.{IsOpenMessage}
 use Rattle.wsn_scan.specs.Scans.{IsInPayload, HasScannedAt, taken_of, size_of_message, summary_of, verdict_between}
 use Rattle.wsn_scan.specs.Positions.{Position}

@@ -1,4 +1,4 @@
--- The bytes that a refusal leaves unmasked in the piece.
+-- The bytes that a refusal leaves unmasked in the chunk.
 use Rattle.std.proofs.Common.{◌≡◌, ℕ, ◌≤◌, Option, List, [], ◌++◌, length, take, drop, refl, sym, ap, ◌∙◌, arith}
 use Rattle.std.proofs.lemmas.List.{length-take-le, take-take, take_at}
 use Rattle.wsn_frame.specs.Payloads.{unmasked_by}
@@ -7,15 +7,15 @@ use Rattle.wsn_scan.specs.Positions.{Position, BetweenFrames, InFrame}
 use Rattle.wsn_scan.specs.Parts.{unmasked_at}
 
 -- Masked again from some byte on, the bytes before it stay unmasked.
-pub front_stays : (key : Option (List ℕ)) (start count taken : ℕ) (piece new more : List ℕ) → taken ≤ count → count ≤ length piece → new ≡ unmasked_by key start (take count piece)
-    → take taken (take taken (new ++ drop count piece) ++ more) ≡ unmasked_by key start (take taken piece)
-front_stays key start count taken piece new more small within unmasked =
-    let all = new ++ drop count piece in
-    let front : take taken all ≡ unmasked_by key start (take taken piece) =
-    sym (take-take taken count all small) ∙ ap (λ (bs : List ℕ). take taken bs) (front_unmasked key start count piece new within unmasked)
-    ∙ take-unmasked_by key start taken (take count piece) (omega (arith, small, length-take-le count piece within))
-    ∙ ap (λ (bs : List ℕ). unmasked_by key start bs) (take-take taken count piece small) in
-    let size : length (take taken all) ≡ taken = ap (λ (bs : List ℕ). length bs) front ∙ length-unmasked_by key start (take taken piece) ∙ length-take-le taken piece (omega (arith, small, within)) in
+pub front_stays : (key : Option (List ℕ)) (start count taken : ℕ) (chunk new more : List ℕ) → taken ≤ count → count ≤ length chunk → new ≡ unmasked_by key start (take count chunk)
+    → take taken (take taken (new ++ drop count chunk) ++ more) ≡ unmasked_by key start (take taken chunk)
+front_stays key start count taken chunk new more small within unmasked =
+    let all = new ++ drop count chunk in
+    let front : take taken all ≡ unmasked_by key start (take taken chunk) =
+    sym (take-take taken count all small) ∙ ap (λ (bs : List ℕ). take taken bs) (front_unmasked key start count chunk new within unmasked)
+    ∙ take-unmasked_by key start taken (take count chunk) (omega (arith, small, length-take-le count chunk within))
+    ∙ ap (λ (bs : List ℕ). unmasked_by key start bs) (take-take taken count chunk small) in
+    let size : length (take taken all) ≡ taken = ap (λ (bs : List ℕ). length bs) front ∙ length-unmasked_by key start (take taken chunk) ∙ length-take-le taken chunk (omega (arith, small, within)) in
     take_at (take taken all) more taken size ∙ front
 
 none_unmasked : (key : Option (List ℕ)) (start : ℕ) → [] ≡ unmasked_by key start []

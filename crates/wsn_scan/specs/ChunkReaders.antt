@@ -25,9 +25,9 @@ pub record HasCome (limits : Limits) (first now : Incoming) (chunks : ChunkReade
   pub counted : HasCounted limits chunks came past
   pub unfailed : now.failed ≡ false
 
--- a bound on how many chunks can still come
-abbrev pub reads_left : ChunkReader → ℕ
-reads_left chunks = chunks.room + (if chunks.past_limit then 0 else 1)
+-- an upper bound on the number of chunks that may still come
+abbrev pub chunks_ahead : ChunkReader → ℕ
+chunks_ahead chunks = chunks.room + (if chunks.past_limit then 0 else 1)
 
 -- The next chunk is the first n bytes of the buffer, which also had room for the byte past the limit.
 pub record IsChunkOf (limits : Limits) (first new : Incoming) (chunks : ChunkReader) (came buffer : List ℕ) (n : ℕ)

@@ -1,4 +1,4 @@
--- What a scan has consumed, and what it consumes of one piece.
+-- What a scan has consumed, and what it consumes of one chunk.
 use Rattle.std.specs.Prelude.{◌≡◌, ℕ, ◌+◌, ◌≤◌, if◌then◌else◌, Option, None, List, [], ◌∷◌, ◌++◌, length, take}
 use Rattle.wsn_wire.specs.declared.endpoint.Role.{Role}
 use Rattle.wsn_wire.specs.Frame.{Frame}
@@ -35,21 +35,21 @@ pub record IsRunning (scan : Scan) : Type 0 where
   pub heads : List HeadInfo
   pub taken : HasScannedBytes role limits scan bytes heads
 
--- Whatever the scan had consumed, it has now consumed the first n bytes of the piece too, and taken the frames with
+-- Whatever the scan had consumed, it has now consumed the first n bytes of the chunk too, and taken the frames with
 -- these heads too.
 abbrev pub ConsumesPrefix : Scan → Scan → List ℕ → ℕ → List HeadInfo → Type 0
-ConsumesPrefix old new piece n more =
+ConsumesPrefix old new chunk n more =
     (role : Role) (limits : Limits) (bytes : List ℕ) (heads : List HeadInfo) →
     HasScannedBytes role limits old bytes heads →
-    HasScannedBytes role limits new (bytes ++ take n piece) (heads ++ more)
+    HasScannedBytes role limits new (bytes ++ take n chunk) (heads ++ more)
 
--- The scan has consumed some of the piece: all of it, unless the scan refuses or has refused. The result is its
+-- The scan has consumed some of the chunk: all of it, unless the scan refuses or has refused. The result is its
 -- refusal.
-pub record HasFed (old new : Scan) (piece : List ℕ) (refusal : Option Refusal) : Type 0 where
+pub record HasFed (old new : Scan) (chunk : List ℕ) (refusal : Option Refusal) : Type 0 where
   pub count : ℕ
-  pub within : count ≤ length piece
+  pub within : count ≤ length chunk
   pub room : room_of new + count ≡ room_of old
   pub heads : List HeadInfo
-  pub consumes : ConsumesPrefix old new piece count heads
-  pub all : refusal ≡ None → count ≡ length piece
+  pub consumes : ConsumesPrefix old new chunk count heads
+  pub all : refusal ≡ None → count ≡ length chunk
   pub answered : refusal ≡ refusal_in new

@@ -10,7 +10,7 @@ use Rattle.wsn_scan.specs.declared.part.Part.{Part}
 use Rattle.wsn_scan.specs.declared.part.Taken.{Taken}
 use Rattle.wsn_scan.specs.declared.part.Taken.TheVariants as taken
 use Rattle.wsn_scan.specs.declared.scan.Scan.{Scan}
-use Rattle.wsn_scan.specs.Parts.{GoesOn}
+use Rattle.wsn_scan.specs.Parts.{ContinuesFrame}
 use Rattle.wsn_scan.specs.Positions.{Position}
 use Rattle.wsn_scan.specs.Scans.{HasScanned, IsAdvance, Unmasks, HasNoRest, room_of, refusal_in}
 
@@ -21,23 +21,23 @@ pub record HasFollowed (role : Role) (limits : Limits) (scan : Scan) (came : Lis
   pub has_scanned : HasScanned role limits scan came done rest at
   pub unrefused : refusal_in scan ≡ None
 
--- A call of the scan, which got this piece, consumed n bytes of it and found this. `after` is the piece after the call.
-pub record IsCall (old new : Scan) (piece after : List ℕ) (n : ℕ) (found : Taken) (part : Part) : Type 0 where
-  pub in_bytes : IsBytes piece
+-- A call of the scan, which got this chunk, consumed n bytes of it and found this. `after` is the chunk after the call.
+pub record IsCall (old new : Scan) (chunk after : List ℕ) (n : ℕ) (found : Taken) (part : Part) : Type 0 where
+  pub in_bytes : IsBytes chunk
   pub advances : IsAdvance (record {
     before = old;
     after = new;
-    piece = piece;
-    piece_after = after;
+    chunk = chunk;
+    chunk_after = after;
     count = n;
     found = found;
     part = part;
   })
-  pub within : n ≤ length piece
+  pub within : n ≤ length chunk
   pub room : room_of new + n ≡ room_of old
-  pub untouched : found ≢ taken.Part → found ≢ taken.Refused → after ≡ piece
+  pub untouched : found ≢ taken.Part → found ≢ taken.Refused → after ≡ chunk
   pub whole : found ≡ taken.Part → part.ends ≡ true → HasNoRest new
-  pub refused : found ≡ taken.Refused → Unmasks old.stage old piece after n
+  pub refused : found ≡ taken.Refused → Unmasks old.stage old chunk after n
   pub reported : IsSome (refusal_in new) ↔ (found ≡ taken.Refused)
 
 -- After the frames fs and the bytes `rest`, the bytes `share` came. The part takes this payload in them, after `before`,
@@ -45,7 +45,7 @@ pub record IsCall (old new : Scan) (piece after : List ℕ) (n : ℕ) (found : T
 -- the bytes. None of the counts is too large.
 pub record IsTaken (role : Role) (limits : Limits) (fs : List Frame) (rest before : List ℕ) (part : Part)
     (payload share : List ℕ) (frames : List Frame) (position : Position) (since : List ℕ) : Type 0 where
-  pub goes_on : GoesOn fs before part payload frames position
+  pub goes_on : ContinuesFrame fs before part payload frames position
   pub lawful : IsLawful role limits frames
   pub whole : stream fs ++ (rest ++ share) ≡ stream frames ++ since
   pub no_rest : part.ends ≡ true → since ≡ []

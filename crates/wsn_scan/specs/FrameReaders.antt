@@ -54,9 +54,9 @@ pub record IsReading (reader : FrameReader) : Type 0 where
   pub position : Position
   pub has_taken : HasTaken role limits reader came frames position
 
--- a bound on how many parts can still come
-abbrev pub parts_left : FrameReader → ℕ
-parts_left reader = room_of reader.scan
+-- an upper bound on the number of parts that may still come
+abbrev pub parts_ahead : FrameReader → ℕ
+parts_ahead reader = room_of reader.scan
 
 -- Between frames and with no message open, the reader has taken more whole frames. They end the events whose normal form
 -- it holds, and leave no message open.

@@ -11,7 +11,8 @@ use Rattle.wsn_io.specs.declared.stop.Stop.{Stop}
 use Rattle.wsn_io.specs.declared.stop.Stop.TheVariants as stop
 use Rattle.wsn_rules.specs.Limits.{Limits}
 use Rattle.wsn_rules.specs.Verdict.{IsRefused, IsVerdict}
-pub use Rattle.wsn_scan.specs.ReportedHeads.{HasVerdictAndHeads}
+use Rattle.wsn_rules.specs.declared.head_info.HeadInfo.{HeadInfo}
+use Rattle.wsn_rules.specs.Heads.{AreHeads}
 
 -- The maximum number of bytes that one read returns.
 abbrev pub chunk_size : ℕ
@@ -61,3 +62,10 @@ IsWithinLimit limits all verdict = length all ≤ limits.input
 -- Some bytes came, and the answer is right for them.
 abbrev pub IsJudged : Role → Limits → Incoming → Incoming → Result Verdict Stop → Type 0
 IsJudged role limits old new result = (came : List ℕ) × IsJudgedOf role limits old new came result
+
+-- The bytes have this verdict, and these are all their heads.
+pub record HasVerdictAndHeads (role : Role) (limits : Limits) (bytes : List ℕ) (heads : List HeadInfo)
+    (verdict : Verdict) : Type 0 where
+  pub frames : List Frame
+  pub is_verdict : IsVerdict role limits bytes frames verdict
+  pub are_heads : AreHeads role limits bytes frames heads

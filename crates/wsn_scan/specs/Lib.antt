@@ -6,14 +6,10 @@ pub mod Parts
 pub mod Feeding
 pub mod ChunkReaders
 pub mod Judging
-pub mod ReportedHeads
 pub mod FrameReaders
 pub mod ReadParts
 pub mod FollowedScans
 -- for private functions
 pub mod Scans
-pub mod Refill
-pub mod ReaderSteps
 pub mod EventFrames
 -- for the clauses in src/
-pub mod Words

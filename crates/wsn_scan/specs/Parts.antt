@@ -14,7 +14,7 @@ use Rattle.wsn_scan.specs.Positions.{Position, BetweenFrames, InFrame}
 
 -- A part of the frame after the frames fs: this payload comes after what came before it. If the part ends the frame, the
 -- frame is one more, with the part's head and all of this payload.
-pub record GoesOn (fs : List Frame) (before : List ℕ) (part : Part) (payload : List ℕ) (frames : List Frame)
+pub record ContinuesFrame (fs : List Frame) (before : List ℕ) (part : Part) (payload : List ℕ) (frames : List Frame)
     (position : Position) : Type 0 where
   pub within : part.ends ≡ false → (frames ≡ fs) × (position ≡ InFrame part.head (before ++ payload))
   pub ends : part.ends ≡ true → (frame : Frame) × (part.head ≡ info_of (length (stream fs)) frame)
@@ -31,7 +31,7 @@ pub record IsPart (fs : List Frame) (at : Position) (part : Part) (payload : Lis
     (position : Position) : Type 0 where
   pub before : List ℕ
   pub is_at : IsPartAt at part before
-  pub goes_on : GoesOn fs before part payload frames position
+  pub goes_on : ContinuesFrame fs before part payload frames position
 
 -- The part is a whole message of this kind: of one frame, which is final.
 pub record IsWholeMessage (part : Part) (kind : Kind) : Type 0 where
@@ -48,7 +48,7 @@ Finds taken.Part part payload fs at frames position = IsPart fs at part payload 
 Finds taken.Closed part payload fs at frames position = (frames ≡ fs) × (position ≡ at) × EndsWithClose fs
 Finds taken.Refused part payload fs at frames position = (frames ≡ fs) × (position ≡ at)
 
--- How many bytes of a piece of this size a call consumes: of a frame's part all that the piece has of the frame, or its
+-- How many bytes of a chunk of this size a call consumes: of a frame's part all that the chunk has of the frame, or its
 -- head alone, if it begins there.
 abbrev pub Consumes : Taken → Part → ℕ → ℕ → Type 0
 Consumes taken.More part size n = n ≡ size
@@ -57,12 +57,12 @@ Consumes taken.Part part size n =
 Consumes taken.Closed part size n = n ≡ size
 Consumes taken.Refused part size n = ⊤
 
--- What a call finds in a piece of this size, by what was taken before it, and how many bytes n it consumes.
+-- What a call finds in a chunk of this size, by what was taken before it, and how many bytes n it consumes.
 pub record FindsByCase (fs : List Frame) (refused : Option Refusal) (size n : ℕ) (found : Taken) (part : Part)
     : Type 0 where
   -- after a refusal, the refusal again
   pub again : (refusal : Refusal) → refused ≡ Some refusal → (found ≡ taken.Refused) × (n ≡ 0)
-  -- after a Close, all of the piece
+  -- after a Close, all of the chunk
   pub tail : refused ≡ None → EndsWithClose fs → (found ≡ taken.Closed) × (n ≡ size)
   -- otherwise part of a head, a part of a frame, or a refusal
   pub frame : refused ≡ None → HasNoClose fs → (found ≢ taken.Closed) × Consumes found part size n

@@ -26,13 +26,12 @@ use Rattle.wsn_rules.specs.Accepted.{HasNoClose, EndsWithClose}
 use Rattle.wsn_rules.specs.Summary.{close_of}
 use Rattle.wsn_rules.specs.Verdict.{IsRefused}
 use Rattle.wsn_frame.specs.OpenMessages.{IsOpenMessage}
-use Rattle.wsn_frame.specs.PartialHeads.{IsHeadSoFar, IsHead, info_at}
-use Rattle.wsn_frame.specs.EvidentLast.{IsEvidentLast}
+use Rattle.wsn_frame.specs.PartialHeads.{IsHeadSoFar, IsHead, info_at, IsEvidentLast}
 use Rattle.wsn_rules.specs.Heads.{heads_of, info_of, AreHeads}
 use Rattle.wsn_frame.specs.PayloadChecks.{HasChecked}
 use Rattle.wsn_frame.specs.Counts.{AreCounts}
 use Rattle.wsn_scan.specs.Positions.{Position, BetweenFrames, InFrame, begun_at, IsPayloadPrefix}
-use Rattle.wsn_scan.specs.Parts.{Finds, Consumes, GoesOn, unmasked_at}
+use Rattle.wsn_scan.specs.Parts.{Finds, Consumes, ContinuesFrame, unmasked_at}
 
 -- ---- a scan's state
 
@@ -156,49 +155,49 @@ pub record IsReachedBy (role : Role) (limits : Limits) (new : Scan) (bytes : Lis
   pub has_scanned : HasScanned role limits new bytes frames since position
   pub found : finds frames position
 
--- Whatever the scan has consumed, from this stage it consumes the first n bytes of the piece, and this is what it finds.
--- `after` is the piece after the call.
+-- Whatever the scan has consumed, from this stage it consumes the first n bytes of the chunk, and this is what it finds.
+-- `after` is the chunk after the call.
 abbrev pub AdvancesFrom : Stage → Scan → Scan → List ℕ → List ℕ → ℕ → Taken → Part → Type 0
-AdvancesFrom stage old new piece after n taken part =
-    (role : Role) (limits : Limits) (bytes rest : List ℕ) (fs : List Frame) (at : Position) → IsBytes piece →
+AdvancesFrom stage old new chunk after n taken part =
+    (role : Role) (limits : Limits) (bytes rest : List ℕ) (fs : List Frame) (at : Position) → IsBytes chunk →
     HasScannedAt role limits old stage bytes fs rest at →
-    IsReachedBy role limits new (bytes ++ take n piece) (Finds taken part (drop part.start (take n after)) fs at)
-    × Consumes taken part (length piece) n
+    IsReachedBy role limits new (bytes ++ take n chunk) (Finds taken part (drop part.start (take n after)) fs at)
+    × Consumes taken part (length chunk) n
 
--- The first `count` bytes of the piece are consumed, no more than there are, and those after them don't change.
+-- The first `count` bytes of the chunk are consumed, no more than there are, and those after them don't change.
 abbrev pub ConsumesFirst : Scan → Scan → List ℕ → List ℕ → ℕ → Type 0
-ConsumesFirst old new piece after count =
-    (count ≤ length piece) × (drop count after ≡ drop count piece) × (room_of new + count ≡ room_of old)
+ConsumesFirst old new chunk after count =
+    (count ≤ length chunk) × (drop count after ≡ drop count chunk) × (room_of new + count ≡ room_of old)
 
 -- They have a part of a frame. The bytes before its payload don't change, and if the frame ends, the scan has no rest.
 abbrev pub HasPart : Scan → List ℕ → List ℕ → ℕ → Part → Type 0
-HasPart new piece after count part =
-    (part.start ≤ count) × (take part.start after ≡ take part.start piece) × (part.ends ≡ true → HasNoRest new)
+HasPart new chunk after count part =
+    (part.start ≤ count) × (take part.start after ≡ take part.start chunk) × (part.ends ≡ true → HasNoRest new)
 
 -- A call consumes these bytes, which have a part of a frame, and refuses nothing.
 abbrev pub TakesPart : Scan → Scan → List ℕ → List ℕ → ℕ → Part → Type 0
-TakesPart old new piece after count part =
-    ConsumesFirst old new piece after count × HasPart new piece after count part × (refusal_in new ≡ None)
+TakesPart old new chunk after count part =
+    ConsumesFirst old new chunk after count × HasPart new chunk after count part × (refusal_in new ≡ None)
 
 -- A call consumes these bytes, which have a part of a frame if it says so, and it refuses if it says so.
 abbrev pub TakesFound : Scan → Scan → List ℕ → List ℕ → ℕ → Taken → Part → Type 0
-TakesFound old new piece after count found part =
-    ConsumesFirst old new piece after count × (found ≡ taken.Part → HasPart new piece after count part)
+TakesFound old new chunk after count found part =
+    ConsumesFirst old new chunk after count × (found ≡ taken.Part → HasPart new chunk after count part)
     × (IsSome (refusal_in new) ↔ (found ≡ taken.Refused))
 
--- A call of a scan: the scan and the piece before and after it, how many bytes it consumed, and what it found.
+-- A call of a scan: the scan and the chunk before and after it, how many bytes it consumed, and what it found.
 pub record ScanCall : Type 0 where
   pub before : Scan
   pub after : Scan
-  pub piece : List ℕ
-  pub piece_after : List ℕ
+  pub chunk : List ℕ
+  pub chunk_after : List ℕ
   pub count : ℕ
   pub found : Taken
   pub part : Part
 
--- Whatever was consumed before it, the call consumes the first bytes of the piece, and this is what it finds.
+-- Whatever was consumed before it, the call consumes the first bytes of the chunk, and this is what it finds.
 abbrev pub IsAdvance : ScanCall → Type 0
-IsAdvance call = AdvancesFrom call.before.stage call.before call.after call.piece call.piece_after call.count call.found
+IsAdvance call = AdvancesFrom call.before.stage call.before call.after call.chunk call.chunk_after call.count call.found
     call.part
 
 -- What `next` says of a call: how the scan advances, whether it refuses, and that a refusal is reported again.
@@ -207,35 +206,35 @@ pub record IsAnswered (call : ScanCall) : Type 0 where
   pub reported : IsSome (refusal_in call.after) ↔ (call.found ≡ taken.Refused)
   pub again : IfSome (refusal_in call.before) (λ _. (call.found ≡ taken.Refused) × (call.count ≡ 0))
 
--- Whatever the scan has consumed at this stage, the first n bytes of the piece were unmasked if they are payload.
+-- Whatever the scan has consumed at this stage, the first n bytes of the chunk were unmasked if they are payload.
 abbrev pub Unmasks : Stage → Scan → List ℕ → List ℕ → ℕ → Type 0
-Unmasks stage old piece after n =
+Unmasks stage old chunk after n =
     (role : Role) (limits : Limits) (bytes rest : List ℕ) (fs : List Frame) (at : Position) →
-    HasScannedAt role limits old stage bytes fs rest at → take n after ≡ unmasked_at at (take n piece)
+    HasScannedAt role limits old stage bytes fs rest at → take n after ≡ unmasked_at at (take n chunk)
 
 -- ---- the parts of a call
 
--- Since the last whole frame these first bytes of a head came, or none. The scan goes on with the piece: it takes a part
+-- Since the last whole frame these first bytes of a head came, or none. The scan goes on with the chunk: it takes a part
 -- of the frame, or refuses, or keeps more of the head.
 abbrev pub ContinuesHead : Scan → Scan → List ℕ → List ℕ → List ℕ → ℕ → Taken → Part → Type 0
-ContinuesHead old new begun piece after n taken part =
-    (role : Role) (limits : Limits) (bytes : List ℕ) (fs : List Frame) → IsBytes piece →
+ContinuesHead old new begun chunk after n taken part =
+    (role : Role) (limits : Limits) (bytes : List ℕ) (fs : List Frame) → IsBytes chunk →
     HasConsumed role limits old bytes fs begun → HasNoClose fs → IsHeadSoFar role limits (unfinished fs) begun →
-    0 < length begun + length piece → IsReachedBy role limits new (bytes ++ take n piece)
-    (Finds taken part (drop part.start (take n after)) fs BetweenFrames) × Consumes taken part (length piece) n
+    0 < length begun + length chunk → IsReachedBy role limits new (bytes ++ take n chunk)
+    (Finds taken part (drop part.start (take n after)) fs BetweenFrames) × Consumes taken part (length chunk) n
 
--- The first `start` bytes of the piece end this head, and the scan takes a part of its frame, or refuses.
+-- The first `start` bytes of the chunk end this head, and the scan takes a part of its frame, or refuses.
 abbrev pub BeginsFrame : Scan → Scan → ℕ → Head → List ℕ → List ℕ → ℕ → Taken → Part → Type 0
-BeginsFrame old new start head piece after n taken part =
-    (role : Role) (limits : Limits) (bytes rest : List ℕ) (fs : List Frame) → IsBytes piece →
+BeginsFrame old new start head chunk after n taken part =
+    (role : Role) (limits : Limits) (bytes rest : List ℕ) (fs : List Frame) → IsBytes chunk →
     HasConsumed role limits old bytes fs rest → HasNoClose fs → 0 < start
-    → IsHead role limits (unfinished fs) head (rest ++ take start piece) →
-    IsReachedBy role limits new (bytes ++ take n piece)
-    (Finds taken part (drop part.start (take n after)) fs BetweenFrames) × Consumes taken part (length piece) n
+    → IsHead role limits (unfinished fs) head (rest ++ take start chunk) →
+    IsReachedBy role limits new (bytes ++ take n chunk)
+    (Finds taken part (drop part.start (take n after)) fs BetweenFrames) × Consumes taken part (length chunk) n
 
 -- The same, and it takes a part.
 abbrev pub BeginsAt : Scan → Scan → ℕ → Head → List ℕ → List ℕ → ℕ → Part → Type 0
-BeginsAt old new start head piece after n part = BeginsFrame old new start head piece after n taken.Part part
+BeginsAt old new start head chunk after n part = BeginsFrame old new start head chunk after n taken.Part part
 
 -- The scan consumes `count` bytes more, the last of this head or of its frame's payload, of which `done` bytes came, and
 -- takes this part of the frame.
@@ -245,7 +244,7 @@ AddsPart old new head check done count part =
     HasConsumed role limits old bytes fs rest → HasNoClose fs → IsBytes last → length last ≡ count
     → HoldsPayload role limits (unfinished fs) head check wire (rest ++ last)
     → done ≡ length wire → length wire ≤ head.len → before ++ payload ≡ unmasked_by head.key 0 wire →
-    IsReachedBy role limits new (bytes ++ last) (GoesOn fs before part payload)
+    IsReachedBy role limits new (bytes ++ last) (ContinuesFrame fs before part payload)
 
 -- A frame with this head and this payload has ended: the scan has one whole frame more.
 pub record HasEnded (role : Role) (limits : Limits) (new : Scan) (bytes : List ℕ) (fs : List Frame) (head : Head)

@@ -1,8 +1,8 @@
 ghost use Rattle.std.specs.Prelude.{◌≡◌, ℕ, ◌<◌, ◌↔◌, List, [], false, true, Ok, Err, Some, length};
 ghost use Rattle.wsn_io.specs.Transfer.{Incoming};
 ghost use Rattle.wsn_rules.specs.Limits.{Limits};
-ghost use Rattle.wsn_scan.specs.Words.{Stop};
-ghost use Rattle.wsn_scan.specs.ChunkReaders.{HasCome, IsNextOf, has_passed, reads_left};
+ghost use Rattle.wsn_io.specs.declared.stop.Stop.{Stop};
+ghost use Rattle.wsn_scan.specs.ChunkReaders.{HasCome, IsNextOf, has_passed, chunks_ahead};
 
 use std::io::Read;
 use wsn_io::Stop;
@@ -47,7 +47,7 @@ impl ChunkReader {
         ensures next { (limits : Limits) (first : Incoming) (came : List ℕ) →
             HasCome limits first input.old self.old came →
             IsNextOf limits first input.new self.new came buffer.new result }
-        ensures falls { (n : ℕ) → result ≡ Ok (Some n) → reads_left self.new < reads_left self.old }
+        ensures falls { (n : ℕ) → result ≡ Ok (Some n) → chunks_ahead self.new < chunks_ahead self.old }
         ensures limit { (result ≡ Err Stop.InputLimit) ↔ (has_passed self.old ≡ true) }
         ensures kept { has_passed self.old ≡ true → input.new ≡ input.old }
     {

@@ -3,7 +3,7 @@ ghost use Rattle.std.specs.List.{slice_range};
 ghost use Rattle.wsn_wire.specs.Frame.{Frame, IsBytes, first_byte};
 ghost use Rattle.wsn_rules.specs.NormalForm.{op_of};
 ghost use Rattle.wsn_scan.specs.Judging.{chunk_size};
-ghost use Rattle.wsn_scan.specs.ChunkReaders.{reads_left};
+ghost use Rattle.wsn_scan.specs.ChunkReaders.{chunks_ahead};
 ghost use Rattle.wsn_scan.specs.Scans.{AdvancesFrom, HasNoRest, IsAdvance, room_of, refusal_in};
 ghost use Rattle.wsn_scan.specs.EventFrames.{TakesEvents, IsIdle, whole_part};
 
@@ -33,7 +33,9 @@ pub struct FrameReader {
 }
 
 impl FrameReader {
-    ghost use Rattle.wsn_scan.specs.Words.{Position, BetweenFrames, HasTaken, IsReading, parts_left, held_payload, ReadsOn, StepsOn, IsUsed, IsFilled, TakesRun, TakesMessage};
+    ghost use Rattle.wsn_scan.specs.Positions.{Position, BetweenFrames};
+    ghost use Rattle.wsn_scan.specs.FrameReaders.{HasTaken, IsReading, parts_ahead, held_payload, TakesRun};
+    ghost use Rattle.wsn_scan.specs.ReadParts.{ReadsOn, TakesMessage, StepsOn, IsUsed, IsFilled};
 
     /// A reader that has read nothing. `role` is the endpoint that sent the stream. It allocates no memory.
     #[tactic(none)]
@@ -78,7 +80,7 @@ impl FrameReader {
         ensures next { (role : Role) (limits : _) (came : List ℕ) (fs : List Frame) (at : Position) →
             HasTaken role limits self.old came fs at →
             ReadsOn role limits input.old input.new self.new part.new came fs at result }
-        ensures falls { result ≡ Ok None → parts_left self.new < parts_left self.old }
+        ensures falls { result ≡ Ok None → parts_ahead self.new < parts_ahead self.old }
     {
         loop {
             match self.step(part) {
@@ -103,7 +105,7 @@ impl FrameReader {
             (at : Position) → HasTaken role limits self.old came fs at →
             TakesMessage role limits self.new message.0 message.1 came fs at) }
         ensures none { IfNone result (self.new ≡ self.old) }
-        ensures falls { IfSome result (λ _. parts_left self.new < parts_left self.old) }
+        ensures falls { IfSome result (λ _. parts_ahead self.new < parts_ahead self.old) }
     {
         let from = self.at;
         let kind = message_kind(&self.buffer[from..self.end])?;
@@ -122,7 +124,7 @@ impl FrameReader {
         ensures taken { result ≡ true → (role : Role) (limits : _) (came : List ℕ) (fs : List Frame) (at : Position) →
             HasTaken role limits self.old came fs at → TakesRun role limits self.new came fs at }
         ensures none { result ≡ false → self.new ≡ self.old }
-        ensures left { parts_left self.new ≤ parts_left self.old }
+        ensures left { parts_ahead self.new ≤ parts_ahead self.old }
     {
         let from = self.at;
         let count = events_in(&mut self.scan, &mut self.buffer, from, self.end);
@@ -141,8 +143,8 @@ impl FrameReader {
         ensures taken { (role : Role) (limits : _) (came : List ℕ) (fs : List Frame) (at : Position) →
             HasTaken role limits self.old came fs at →
             StepsOn role limits self.new part.new came fs at result }
-        ensures left { parts_left self.new ≤ parts_left self.old }
-        ensures falls { result ≡ Taken.Part → parts_left self.new < parts_left self.old }
+        ensures left { parts_ahead self.new ≤ parts_ahead self.old }
+        ensures falls { result ≡ Taken.Part → parts_ahead self.new < parts_ahead self.old }
         ensures chunks { self.new.chunks ≡ self.old.chunks }
     {
         if self.at == self.end {
@@ -166,7 +168,7 @@ impl FrameReader {
             IsUsed role limits self.old came fs at →
             IsFilled role limits input.old input.new self.new came fs at result }
         ensures scan { self.new.scan ≡ self.old.scan }
-        ensures falls { result ≡ Ok None → reads_left self.new.chunks < reads_left self.old.chunks }
+        ensures falls { result ≡ Ok None → chunks_ahead self.new.chunks < chunks_ahead self.old.chunks }
     {
         let Some(len) = self.chunks.next(input, &mut self.buffer)? else {
             return Ok(Some(self.scan.finish()));
@@ -193,8 +195,8 @@ fn part_in(
     ensures taken { IsAdvance (record {
       before = scan.old;
       after = scan.new;
-      piece = slice_range buffer.old at end;
-      piece_after = slice_range buffer.new at end;
+      chunk = slice_range buffer.old at end;
+      chunk_after = slice_range buffer.new at end;
       count = result.0;
       found = result.1;
       part = part.new;

@@ -1,5 +1,7 @@
 ghost use Rattle.std.specs.Prelude.{◌≡◌, ℕ, ◌<◌, List, Some, length, take, IfOk, Err, ◌↔◌, false, true};
-ghost use Rattle.wsn_scan.specs.Words.{Frame, IsJudged, IsUnrefused, IsVerdict};
+ghost use Rattle.wsn_wire.specs.Frame.{Frame};
+ghost use Rattle.wsn_scan.specs.Judging.{IsJudged, IsUnrefused};
+ghost use Rattle.wsn_rules.specs.Verdict.{IsVerdict};
 
 use crate::chunk_reader::{CHUNK, ChunkReader};
 use crate::scan::Scan;

@@ -1,7 +1,20 @@
 //! Laws about this crate's answers and definitions. Each function does nothing: its contract is the law.
 
 ghost use Rattle.std.specs.Prelude.{◌≡◌, ℕ, ◌+◌, false, None, Some, Result, List, length};
-ghost use Rattle.wsn_scan.specs.Words.{Frame, IsBytes, Role, Incoming, Limits, Verdict, Stop, FrameReader, Position, InFrame, HasTaken, IsTakenOf, IsJudged, Scan, HasScanned, IsPositionIn, IsPayloadSoFar, HeadInfo, refusal_in, room_of, ScanCall, IsAnswered, FindsByCase};
+ghost use Rattle.wsn_wire.specs.Frame.{Frame, IsBytes};
+ghost use Rattle.wsn_wire.specs.declared.endpoint.Role.{Role};
+ghost use Rattle.wsn_io.specs.Transfer.{Incoming};
+ghost use Rattle.wsn_rules.specs.Limits.{Limits};
+ghost use Rattle.wsn_rules.specs.declared.verdict.Verdict.{Verdict};
+ghost use Rattle.wsn_io.specs.declared.stop.Stop.{Stop};
+ghost use Rattle.wsn_scan.specs.declared.frame_reader.FrameReader.{FrameReader};
+ghost use Rattle.wsn_scan.specs.Positions.{Position, InFrame, IsTakenOf, IsPositionIn, IsPayloadSoFar};
+ghost use Rattle.wsn_scan.specs.FrameReaders.{HasTaken};
+ghost use Rattle.wsn_scan.specs.Judging.{IsJudged};
+ghost use Rattle.wsn_scan.specs.declared.scan.Scan.{Scan};
+ghost use Rattle.wsn_scan.specs.Scans.{HasScanned, refusal_in, room_of, ScanCall, IsAnswered};
+ghost use Rattle.wsn_rules.specs.declared.head_info.HeadInfo.{HeadInfo};
+ghost use Rattle.wsn_scan.specs.Parts.{FindsByCase};
 
 /// [`judge`](crate::judge) has one right answer for an input whose bytes are known, in whatever chunks they come,
 /// unless a read fails.
@@ -12,7 +25,7 @@ pub fn law_one_answer()
         IsJudged role limits old new result → IsJudged role limits old other same → result ≡ same }
 {}
 
-/// Where a scan is in the bytes that it has consumed, in whatever pieces they came. They begin with the frames that it
+/// Where a scan is in the bytes that it has consumed, in whatever chunks they came. They begin with the frames that it
 /// has taken, which are lawful, and it has taken all their heads. If another frame has begun, it has taken a prefix of
 /// its payload, unmasked: unless it has refused, all of the payload that came. The room and the bytes consumed are the
 /// input limit together.
@@ -30,12 +43,12 @@ pub fn law_positions()
 {}
 
 /// What a call of [`Scan::next`](crate::Scan::next) finds: after a refusal the refusal again, and no bytes; after a Close
-/// all of the piece; otherwise part of a head, a part of a frame, or a refusal, and how many bytes that consumes.
+/// all of the chunk; otherwise part of a head, a part of a frame, or a refusal, and how many bytes that consumes.
 pub fn law_next_by_case()
     ensures { (role : Role) (limits : Limits) (bytes : List ℕ) (fs : List Frame) (rest : List ℕ) (at : Position)
         (call : ScanCall) →
-        HasScanned role limits call.before bytes fs rest at → IsBytes call.piece → IsAnswered call →
-        FindsByCase fs (refusal_in call.before) (length call.piece) call.count call.found call.part }
+        HasScanned role limits call.before bytes fs rest at → IsBytes call.chunk → IsAnswered call →
+        FindsByCase fs (refusal_in call.before) (length call.chunk) call.count call.found call.part }
 {}
 
 /// What a [`FrameReader`](crate::FrameReader) has taken is in the bytes that came. They begin with its frames, which are

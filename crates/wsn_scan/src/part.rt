@@ -1,7 +1,7 @@
 use wsn_rules::HeadInfo;
 use wsn_wire::{Form, Op};
 
-/// What a piece of a stream has of one frame (RFC 6455 section 5.2): its head if it begins there, some of its payload,
+/// What a chunk of a stream has of one frame (RFC 6455 section 5.2): its head if it begins there, some of its payload,
 /// and its end if it ends there.
 #[derive(Clone, Copy, Debug)]
 pub struct Part {
@@ -11,7 +11,7 @@ pub struct Part {
     pub begins: bool,
     /// This is its last part: the frame is complete.
     pub ends: bool,
-    /// Where in the piece the payload begins, as an offset from 0. It ends with the bytes that were consumed.
+    /// Where in the chunk the payload begins, as an offset from 0. It ends with the bytes that were consumed.
     pub start: usize,
 }
 
@@ -34,10 +34,10 @@ impl Part {
     }
 }
 
-/// What [`Scan::next`](crate::Scan::next) found in a piece.
+/// What [`Scan::next`](crate::Scan::next) found in a chunk.
 #[derive(Clone, Copy, Debug)]
 pub enum Taken {
-    /// Part of a head, or nothing: all of the piece was consumed, and there is nothing to report yet.
+    /// Part of a head, or nothing: all of the chunk was consumed, and there is nothing to report yet.
     More,
     /// A part of a frame.
     Part,

@@ -10,7 +10,7 @@ use wsn_frame::{Counts, FrameContext};
 use wsn_rules::{Limits, Refusal};
 use wsn_wire::Role;
 
-/// Scans a stream that comes in pieces: takes it apart into its frames, and gives the verdict on the bytes so far (RFC
+/// Scans a stream that comes in chunks: takes it apart into its frames, and gives the verdict on the bytes so far (RFC
 /// 6455 section 5). It keeps none of the bytes.
 #[derive(Drop)]
 pub struct Scan {
@@ -23,7 +23,8 @@ pub struct Scan {
 
 impl Scan {
     ghost use Rattle.std.specs.Prelude.{◌≡◌, ◌≢◌, ◌+◌, ◌≤◌, ◌⊎◌, ◌↔◌, [], length, take, drop, true, IfSome, IsSome};
-    ghost use Rattle.wsn_scan.specs.Words.{HasScanned, BetweenFrames, room_of, taken_of, refusal_in, IsAdvance, Unmasks, HasNoRest};
+    ghost use Rattle.wsn_scan.specs.Scans.{HasScanned, room_of, taken_of, refusal_in, IsAdvance, Unmasks, HasNoRest};
+    ghost use Rattle.wsn_scan.specs.Positions.{BetweenFrames};
 
     /// A scan that has consumed nothing. `role` is the endpoint that sent the stream.
     #[tactic(none)]
@@ -70,44 +71,44 @@ impl Scan {
         self.context.limits.input().saturating_sub(self.room)
     }
 
-    /// Consumes bytes at the start of the piece, and returns how many and what they are. `piece` is at most
-    /// [`room`](Scan::room) bytes long. A part of a frame is put into `part`: all that the piece has of the frame. Its
-    /// payload is unmasked in place (RFC 6455 section 5.3); no other bytes change. If the piece isn't empty, the scan
+    /// Consumes bytes at the start of the chunk, and returns how many and what they are. `chunk` is at most
+    /// [`room`](Scan::room) bytes long. A part of a frame is put into `part`: all that the chunk has of the frame. Its
+    /// payload is unmasked in place (RFC 6455 section 5.3); no other bytes change. If the chunk isn't empty, the scan
     /// consumes at least a byte of it, unless the stream was refused before.
     ///
     /// A refusal is reported by the call that consumes the offending byte, and again by each later call, which consumes
     /// nothing. If the offending byte is in a frame's payload, the frame's head is reported, and of its payload what came
-    /// in earlier pieces; if it is in the head, neither is.
+    /// in earlier chunks; if it is in the head, neither is.
     #[inline(always)]
     #[tactic(none)]
-    pub fn next(&mut self, piece: &mut [u8], part: &mut Part) -> (usize, Taken)
-        requires { length piece.old ≤ room_of self.old }
+    pub fn next(&mut self, chunk: &mut [u8], part: &mut Part) -> (usize, Taken)
+        requires { length chunk.old ≤ room_of self.old }
         ensures taken { IsAdvance (record {
           before = self.old;
           after = self.new;
-          piece = piece.old;
-          piece_after = piece.new;
+          chunk = chunk.old;
+          chunk_after = chunk.new;
           count = result.0;
           found = result.1;
           part = part.new;
         }) }
-        ensures within { result.0 ≤ length piece.old }
-        ensures kept { drop result.0 piece.new ≡ drop result.0 piece.old }
+        ensures within { result.0 ≤ length chunk.old }
+        ensures kept { drop result.0 chunk.new ≡ drop result.0 chunk.old }
         ensures head { result.1 ≡ Taken.Part → (part.new.start ≤ result.0)
-            × (take part.new.start piece.new ≡ take part.new.start piece.old) }
-        ensures untouched { result.1 ≢ Taken.Part → result.1 ≢ Taken.Refused → piece.new ≡ piece.old }
+            × (take part.new.start chunk.new ≡ take part.new.start chunk.old) }
+        ensures untouched { result.1 ≢ Taken.Part → result.1 ≢ Taken.Refused → chunk.new ≡ chunk.old }
         ensures whole { result.1 ≡ Taken.Part → part.new.ends ≡ true → HasNoRest self.new }
-        ensures refused { result.1 ≡ Taken.Refused → Unmasks self.old.stage self.old piece.old piece.new result.0 }
+        ensures refused { result.1 ≡ Taken.Refused → Unmasks self.old.stage self.old chunk.old chunk.new result.0 }
         ensures room { room_of self.new + result.0 ≡ room_of self.old }
         ensures reported { IsSome (refusal_in self.new) ↔ (result.1 ≡ Taken.Refused) }
-        ensures again { IfSome (refusal_in self.old) (λ _. (self.new ≡ self.old) × (piece.new ≡ piece.old)
+        ensures again { IfSome (refusal_in self.old) (λ _. (self.new ≡ self.old) × (chunk.new ≡ chunk.old)
             × (result.0 ≡ 0) × (result.1 ≡ Taken.Refused)) }
     {
-        if let Some(taken) = self.take_frame(piece, part) {
+        if let Some(taken) = self.take_frame(chunk, part) {
             return (taken, Taken::Part);
         }
         let mut other = Part::new();
-        let (taken, found) = self.next_slow(piece, &mut other);
+        let (taken, found) = self.next_slow(chunk, &mut other);
         *part = other;
         (taken, found)
     }

@@ -1,5 +1,5 @@
 ghost use Rattle.std.specs.Prelude.{◌≡◌, None};
-ghost use Rattle.wsn_scan.specs.Words.{IsStageAfter, refusal_at};
+ghost use Rattle.wsn_scan.specs.Scans.{IsStageAfter, refusal_at};
 
 use arrayvec::ArrayVec;
 use wsn_frame::{HEAD_MAX, Head, PayloadCheck};

@@ -13,9 +13,8 @@ use Rattle.wsn_capture.proofs.AcceptedLines.{accepted_count}
 use Rattle.wsn_print.specs.declared.style.Style.{Style}
 use Rattle.wsn_show.specs.declared.capture_view.CaptureView.{CaptureView}
 use Rattle.wsn_show.specs.declared.end_notes.EndNotes.{EndNotes}
-use Rattle.wsn_show.specs.EndNotes.{HasNotedEnd}
+use Rattle.wsn_show.specs.EndNotes.{HasNotedEnd, HasNotedTimes}
 use Rattle.wsn_show.specs.declared.last_times.LastTimes.{LastTimes}
-use Rattle.wsn_show.specs.LastTimes.{HasNotedTimes}
 use Rattle.wsn_show.specs.CaptureViews.{HasShownLines, IsAcceptedText, CanShow, IsTimeNext, ShowsText, ShowsLine}
 
 -- ---- the last of the accepted lines

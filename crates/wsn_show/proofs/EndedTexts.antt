@@ -24,7 +24,7 @@ use Rattle.wsn_show.specs.declared.showing.ShowStop.TheVariants as stop
 use Rattle.wsn_show.specs.CaptureViews.{ShowsLine, Finishes}
 use Rattle.wsn_show.specs.Showing.{IsTextOfLines, IsWholeText}
 use Rattle.wsn_show.specs.PassedLines.{HasPrinted, HasPrintedLines, StopsAtLine, EndsShowing}
-use Rattle.wsn_show.proofs.PassedPieces.{text_so_far, text_with_line, partly_with_line, printed_with_line, one_more, failed_part, more_after, at_least, whole_part}
+use Rattle.wsn_show.proofs.PassedChunks.{text_so_far, text_with_line, partly_with_line, printed_with_line, one_more, failed_part, more_after, at_least, whole_part}
 
 -- ---- the report
 
@@ -84,7 +84,7 @@ module _ (limits : Limits) (style : Style) (first : Outgoing) (came : List ℕ) 
           put_no_more first after (lines_text ++ last_text) (styled_report style report)
               (put_front first now after lines_text last_text has.printed (failed_part now after last_text failed finishes.printed)),
         ),
-        (lines, lines_text, rest.0, inr are_lines, lines_are, rest.1),
+        (lines_text, rest.0, (lines, inr are_lines, lines_are), rest.1),
       )
 
   module _ (out : Outgoing) (works : after.failed ≡ false) where
@@ -104,11 +104,9 @@ module _ (limits : Limits) (style : Style) (first : Outgoing) (came : List ℕ) 
             put_front first after out (lines_text ++ last_text) (styled_report style report) all_before partly,
           ),
           (
-            lines,
             lines_text,
             last_text ++ put,
-            inr are_lines,
-            lines_are,
+            (lines, inr are_lines, lines_are),
             subst (λ (bs : List ℕ). Appends first.written out.written bs) (append_assoc lines_text last_text put)
                 (Appends-trans first.written after.written out.written (lines_text ++ last_text) put all_before.1 partly.1.1),
           ),

@@ -9,7 +9,7 @@ use Rattle.wsn_scan.specs.Positions.{Position, InFrame}
 use Rattle.wsn_scan.proofs.FrameEnds.{first_alike}
 use Rattle.wsn_show.specs.declared.message_so_far.MessageSoFar.{MessageSoFar}
 use Rattle.wsn_show.specs.declared.stream_parts.StreamParts.{StreamParts}
-use Rattle.wsn_show.specs.StreamParts.{KeepsMessage, HasJoined, KeepsFrame, data_part, Keeps}
+use Rattle.wsn_show.specs.StreamParts.{KeepsMessage, HasJoined, KeepsFrame, data_part, KeepsStream}
 
 -- ---- the payload of a data frame, and of a control
 
@@ -32,12 +32,12 @@ with_message parts message fs at rest kept = record { offset = kept.offset; size
 
 module _ (parts : StreamParts) (fs : List Frame) (head : HeadInfo) where
   -- A head.
-  pub begins : (rest : List ℕ) → KeepsMessage parts.message fs [] → (is_control head.op ≡ false → HasJoined parts.message fs (frame_so_far head [])) → KeepsFrame parts fs (InFrame head []) rest → Keeps parts fs (InFrame head []) rest
+  pub begins : (rest : List ℕ) → KeepsMessage parts.message fs [] → (is_control head.op ≡ false → HasJoined parts.message fs (frame_so_far head [])) → KeepsFrame parts fs (InFrame head []) rest → KeepsStream parts fs (InFrame head []) rest
   begins rest kept joined frame = record { message = subst (KeepsMessage parts.message fs) (sym (no_part head)) kept; joined = joined; frame = frame }
 
   -- More payload of a data frame.
   pub adds_data : (message : MessageSoFar) (part more rest now : List ℕ) → is_control head.op ≡ false → KeepsMessage parts.message fs (part ++ more) → HasJoined message fs (frame_so_far head part) → parts.message.op ≡ message.op
-      → parts.message.offset ≡ message.offset → KeepsFrame parts fs (InFrame head (part ++ more)) now → Keeps parts fs (InFrame head (part ++ more)) now
+      → parts.message.offset ≡ message.offset → KeepsFrame parts fs (InFrame head (part ++ more)) now → KeepsStream parts fs (InFrame head (part ++ more)) now
   adds_data message part more rest now other kept joined op offset frame = record {
     message = subst (KeepsMessage parts.message fs) (sym (part_of_data head (part ++ more) other)) kept;
     joined = λ again. record {
@@ -48,7 +48,7 @@ module _ (parts : StreamParts) (fs : List Frame) (head : HeadInfo) where
   }
 
   -- More payload of a control.
-  pub adds_to_control : (part more now : List ℕ) → is_control head.op ≡ true → KeepsMessage parts.message fs (data_part (InFrame head part)) → KeepsFrame parts fs (InFrame head (part ++ more)) now → Keeps parts fs (InFrame head (part ++ more)) now
+  pub adds_to_control : (part more now : List ℕ) → is_control head.op ≡ true → KeepsMessage parts.message fs (data_part (InFrame head part)) → KeepsFrame parts fs (InFrame head (part ++ more)) now → KeepsStream parts fs (InFrame head (part ++ more)) now
   adds_to_control part more now control kept frame = record {
     message = subst (KeepsMessage parts.message fs) (part_of_control head part control ∙ sym (part_of_control head (part ++ more) control)) kept;
     joined = λ other. let both : true ≡ false = sym control ∙ other in absurd cc;

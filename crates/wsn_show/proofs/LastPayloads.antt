@@ -6,9 +6,8 @@ use Rattle.std.proofs.Math.Seq.{take-suc}
 use Rattle.std.specs.Str.Lossy.{utf8_valid_len}
 use Rattle.wsn_wire.specs.Frame.{Frame}
 use Rattle.wsn_rules.specs.declared.head_info.HeadInfo.{HeadInfo}
-use Rattle.wsn_rules.specs.BadCharacter.{payload_offset, placed_payloads, last_of, open_payload, message_payload, first_offset, bytes_of, bad_character}
+use Rattle.wsn_rules.specs.BadCharacter.{payload_offset, placed_payloads, last_of, open_payload, message_payload, first_offset, bytes_of, bad_character, PlacedByte, placed}
 use Rattle.wsn_rules.specs.Group.{unfinished, payload_of}
-use Rattle.wsn_rules.specs.PlacedByte.{PlacedByte, placed}
 use Rattle.wsn_rules.proofs.LastElements.{last_of_none, last_of_long, last_of_push}
 use Rattle.wsn_rules.proofs.PlacedBytes.{placed-append, bytes_of_placed}
 use Rattle.wsn_show.specs.declared.last_payload.StreamByte.{StreamByte}
@@ -46,7 +45,7 @@ module _ (earlier : List ℕ) (came : List PlacedByte) (len : ℕ) (is : utf8_va
 length-placed : (place : ℕ) (bytes : List ℕ) → length (placed place bytes) ≡ length bytes
 length-placed place bytes = sym (length-map (placed place bytes) (λ (b : PlacedByte). b.byte)) ∙ ap (λ (bs : List ℕ). length bs) (bytes_of_placed place bytes)
 
--- One more byte of a piece, all but the first `skipped` bytes of which are taken.
+-- One more of the bytes, of which all but the first `skipped` are taken.
 pub placed_push : (offset skipped i : ℕ) (bytes : List ℕ) (place byte : ℕ) → skipped ≤ i → i < length bytes → place ≡ offset + i → byte ≡ get_or bytes i 0
     → placed (offset + skipped) (drop skipped (take (i + 1) bytes)) ≡ placed (offset + skipped) (drop skipped (take i bytes)) ++ placed place (byte ∷ [])
 placed_push offset skipped i bytes place byte from within place_is byte_is =
@@ -78,7 +77,7 @@ skipping last came offset n skipped bytes four is has =
           has ∙ last_of_long 4 came later long ∙ sym (last_of_long 4 (came ++ front) later long) ∙ ap (λ (ps : List PlacedByte). last_of 4 ps) (append_assoc came front later ∙ ap (λ (ps : List PlacedByte). came ++ ps) (sym parts))
     ]
 
--- The last bytes of a piece are enough, if they are four or more, or all.
+-- The last bytes are enough, if they are four or more, or all.
 pub with_last : (last : LastPayload) (came : List PlacedByte) (offset n : ℕ) (bytes all : List ℕ) → 4 ≤ n → bytes ≡ last_of n all → HasLastPayload last (came ++ placed (offset + (length all - n)) bytes) → HasLastPayload last (came ++ placed offset all)
 with_last last came offset n bytes all four is has =
     skipping last came offset n (length all - n) all four refl (subst (λ (bs : List ℕ). HasLastPayload last (came ++ placed (offset + (length all - n)) bs)) is has)

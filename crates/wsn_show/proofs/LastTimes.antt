@@ -8,7 +8,7 @@ use Rattle.wsn_rules.specs.Sides.{bytes_in}
 use Rattle.wsn_rules.specs.ShownCapture.{IsTimeAfter, IsTimeOfLast}
 use Rattle.wsn_rules.proofs.LastTimes.{some_bytes, one_each, same_last_time, new_last_time}
 use Rattle.wsn_show.specs.declared.last_times.LastTimes.{LastTimes}
-use Rattle.wsn_show.specs.LastTimes.{HasNotedTimes}
+use Rattle.wsn_show.specs.EndNotes.{HasNotedTimes}
 
 module _ (lines : List (List ℕ)) (entries : List Entry) (line : List ℕ) (are : AreEntries lines entries) where
   -- A line with bytes of this endpoint.

@@ -9,7 +9,7 @@ pub mod PrintedParts
 pub mod FramesSoFar
 pub mod TakenParts
 pub mod ShownSteps
-pub mod ShownPieces
+pub mod ShownChunks
 pub mod StreamsShown
 pub mod ViewedStreams
 pub mod Points
@@ -17,7 +17,7 @@ pub mod ShownEntries
 pub mod EndNotes
 pub mod LastTimes
 pub mod AcceptedLines
-pub mod PassedPieces
+pub mod PassedChunks
 pub mod EndedTexts
 pub mod OneText
 pub mod EveryText

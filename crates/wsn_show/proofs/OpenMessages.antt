@@ -2,10 +2,9 @@
 use Rattle.std.proofs.Common.{◌≡◌, ◌≢◌, ℕ, ◌+◌, true, false, List, [], ◌∷◌, ◌++◌, length, sym, ap, ◌∙◌, subst, append-nil, length-append, arith}
 use Rattle.wsn_wire.specs.Frame.{Frame, stream, frame_bytes, head_bytes, wire_payload}
 use Rattle.wsn_wire.proofs.FrameLemmas.{length-wire_payload}
-use Rattle.wsn_rules.specs.BadCharacter.{payload_offset, last_of, message_payload}
+use Rattle.wsn_rules.specs.BadCharacter.{payload_offset, last_of, message_payload, PlacedByte}
 use Rattle.wsn_rules.specs.Group.{is_data, unfinished, first_op, payload_of}
 use Rattle.wsn_rules.specs.Heads.{info_of}
-use Rattle.wsn_rules.specs.PlacedByte.{PlacedByte}
 use Rattle.wsn_rules.proofs.Groups.{unfinished_control, unfinished_final, unfinished_more}
 use Rattle.wsn_rules.proofs.MessageText.{text_of_push}
 use Rattle.wsn_rules.proofs.OpenOffsets.{offset_of_none, offset_after_control, offset_after_fragment}

@@ -12,7 +12,7 @@ use Rattle.wsn_rules.specs.Sides.{sent, bytes_in}
 use Rattle.wsn_rules.specs.ShownStream.{Item, Shown, IsShownStream, IsLeftOver}
 use Rattle.wsn_rules.specs.ShownCapture.{of_stream, beyond, GivesTime, GivesNoTime}
 use Rattle.wsn_rules.specs.ShownCapture.LineItem.{End, Comment}
-use Rattle.wsn_print.specs.ShownParts.{Position}
+use Rattle.wsn_print.specs.ShownParts.{EntryPosition}
 use Rattle.wsn_shown_text.specs.EntryFormats.{end_entry, comment_entry}
 use Rattle.wsn_capture.specs.CaptureLines.{count_of}
 use Rattle.wsn_print.specs.declared.style.Style.{Style}
@@ -24,7 +24,7 @@ use Rattle.wsn_capture.specs.declared.capture_lines.CaptureLines.{CaptureLines}
 use Rattle.wsn_capture.proofs.ClosingLines.{sent-push}
 use Rattle.wsn_show.specs.declared.capture_view.CaptureView.{CaptureView}
 use Rattle.wsn_show.specs.declared.stream_view.StreamView.{StreamView}
-use Rattle.wsn_show.specs.StreamViews.{HasViewed}
+use Rattle.wsn_show.specs.ShownSoFar.{HasViewed}
 use Rattle.wsn_show.specs.CaptureViews.{AreViewed, IsAcceptedText, CanShow, line_position, ShowsText, ShowsMark}
 
 -- ---- empty texts
@@ -34,27 +34,27 @@ some_text bs some is = false≢true (sym (subst (λ (xs : List ℕ). (length xs 
 
 -- ---- what a stream's view does
 
-pub record Takes (role : Role) (limits : Limits) (style : Style) (new : StreamView) (came bytes : List ℕ) (position : Position)
+pub record Takes (role : Role) (limits : Limits) (style : Style) (new : StreamView) (came bytes : List ℕ) (position : EntryPosition)
     (before after : Outgoing) : Type 0 where
   pub viewed : HasViewed role limits style new (came ++ bytes)
   pub shown : List Shown
   pub is_shown : IsShownStream style.detail role limits (came ++ bytes) shown
   pub printed : IsWrittenUpToFailure before after (styled_items style role position (beyond (length came) shown))
 
-pub record PutsLeft (role : Role) (limits : Limits) (style : Style) (came : List ℕ) (position : Position) (before after : Outgoing) : Type 0 where
+pub record PutsLeft (role : Role) (limits : Limits) (style : Style) (came : List ℕ) (position : EntryPosition) (before after : Outgoing) : Type 0 where
   pub left : List Item
   pub is_left : IsLeftOver role limits came left
   pub printed : IsWrittenUpToFailure before after (styled_items style role position left)
 
 -- ---- the text of items
 
-of_stream_text : (style : Style) (role : Role) (position : Position) (items : List Item) →
+of_stream_text : (style : Style) (role : Role) (position : EntryPosition) (items : List Item) →
     flat_map (styled_line_item style position) (of_stream role items) ≡ styled_items style role position items
 of_stream_text style role position [] = refl
 of_stream_text style role position (item ∷ items) =
     ap (λ (bs : List ℕ). styled_item style role position item ++ bs) (of_stream_text style role position items)
 
-with_end_text : (style : Style) (role : Role) (position : Position) (items : List Item) (offset : ℕ) →
+with_end_text : (style : Style) (role : Role) (position : EntryPosition) (items : List Item) (offset : ℕ) →
     flat_map (styled_line_item style position) (of_stream role items ++ End role offset ∷ []) ≡ styled_items style role position items ++ end_entry style.format role position offset
 with_end_text style role position items offset =
     flat_map-append (styled_line_item style position) (of_stream role items) (End role offset ∷ [])
@@ -198,7 +198,7 @@ room_for_server view digits bytes can hex =
 
 -- ---- end marks
 
-pub marks : (role : Role) (limits : Limits) (style : Style) (given : List Entry) (position : Position) (before after : Outgoing) (left : List Item)
+pub marks : (role : Role) (limits : Limits) (style : Style) (given : List Entry) (position : EntryPosition) (before after : Outgoing) (left : List Item)
     → IsLeftOver role limits (sent role given) left
     → IsWrittenUpToFailure before after (styled_items style role position left ++ end_entry style.format role position (length (sent role given)))
     → ShowsMark role limits style given position before after

@@ -1,7 +1,7 @@
 -- An input whose capture is shown: the answer fits the bytes that came.
 use Rattle.std.proofs.Common.{◌≡◌, ℕ, ◌+◌, ◌*◌, ◌≤◌, false, true, Result, Ok, Err, List, [], ◌∷◌, ◌++◌, flat_map, length, inl, inr, refl, sym, ap, ◌∙◌, subst, append_assoc, append-nil, length-append, arith}
 use Rattle.std.specs.Io.KnownBytes.{IsAtEnd}
-use Rattle.wsn_io.specs.Transfer.{Incoming, Outgoing, IsConsumed, IsKept}
+use Rattle.wsn_io.specs.Transfer.{Incoming, Outgoing, IsConsumed, IsKept, IsWrittenBut}
 use Rattle.wsn_io.proofs.Received.{consumed_none, consumed_on, consumed_end, consumed_kept, received_of}
 use Rattle.wsn_io.proofs.PutTexts.{prints_nothing}
 use Rattle.wsn_rules.specs.Limits.{Limits}
@@ -20,9 +20,9 @@ use Rattle.wsn_show.specs.declared.capture_view.CaptureView.{CaptureView}
 use Rattle.wsn_show.specs.declared.showing.ShowStop.{ShowStop}
 use Rattle.wsn_show.specs.declared.showing.ShowStop.TheVariants as stop
 use Rattle.wsn_show.specs.CaptureViews.{HasShownLines}
-use Rattle.wsn_show.specs.Showing.{IsPrintedBut, IsShowAnswer, IsShown}
+use Rattle.wsn_show.specs.Showing.{IsShowAnswer, IsShown, IsTextSoFar}
 use Rattle.wsn_show.specs.PassedLines.{HasPrinted, StopsWithin, EndsShowing}
-use Rattle.wsn_show.proofs.PassedPieces.{text_so_far, whole_part}
+use Rattle.wsn_show.proofs.PassedChunks.{text_so_far, whole_part}
 
 -- All bytes that came were passed on, and what their lines show was printed.
 pub record HasReadOn (limits : Limits) (style : Style) (old new : Incoming) (first : Outgoing) (view : CaptureView) (begun : List ℕ) (now : Outgoing)
@@ -94,10 +94,10 @@ module _ (limits : Limits) (style : Style) (old mid new : Incoming) (first : Out
   at_end (Err stop.Write) after ends unfailed is = (unfailed, is.0)
 
   all_at_end : (result : Result CaptureReport ShowStop) (after : Outgoing) → EndsShowing limits style first after read.came result → result ≡ Err stop.Write
-      → IsPrintedBut chunk_size limits style read.came first after
+      → IsWrittenBut chunk_size (IsTextSoFar limits style) read.came first after
   all_at_end result after ends is =
       let at_end = subst (λ (r : Result CaptureReport ShowStop). EndsShowing limits style first after read.came r) is ends in
-      record { done = read.came; last = []; whole = sym (append-nil read.came); short = omega arith; printed = at_end.1 }
+      record { done = read.came; last = []; whole = sym (append-nil read.came); short = omega arith; written = at_end.1 }
 
   -- the input ended
   pub ended : (result : Result CaptureReport ShowStop) (after : Outgoing) → IsConsumed mid new [] → IsAtEnd new.remaining → new.failed ≡ false
@@ -110,18 +110,18 @@ module _ (limits : Limits) (style : Style) (old mid new : Incoming) (first : Out
   }
 
   -- a chunk was shown
-  pub goes_on : (piece : List ℕ) (further : CaptureView) (left : List ℕ) (after : Outgoing) → IsConsumed mid new piece
-      → HasPrinted limits style first further left after (read.came ++ piece) → HasReadOn limits style old new first further left after
-  goes_on piece further left after consumes printed = record {
-    came = read.came ++ piece;
-    consumed = consumed_on old mid new read.came piece read.consumed consumes;
+  pub goes_on : (chunk : List ℕ) (further : CaptureView) (left : List ℕ) (after : Outgoing) → IsConsumed mid new chunk
+      → HasPrinted limits style first further left after (read.came ++ chunk) → HasReadOn limits style old new first further left after
+  goes_on chunk further left after consumes printed = record {
+    came = read.came ++ chunk;
+    consumed = consumed_on old mid new read.came chunk read.consumed consumes;
     printed = printed;
   }
 
-  prompt : (piece : List ℕ) (number : ℕ) (fault : LineFault) → length piece ≤ 4096 → IsStopWithin limits read.came piece (capture.Line number fault)
-      → IsPrompt limits (read.came ++ piece) number fault
-  prompt piece number fault size within =
-      let whole : read.came ++ piece ≡ (read.came ++ within.earlier) ++ within.last ∷ within.ahead = ap (λ (bs : List ℕ). read.came ++ bs) within.whole ∙ sym (append_assoc read.came within.earlier (within.last ∷ within.ahead)) in
+  prompt : (chunk : List ℕ) (number : ℕ) (fault : LineFault) → length chunk ≤ 4096 → IsStopWithin limits read.came chunk (capture.Line number fault)
+      → IsPrompt limits (read.came ++ chunk) number fault
+  prompt chunk number fault size within =
+      let whole : read.came ++ chunk ≡ (read.came ++ within.earlier) ++ within.last ∷ within.ahead = ap (λ (bs : List ℕ). read.came ++ bs) within.whole ∙ sym (append_assoc read.came within.earlier (within.last ∷ within.ahead)) in
       let sizes = ap (λ (bs : List ℕ). length bs) within.whole ∙ length-append within.earlier (within.last ∷ within.ahead) in
       record {
         earlier = read.came ++ within.earlier;
@@ -134,26 +134,26 @@ module _ (limits : Limits) (style : Style) (old mid new : Incoming) (first : Out
         few = omega (arith, sizes, size);
       }
 
-  within_piece : (piece : List ℕ) (s : ShowStop) (after : Outgoing) → length piece ≤ 4096 → new.failed ≡ false
-      → StopsWithin limits style first after read.came piece s → IsShowAnswer limits style new (read.came ++ piece) first after (Err s)
-  within_piece piece (stop.Capture (capture.Line number fault)) after size unfailed stops =
-      (inl (prompt piece number fault size stops.0), unfailed, stops.1)
-  within_piece piece (stop.Capture capture.Read) after size unfailed stops = absurd stops
-  within_piece piece stop.Write after size unfailed stops = (unfailed, stops.0)
+  within_chunk : (chunk : List ℕ) (s : ShowStop) (after : Outgoing) → length chunk ≤ 4096 → new.failed ≡ false
+      → StopsWithin limits style first after read.came chunk s → IsShowAnswer limits style new (read.came ++ chunk) first after (Err s)
+  within_chunk chunk (stop.Capture (capture.Line number fault)) after size unfailed stops =
+      (inl (prompt chunk number fault size stops.0), unfailed, stops.1)
+  within_chunk chunk (stop.Capture capture.Read) after size unfailed stops = absurd stops
+  within_chunk chunk stop.Write after size unfailed stops = (unfailed, stops.0)
 
-  all_but_piece : (piece : List ℕ) (s : ShowStop) (after : Outgoing) → length piece ≤ 4096 → StopsWithin limits style first after read.came piece s
-      → (let answer : Result CaptureReport ShowStop = Err s in answer) ≡ Err stop.Write → IsPrintedBut chunk_size limits style (read.came ++ piece) first after
-  all_but_piece piece (stop.Capture capture) after size stops is = cc
-  all_but_piece piece stop.Write after size stops is =
+  all_but_chunk : (chunk : List ℕ) (s : ShowStop) (after : Outgoing) → length chunk ≤ 4096 → StopsWithin limits style first after read.came chunk s
+      → (let answer : Result CaptureReport ShowStop = Err s in answer) ≡ Err stop.Write → IsWrittenBut chunk_size (IsTextSoFar limits style) (read.came ++ chunk) first after
+  all_but_chunk chunk (stop.Capture capture) after size stops is = cc
+  all_but_chunk chunk stop.Write after size stops is =
       let but = stops.1 in
-      record { done = but.done; last = but.last; whole = but.whole; short = let most = but.short in omega (arith, most, size); printed = but.printed }
+      record { done = but.done; last = but.last; whole = but.whole; short = let most = but.short in omega (arith, most, size); written = but.written }
 
   -- the stop is within a chunk
-  pub stops_here : (piece : List ℕ) (s : ShowStop) (after : Outgoing) → IsConsumed mid new piece → length piece ≤ 4096 → new.failed ≡ false
-      → StopsWithin limits style first after read.came piece s → IsShown limits style old new first after (Err s)
-  stops_here piece s after consumes size unfailed stops = record {
-    came = read.came ++ piece;
-    received = received_of (1000001 * 8196 + 4095) old new (read.came ++ piece) (consumed_on old mid new read.came piece read.consumed consumes) (omega (arith, bounded, size, length-append read.came piece));
-    answer = within_piece piece s after size unfailed stops;
-    at_once = all_but_piece piece s after size stops;
+  pub stops_here : (chunk : List ℕ) (s : ShowStop) (after : Outgoing) → IsConsumed mid new chunk → length chunk ≤ 4096 → new.failed ≡ false
+      → StopsWithin limits style first after read.came chunk s → IsShown limits style old new first after (Err s)
+  stops_here chunk s after consumes size unfailed stops = record {
+    came = read.came ++ chunk;
+    received = received_of (1000001 * 8196 + 4095) old new (read.came ++ chunk) (consumed_on old mid new read.came chunk read.consumed consumes) (omega (arith, bounded, size, length-append read.came chunk));
+    answer = within_chunk chunk s after size unfailed stops;
+    at_once = all_but_chunk chunk s after size stops;
   }

@@ -39,16 +39,16 @@ use Rattle.wsn_show.specs.HeldParts.{HasFirst}
 use Rattle.wsn_show.specs.LastPayloads.{GoesWrong, GoesWrongAt, character_at}
 use Rattle.wsn_show.specs.ShownItems.{Prints}
 use Rattle.wsn_show.specs.ShownSoFar.{HasShownFrames, HasShownRefusal, ShowsMore}
-use Rattle.wsn_show.specs.StreamParts.{Keeps, held_at}
+use Rattle.wsn_show.specs.StreamParts.{KeepsStream, held_at}
 use Rattle.wsn_show.specs.TakenParts.{ShowsPart}
 use Rattle.wsn_show.proofs.PrintedItems.{prints_nothing}
 use Rattle.wsn_scan.proofs.FollowedScans.{wire_payload_is, few, few_open, rest_few, lawful_done, unrefused_so_far, in_frame, size_in_frame, size_of_share, reached, few_more, same_follows, is_between, reach, part_taken, part_follows, refused_there, refused_begun}
 use Rattle.wsn_show.proofs.FramesSoFar.{items_after, are_so_far}
 
-module _ (role : Role) (limits : Limits) (old new : Scan) (piece after : List ℕ) (n : ℕ) (part : Part) (came : List ℕ) (shown : List Shown) (parts parts_after : StreamParts) (context : EntryContext) (out out_after : Outgoing)
+module _ (role : Role) (limits : Limits) (old new : Scan) (chunk after : List ℕ) (n : ℕ) (part : Part) (came : List ℕ) (shown : List Shown) (parts parts_after : StreamParts) (context : EntryContext) (out out_after : Outgoing)
     (frames : HasShownFrames context.style.detail role limits old parts came shown) where
   abbrev share : List ℕ
-  share = take n piece
+  share = take n chunk
 
   abbrev detail : Detail
   detail = context.style.detail
@@ -57,26 +57,26 @@ module _ (role : Role) (limits : Limits) (old new : Scan) (piece after : List �
   done = frames.done
 
   abbrev longer : List ℕ
-  longer = frames.rest ++ take n piece
+  longer = frames.rest ++ take n chunk
 
   -- Neither a part nor a refusal.
-  module _ (found : Taken) (call : IsCall old new piece after n found part) where
-    abbrev all : IsReachedBy role limits new (came ++ take n piece) (Finds found part (drop part.start (take n after)) done frames.at) × Consumes found part (length piece) n
-    all = reached role limits old new piece after n found part came done frames.at frames.rest frames.followed call
+  module _ (found : Taken) (call : IsCall old new chunk after n found part) where
+    abbrev all : IsReachedBy role limits new (came ++ take n chunk) (Finds found part (drop part.start (take n after)) done frames.at) × Consumes found part (length chunk) n
+    all = reached role limits old new chunk after n found part came done frames.at frames.rest frames.followed call
 
     quiet : (found ≡ taken.Refused → ⊥) → all.0.frames ≡ done → all.0.position ≡ frames.at → 0 < n
-        → ((rest : List ℕ) → length rest + n < 2 ^ 64 → Keeps parts done BetweenFrames rest → Keeps parts_after done BetweenFrames (rest ++ share)) → ShowsMore role limits new parts_after context out out (came ++ share) shown
+        → ((rest : List ℕ) → length rest + n < 2 ^ 64 → KeepsStream parts done BetweenFrames rest → KeepsStream parts_after done BetweenFrames (rest ++ share)) → ShowsMore role limits new parts_after context out out (came ++ share) shown
     quiet other same there some adds =
-        let g = same_follows role limits old new piece after n found part came done frames.at frames.rest frames.followed call same there other in
-        let between = is_between role limits old new piece after n found part came done frames.at frames.rest frames.followed call same there other some in
-        let small = few_more role limits old new piece after n found part came done frames.at frames.rest frames.followed call in
-        let keeps = adds frames.rest small (subst (λ (p : Position). Keeps parts done p frames.rest) between frames.keeps) in
+        let g = same_follows role limits old new chunk after n found part came done frames.at frames.rest frames.followed call same there other in
+        let between = is_between role limits old new chunk after n found part came done frames.at frames.rest frames.followed call same there other some in
+        let small = few_more role limits old new chunk after n found part came done frames.at frames.rest frames.followed call in
+        let keeps = adds frames.rest small (subst (λ (p : Position). KeepsStream parts done p frames.rest) between frames.keeps) in
         let now : HasShownFrames detail role limits new parts_after (came ++ share) shown = record {
           done = done;
           at = frames.at;
           rest = longer;
           followed = g;
-          keeps = subst (λ (p : Position). Keeps parts_after done p longer) (sym between) keeps;
+          keeps = subst (λ (p : Position). KeepsStream parts_after done p longer) (sym between) keeps;
           is = frames.is;
         } in
         record {
@@ -85,34 +85,34 @@ module _ (role : Role) (limits : Limits) (old new : Scan) (piece after : List �
           printed = prints_nothing context out;
         }
 
-  pub more_step : IsCall old new piece after n taken.More part → 0 < length piece
-      → ((rest : List ℕ) → length rest + n < 2 ^ 64 → Keeps parts done BetweenFrames rest → Keeps parts_after done BetweenFrames (rest ++ share)) → ShowsMore role limits new parts_after context out out (came ++ share) shown
+  pub more_step : IsCall old new chunk after n taken.More part → 0 < length chunk
+      → ((rest : List ℕ) → length rest + n < 2 ^ 64 → KeepsStream parts done BetweenFrames rest → KeepsStream parts_after done BetweenFrames (rest ++ share)) → ShowsMore role limits new parts_after context out out (came ++ share) shown
   more_step call some adds =
-      let r = reached role limits old new piece after n taken.More part came done frames.at frames.rest frames.followed call in
+      let r = reached role limits old new chunk after n taken.More part came done frames.at frames.rest frames.followed call in
       let size = r.1 in
       quiet taken.More call (λ same. cc) r.0.found.0 r.0.found.1 (omega (arith, size, some)) adds
 
-  pub closed_step : IsCall old new piece after n taken.Closed part → 0 < length piece
-      → ((rest : List ℕ) → length rest + n < 2 ^ 64 → Keeps parts done BetweenFrames rest → Keeps parts_after done BetweenFrames (rest ++ share)) → ShowsMore role limits new parts_after context out out (came ++ share) shown
+  pub closed_step : IsCall old new chunk after n taken.Closed part → 0 < length chunk
+      → ((rest : List ℕ) → length rest + n < 2 ^ 64 → KeepsStream parts done BetweenFrames rest → KeepsStream parts_after done BetweenFrames (rest ++ share)) → ShowsMore role limits new parts_after context out out (came ++ share) shown
   closed_step call some adds =
-      let r = reached role limits old new piece after n taken.Closed part came done frames.at frames.rest frames.followed call in
+      let r = reached role limits old new chunk after n taken.Closed part came done frames.at frames.rest frames.followed call in
       let size = r.1 in
       quiet taken.Closed call (λ same. cc) r.0.found.0 r.0.found.1 (omega (arith, size, some)) adds
 
   -- ---- a part
 
-  pub part_step : IsCall old new piece after n taken.Part part
+  pub part_step : IsCall old new chunk after n taken.Part part
       → ((ended : List Frame) (to : Position) (before since : List ℕ) → IsPartAt frames.at part before → IsTaken role limits done frames.rest before part (take (length (take n after) - part.start) (drop part.start (take n after))) share ended to since
-      → Keeps parts done frames.at frames.rest → ShowsPart done frames.at ended to since parts_after context out out_after)
+      → KeepsStream parts done frames.at frames.rest → ShowsPart done frames.at ended to since parts_after context out out_after)
       → ShowsMore role limits new parts_after context out out_after (came ++ share) shown
   part_step call takes =
-      let r = reach role limits old new piece after n part came done frames.at frames.rest frames.followed call in
-      let s = takes r.frames r.position r.found.before r.since r.found.is_at (part_taken role limits old new piece after n part came done frames.at frames.rest frames.followed call) frames.keeps in
+      let r = reach role limits old new chunk after n part came done frames.at frames.rest frames.followed call in
+      let s = takes r.frames r.position r.found.before r.since r.found.is_at (part_taken role limits old new chunk after n part came done frames.at frames.rest frames.followed call) frames.keeps in
       let now : HasShownFrames detail role limits new parts_after (came ++ share) (shown ++ s.extra) = record {
         done = r.frames;
         at = r.position;
         rest = r.since;
-        followed = part_follows role limits old new piece after n part came done frames.at frames.rest frames.followed call;
+        followed = part_follows role limits old new chunk after n part came done frames.at frames.rest frames.followed call;
         keeps = s.keeps;
         is = ap (λ (ss : List Shown). ss ++ s.extra) frames.is ∙ s.is;
       } in
@@ -120,12 +120,12 @@ module _ (role : Role) (limits : Limits) (old new : Scan) (piece after : List �
 
   -- ---- a refusal
 
-  module _ (refusal : Refusal) (is : refusal_in new ≡ Some refusal) (call : IsCall old new piece after n taken.Refused part) where
+  module _ (refusal : Refusal) (is : refusal_in new ≡ Some refusal) (call : IsCall old new chunk after n taken.Refused part) where
     reaches : (scanned : HasScanned role limits new (came ++ share) done longer frames.at) × IsRefusedThere role limits refusal (came ++ share) done frames.at
-    reaches = refused_there role limits old new piece after n part came done frames.at frames.rest frames.followed refusal is call
+    reaches = refused_there role limits old new chunk after n part came done frames.at frames.rest frames.followed refusal is call
 
     begun : IsBegun role limits done longer (begun_at frames.at)
-    begun = refused_begun role limits old new piece after n part came done frames.at frames.rest frames.followed refusal is call
+    begun = refused_begun role limits old new chunk after n part came done frames.at frames.rest frames.followed refusal is call
 
     -- The offending byte is one of this call's.
     some : 0 < n
@@ -133,7 +133,7 @@ module _ (role : Role) (limits : Limits) (old new : Scan) (piece after : List �
         let before = unrefused_so_far role limits old came done frames.at frames.rest frames.followed in
         let refused = subst (λ (bs : List ℕ). IsRefused role limits bs done refusal.place refusal.reason) (append-nil (came ++ share)) (reaches.1.refused []) in
         let place = reaches.1.place in
-        let own = size_of_share role limits old new piece after n taken.Refused part came done frames.at frames.rest frames.followed call in
+        let own = size_of_share role limits old new chunk after n taken.Refused part came done frames.at frames.rest frames.followed call in
         omega (arith, place_after role limits came share done refusal.place refusal.reason before refused, place, own, length-append came share)
 
     abbrev evidence : List ℕ
@@ -143,7 +143,7 @@ module _ (role : Role) (limits : Limits) (old new : Scan) (piece after : List �
     unmasked = call.refused refl role limits came frames.rest done frames.at frames.followed.has_scanned
 
     more_payload : (info : HeadInfo) (payload : List ℕ) (here : frames.at ≡ InFrame info payload)
-        → payload ++ take n after ≡ wire_payload info.key ((in_frame role limits old came done frames.at frames.rest frames.followed info payload here).begins.following ++ take n piece)
+        → payload ++ take n after ≡ wire_payload info.key ((in_frame role limits old came done frames.at frames.rest frames.followed info payload here).begins.following ++ take n chunk)
     more_payload info payload here =
         let own = in_frame role limits old came done frames.at frames.rest frames.followed info payload here in
         let following = own.begins.following in
@@ -163,7 +163,7 @@ module _ (role : Role) (limits : Limits) (old new : Scan) (piece after : List �
         let own = in_frame role limits old came done frames.at frames.rest frames.followed info payload here in
         let b = begins_longer role limits done frames.rest share info own.begins in
         let following = own.begins.following in
-        let bytes = size_of_share role limits old new piece after n taken.Refused part came done frames.at frames.rest frames.followed call in
+        let bytes = size_of_share role limits old new chunk after n taken.Refused part came done frames.at frames.rest frames.followed call in
         let is = more_payload info payload here in
         inl (info, b, (λ none. let zero_bytes : length (following ++ share) ≡ 0 = ap (λ (bs : List ℕ). length bs) none in omega (arith, zero_bytes, length-append following share, bytes, some)), is, refl)
 
@@ -171,21 +171,21 @@ module _ (role : Role) (limits : Limits) (old new : Scan) (piece after : List �
     small_evidence = by frames.at refl
       where
         by : (p : Position) → frames.at ≡ p → length (held_at p frames.rest) + n < 2 ^ 64
-        by BetweenFrames here = few_more role limits old new piece after n taken.Refused part came done frames.at frames.rest frames.followed call
+        by BetweenFrames here = few_more role limits old new chunk after n taken.Refused part came done frames.at frames.rest frames.followed call
         by (InFrame info payload) here =
             let size = size_in_frame role limits old came done frames.at frames.rest frames.followed info payload here in
-            let more = few_more role limits old new piece after n taken.Refused part came done frames.at frames.rest frames.followed call in
+            let more = few_more role limits old new chunk after n taken.Refused part came done frames.at frames.rest frames.followed call in
             omega (arith, size, more)
 
     abbrev character : Option BadCharacter
     character = character_at refusal.reason done frames.at (take n after)
 
     module _ (info : HeadInfo) (payload : List ℕ) (here : frames.at ≡ InFrame info payload) (is_bad : refusal.reason ≡ TextBad) where
-      bad : IsRefused role limits (came ++ take n piece) done refusal.place TextBad
+      bad : IsRefused role limits (came ++ take n chunk) done refusal.place TextBad
       bad = subst (IsRefused role limits (came ++ share) done refusal.place) is_bad (subst (λ (bs : List ℕ). IsRefused role limits bs done refusal.place refusal.reason) (append-nil (came ++ share)) (reaches.1.refused []))
 
       -- The offending byte is the last one.
-      seen_is : bad.is_evident.seen ≡ frames.rest ++ take n piece
+      seen_is : bad.is_evident.seen ≡ frames.rest ++ take n chunk
       seen_is =
           let seen = bad.is_evident.seen in
           let later = bad.is_evident.later in
@@ -196,7 +196,7 @@ module _ (role : Role) (limits : Limits) (old new : Scan) (piece after : List �
           let none : later ≡ [] = no_items later (omega (arith, stops, place, all)) in
           sym (append-nil seen) ∙ ap (λ (bs : List ℕ). seen ++ bs) (sym none) ∙ append_cancel (stream done) (seen ++ later) longer (sym bad.is_evident.whole ∙ reaches.0.has_consumed.whole)
 
-      begins_seen : (b : BeginsWithHead role limits done bad.is_evident.seen info) × (b.following ≡ (in_frame role limits old came done frames.at frames.rest frames.followed info payload here).begins.following ++ take n piece)
+      begins_seen : (b : BeginsWithHead role limits done bad.is_evident.seen info) × (b.following ≡ (in_frame role limits old came done frames.at frames.rest frames.followed info payload here).begins.following ++ take n chunk)
       unfolding begins_longer
       begins_seen =
           let b = begins_longer role limits done frames.rest share info (in_frame role limits old came done frames.at frames.rest frames.followed info payload here).begins in (
@@ -214,10 +214,10 @@ module _ (role : Role) (limits : Limits) (old new : Scan) (piece after : List �
             refl,
           )
 
-      payload_is : payload ++ take n after ≡ wire_payload info.key ((in_frame role limits old came done frames.at frames.rest frames.followed info payload here).begins.following ++ take n piece)
+      payload_is : payload ++ take n after ≡ wire_payload info.key ((in_frame role limits old came done frames.at frames.rest frames.followed info payload here).begins.following ++ take n chunk)
       payload_is = more_payload info payload here
 
-      in_bytes : IsBytes (came ++ take n piece)
+      in_bytes : IsBytes (came ++ take n chunk)
       in_bytes = reaches.0.has_consumed.in_bytes
 
       of_text : GoesWrong done info payload frames.rest (take n after)
@@ -300,11 +300,11 @@ module _ (role : Role) (limits : Limits) (old new : Scan) (piece after : List �
         }
 
 -- A call with bytes consumes some, unless it refuses.
-pub consumes_some : (role : Role) (limits : Limits) (old new : Scan) (piece after : List ℕ) (n : ℕ) (found : Taken) (part : Part) (came : List ℕ) (done : List Frame) (at : Position) (rest : List ℕ)
-    → HasFollowed role limits old came done at rest → IsCall old new piece after n found part → 0 < length piece → refusal_in new ≡ None → 0 < n
-consumes_some role limits old new piece after n found part came done at rest h call some none = by found call.reported.1 (reached role limits old new piece after n found part came done at rest h call).1
+pub consumes_some : (role : Role) (limits : Limits) (old new : Scan) (chunk after : List ℕ) (n : ℕ) (found : Taken) (part : Part) (came : List ℕ) (done : List Frame) (at : Position) (rest : List ℕ)
+    → HasFollowed role limits old came done at rest → IsCall old new chunk after n found part → 0 < length chunk → refusal_in new ≡ None → 0 < n
+consumes_some role limits old new chunk after n found part came done at rest h call some none = by found call.reported.1 (reached role limits old new chunk after n found part came done at rest h call).1
   where
-    by : (f : Taken) → (f ≡ taken.Refused → IsSome (refusal_in new)) → Consumes f part (length piece) n → 0 < n
+    by : (f : Taken) → (f ≡ taken.Refused → IsSome (refusal_in new)) → Consumes f part (length chunk) n → 0 < n
     by taken.More refused is = omega (arith, is, some)
     by taken.Part refused is = is.0 some
     by taken.Closed refused is = omega (arith, is, some)

@@ -4,7 +4,7 @@ use Rattle.std.proofs.KnownBytes.{Appends-nil, Appends-trans}
 use Rattle.std.proofs.lemmas.List.{take_all, map-append}
 use Rattle.std.proofs.lemmas.List.Concat.{flat_map-append}
 use Rattle.std.specs.Io.KnownBytes.{Appends}
-use Rattle.wsn_io.specs.Transfer.{Incoming, Outgoing, IsReceived, IsWritten, IsPartlyWritten, IsWrittenUpToFailure}
+use Rattle.wsn_io.specs.Transfer.{Incoming, Outgoing, IsReceived, IsWritten, IsPartlyWritten, IsWrittenUpToFailure, IsWrittenAtLeast}
 use Rattle.wsn_io.specs.declared.stop.Stop.{Stop}
 use Rattle.wsn_io.specs.declared.stop.Stop.TheVariants as stop
 use Rattle.wsn_io.proofs.PutTexts.{put_both, put_front, prints_on, prints_no_more}
@@ -21,7 +21,7 @@ use Rattle.wsn_rules.proofs.OneVerdict.{one_verdict}
 use Rattle.wsn_rules.proofs.StaysRefused.{place_within, stays_refused}
 use Rattle.wsn_rules.proofs.ShownStreams.{shown_goes_on}
 use Rattle.wsn_rules.proofs.ShownLines.{nothing_shown}
-use Rattle.wsn_print.specs.ShownParts.Position.{InStream}
+use Rattle.wsn_print.specs.ShownParts.EntryPosition.{InStream}
 use Rattle.wsn_scan.specs.declared.chunk_reader.ChunkReader.{ChunkReader}
 use Rattle.wsn_scan.specs.ChunkReaders.{HasCome, IsEndOf, IsHaltOf}
 use Rattle.wsn_scan.specs.Judging.{chunk_size, IsReached, IsUnrefused}
@@ -31,9 +31,8 @@ use Rattle.wsn_scan.proofs.JudgedInputs.{stopped_unrefused}
 use Rattle.wsn_scan.proofs.Unrefused.{place_after}
 use Rattle.wsn_print.specs.declared.style.Style.{Style}
 use Rattle.wsn_show.specs.Styles.{styled_item, styled_items, styled_verdict}
-use Rattle.wsn_show.specs.ShownSoFar.{items_in}
-use Rattle.wsn_show.specs.StreamViews.{Viewed, HasViewed}
-use Rattle.wsn_show.specs.StreamShows.{IsItemText, IsLeftWith, IsStreamText, IsPrintedText, IsShownAtLeast, EndsStream, IsStreamShown}
+use Rattle.wsn_show.specs.ShownSoFar.{items_in, Viewed, HasViewed}
+use Rattle.wsn_show.specs.StreamShows.{IsItemText, IsLeftWith, IsStreamText, IsPrintedText, EndsStream, IsStreamShown}
 
 module _ (role : Role) (limits : Limits) (style : Style) where
   -- All bytes that came aren't refused, and what is shown of them was printed.
@@ -61,7 +60,7 @@ module _ (role : Role) (limits : Limits) (style : Style) where
   }
 
   -- what follows a text that was written, up to a failed write
-  at_least : (first now after : Outgoing) (bytes text more : List ℕ) → IsItemText role limits style bytes text → IsWritten first now text → IsWrittenUpToFailure now after more → IsShownAtLeast role limits style bytes first after
+  at_least : (first now after : Outgoing) (bytes text more : List ℕ) → IsItemText role limits style bytes text → IsWritten first now text → IsWrittenUpToFailure now after more → IsWrittenAtLeast (IsItemText role limits style bytes) first after
   at_least first now after bytes text more is_text wrote (inl went) = (text, more, is_text, Appends-trans first.written now.written after.written text more wrote.1 went.1)
   at_least first now after bytes text more is_text wrote (inr part) = (text, take part.1.0 more, is_text, Appends-trans first.written now.written after.written text (take part.1.0 more) wrote.1 part.1.1)
 
@@ -167,30 +166,30 @@ module _ (role : Role) (limits : Limits) (style : Style) where
         received = end.received;
         answer = (end.unfailed, λ fs place reason refused. absurd (read.unrefused fs place reason refused));
         printed = (e.1.0, subst (λ (bs : List ℕ). IsPrintedText role limits style bs e.1.0) (sym within_all) e.1.1, e.1.2);
-        at_once = λ is. record { done = came; last = []; whole = sym (append-nil came); short = omega arith; shown = e.2 };
+        at_once = λ is. record { done = came; last = []; whole = sym (append-nil came); short = omega arith; written = e.2 };
       }
       ended (Err stop.Read) e = let h : stop.Read ≡ stop.Write = e.0 in absurd cc
       ended (Err stop.InputLimit) e = let h : stop.InputLimit ≡ stop.Write = e.0 in absurd cc
       ended (Err stop.Memory) e = let h : stop.Memory ≡ stop.Write = e.0 in absurd cc
 
     -- ---- the next chunk came, and the view got it
-    module _ (new : Incoming) (later : ChunkReader) (piece : List ℕ) (come : HasCome limits old new later (came ++ piece)) (short : length piece + length come.past ≤ chunk_size)
-        (next : Viewed) (after : Outgoing) (viewed : HasViewed role limits style next (came ++ piece))
-        (shows : (shown : List Shown) × IsShownStream style.detail role limits (came ++ piece) shown × IsWrittenUpToFailure now after (styled_items style role InStream (beyond (length came) shown))) where
+    module _ (new : Incoming) (later : ChunkReader) (chunk : List ℕ) (come : HasCome limits old new later (came ++ chunk)) (short : length chunk + length come.past ≤ chunk_size)
+        (next : Viewed) (after : Outgoing) (viewed : HasViewed role limits style next (came ++ chunk))
+        (shows : (shown : List Shown) × IsShownStream style.detail role limits (came ++ chunk) shown × IsWrittenUpToFailure now after (styled_items style role InStream (beyond (length came) shown))) where
       abbrev all_came : List ℕ
-      all_came = (came ++ piece) ++ come.past
+      all_came = (came ++ chunk) ++ come.past
 
       abbrev last_bytes : List ℕ
-      last_bytes = piece ++ come.past
+      last_bytes = chunk ++ come.past
 
       after_came : all_came ≡ came ++ last_bytes
-      after_came = append_assoc came piece come.past
+      after_came = append_assoc came chunk come.past
 
       received_all : IsReceived (limits.input + 1) old new all_came
-      received_all = received limits old new later (came ++ piece) come
+      received_all = received limits old new later (came ++ chunk) come
 
-      within_is : take limits.input all_came ≡ came ++ piece
-      within_is = within_limit limits old new later (came ++ piece) come
+      within_is : take limits.input all_came ≡ came ++ chunk
+      within_is = within_limit limits old new later (came ++ chunk) come
 
       abbrev items : List ℕ
       items = styled_items style role InStream (beyond (length came) shows.0)
@@ -198,9 +197,9 @@ module _ (role : Role) (limits : Limits) (style : Style) where
       abbrev lines : List ℕ
       lines = read.text ++ items
 
-      text_now : IsItemText role limits style (came ++ piece) lines
+      text_now : IsItemText role limits style (came ++ chunk) lines
       text_now =
-          let on = shown_goes_on role limits style.detail came piece read.is_text.shown shows.0 read.is_text.is_shown shows.1 in
+          let on = shown_goes_on role limits style.detail came chunk read.is_text.shown shows.0 read.is_text.is_shown shows.1 in
           let texts = λ (all : List Item). styled_items style role InStream all in
           record {
             shown = shows.0;
@@ -215,12 +214,12 @@ module _ (role : Role) (limits : Limits) (style : Style) where
       written_now = prints_on first now after read.text items read.written.0 (inl read.written) shows.2
 
       short_last : length last_bytes ≤ chunk_size
-      short_last = omega (arith, short, length-append piece come.past)
+      short_last = omega (arith, short, length-append chunk come.past)
 
       up_to_refusal : IsReadUpToRefusal role limits all_came
       up_to_refusal fs place reason refused =
           let place_is = place_after role limits came last_bytes fs place reason read.unrefused (subst (λ (bs : List ℕ). IsRefused role limits bs fs place reason) after_came refused) in
-          omega (arith, place_is, length-append (came ++ piece) come.past, length-append came piece, short)
+          omega (arith, place_is, length-append (came ++ chunk) come.past, length-append came chunk, short)
 
       pub write_failed : after.failed ≡ true → IsStreamShown role limits style old new first after (Err stop.Write)
       write_failed failed = record {
@@ -232,7 +231,7 @@ module _ (role : Role) (limits : Limits) (style : Style) where
           inl (subst (λ (bs : List ℕ). IsItemText role limits style bs lines) (sym within_is) text_now),
           elim written_now [ inl went ↦ (let both : false ≡ true = sym went.0 ∙ failed in absurd cc) | inr part ↦ part ],
         );
-        at_once = λ is. record { done = came; last = last_bytes; whole = after_came; short = short_last; shown = at_least first now after came read.text items read.is_text read.written shows.2 };
+        at_once = λ is. record { done = came; last = last_bytes; whole = after_came; short = short_last; written = at_least first now after came read.text items read.is_text read.written shows.2 };
       }
 
       module _ (works : after.failed ≡ false) where
@@ -240,11 +239,11 @@ module _ (role : Role) (limits : Limits) (style : Style) where
         wrote = elim written_now [ inl went ↦ went | inr part ↦ (let both : true ≡ false = sym part.0 ∙ works in absurd cc) ]
 
         -- the bytes are refused
-        module _ (fs : List Frame) (refusal : Refusal) (refused : IsRefused role limits (came ++ piece) fs refusal.place refusal.reason) (last : Outgoing) where
+        module _ (fs : List Frame) (refusal : Refusal) (refused : IsRefused role limits (came ++ chunk) fs refusal.place refusal.reason) (last : Outgoing) where
           abbrev verdict_text : List ℕ
           verdict_text = styled_verdict style (Refused refusal)
 
-          whole_text : IsStreamText role limits style (came ++ piece) (Refused refusal) (lines ++ verdict_text)
+          whole_text : IsStreamText role limits style (came ++ chunk) (Refused refusal) (lines ++ verdict_text)
           whole_text = record {
             frames = fs;
             is_verdict = refused;
@@ -257,19 +256,19 @@ module _ (role : Role) (limits : Limits) (style : Style) where
 
           refused_all : (more : List ℕ) → IsRefused role limits (all_came ++ more) fs refusal.place refusal.reason
           refused_all more =
-              subst (λ (bs : List ℕ). IsRefused role limits bs fs refusal.place refusal.reason) (sym (append_assoc (came ++ piece) come.past more))
-              (stays_refused role limits fs (came ++ piece) (come.past ++ more) refusal.place refusal.reason refused)
+              subst (λ (bs : List ℕ). IsRefused role limits bs fs refusal.place refusal.reason) (sym (append_assoc (came ++ chunk) come.past more))
+              (stays_refused role limits fs (came ++ chunk) (come.past ++ more) refusal.place refusal.reason refused)
 
           within : refusal.place < limits.input
           within =
-              let inside = place_within role limits fs (came ++ piece) refusal.place refusal.reason refused.is_evident in
+              let inside = place_within role limits fs (came ++ chunk) refusal.place refusal.reason refused.is_evident in
               let room = come.counted.room in
               omega (arith, inside, room)
 
           soon : length all_came ≤ refusal.place + chunk_size
           soon = up_to_refusal fs refusal.place refusal.reason (subst (λ (bs : List ℕ). IsRefused role limits bs fs refusal.place refusal.reason) (append-nil all_came) (refused_all []))
 
-          shown_before : (verdict : List ℕ) → Appends after.written last.written verdict → IsShownAtLeast role limits style came first last
+          shown_before : (verdict : List ℕ) → Appends after.written last.written verdict → IsWrittenAtLeast (IsItemText role limits style came) first last
           shown_before verdict put = (
             read.text,
             items ++ verdict,
@@ -299,16 +298,16 @@ module _ (role : Role) (limits : Limits) (style : Style) where
               inr (Refused refusal, subst (λ (bs : List ℕ). IsStreamText role limits style bs (Refused refusal) (lines ++ verdict_text)) (sym within_is) whole_text),
               put_front first after last lines verdict_text wrote e.1,
             );
-            at_once = λ is. record { done = came; last = last_bytes; whole = after_came; short = short_last; shown = shown_before (take e.1.1.0 verdict_text) e.1.1.1 };
+            at_once = λ is. record { done = came; last = last_bytes; whole = after_came; short = short_last; written = shown_before (take e.1.1.0 verdict_text) e.1.1.1 };
           }
           refuses (Err stop.Read) e = let h : stop.Read ≡ stop.Write = e.0 in absurd cc
           refuses (Err stop.InputLimit) e = let h : stop.InputLimit ≡ stop.Write = e.0 in absurd cc
           refuses (Err stop.Memory) e = let h : stop.Memory ≡ stop.Write = e.0 in absurd cc
 
         -- the bytes aren't refused
-        pub goes_on : (fs : List Frame) (verdict : Verdict) → IsVerdict role limits (came ++ piece) fs verdict → ((r : Refusal) → verdict ≢ Refused r) → HasShownInput old new later first after next (came ++ piece)
+        pub goes_on : (fs : List Frame) (verdict : Verdict) → IsVerdict role limits (came ++ chunk) fs verdict → ((r : Refusal) → verdict ≢ Refused r) → HasShownInput old new later first after next (came ++ chunk)
         goes_on fs verdict is other = record { come = come; viewed = viewed; unrefused = none_now; text = lines; is_text = text_now; written = wrote }
           where
-            none_now : IsUnrefused role limits (came ++ piece)
+            none_now : IsUnrefused role limits (came ++ chunk)
             none_now gs place reason refused =
-                other (record { place = place; reason = reason }) (one_verdict role limits (came ++ piece) fs gs verdict (Refused (record { place = place; reason = reason })) is refused).1
+                other (record { place = place; reason = reason }) (one_verdict role limits (came ++ chunk) fs gs verdict (Refused (record { place = place; reason = reason })) is refused).1

@@ -25,7 +25,7 @@ use Rattle.wsn_show.specs.declared.message_so_far.MessageSoFar.{MessageSoFar}
 use Rattle.wsn_show.specs.declared.stream_parts.StreamParts.{StreamParts}
 use Rattle.wsn_show.specs.ShownItems.{Prints, IsEventOf, items_of_begun, items_of_ended, items_of_end}
 use Rattle.wsn_show.specs.ShownSoFar.{items_in, shown_so_far}
-use Rattle.wsn_show.specs.StreamParts.{KeepsMessage, Keeps}
+use Rattle.wsn_show.specs.StreamParts.{KeepsMessage, KeepsStream}
 use Rattle.wsn_scan.specs.FollowedScans.{IsTaken}
 use Rattle.wsn_show.specs.TakenParts.{IsAlone, ShowsPart}
 use Rattle.wsn_show.proofs.FramesSoFar.{items_in-append, shown_begun, shown_ended, begun_items, ended_items, unended_items, same_so_far, begun_so_far, ended_so_far}
@@ -132,7 +132,7 @@ module _ (role : Role) (limits : Limits) (fs : List Frame) (rest before : List �
     pub position_is : InFrame part.head (before ++ payload) ≡ InFrame (info_of (length (stream fs)) frame) frame.payload
     pub size : length (stream (fs ++ frame ∷ [])) ≡ length (stream fs) + (length rest + length share)
     pub small : length (stream (fs ++ frame ∷ [])) < 2 ^ 64
-    pub shows : (parts : StreamParts) (context : EntryContext) (old new : Outgoing) → Keeps parts (fs ++ frame ∷ []) BetweenFrames [] → Prints context old new (items_of_end context.style.detail fs frame)
+    pub shows : (parts : StreamParts) (context : EntryContext) (old new : Outgoing) → KeepsStream parts (fs ++ frame ∷ []) BetweenFrames [] → Prints context old new (items_of_end context.style.detail fs frame)
         → ShowsPart fs at frames position since parts context old new
 
   pub ends : part.ends ≡ true → Ends
@@ -159,13 +159,13 @@ module _ (role : Role) (limits : Limits) (fs : List Frame) (rest before : List �
                   ap (λ (ss : List Shown). ss ++ shown_ended detail fs f) (same_so_far detail fs at (InFrame (info_of (length (stream fs)) f) f.payload) (ap (λ (h : HeadInfo). h ∷ []) g.1))
                   ∙ ended_so_far detail fs f ∙ (λ i. shown_so_far detail (sym frames_is i) (sym g.4 i));
               printed = subst (Prints context old new) (sym (end_items detail fs f)) printed;
-              keeps = subst (λ (bs : List ℕ). Keeps parts frames position bs) (sym none)
-                  (subst (λ (p : Position). Keeps parts frames p []) (sym g.4) (subst (λ (gs : List Frame). Keeps parts gs BetweenFrames []) (sym frames_is) keeps));
+              keeps = subst (λ (bs : List ℕ). KeepsStream parts frames position bs) (sym none)
+                  (subst (λ (p : Position). KeepsStream parts frames p []) (sym g.4) (subst (λ (gs : List Frame). KeepsStream parts gs BetweenFrames []) (sym frames_is) keeps));
             };
       }
 
   -- It doesn't.
-  pub within : part.ends ≡ false → (parts : StreamParts) (context : EntryContext) (out : Outgoing) → Keeps parts fs (InFrame part.head (before ++ payload)) (rest ++ share)
+  pub within : part.ends ≡ false → (parts : StreamParts) (context : EntryContext) (out : Outgoing) → KeepsStream parts fs (InFrame part.head (before ++ payload)) (rest ++ share)
       → ShowsPart fs at frames position since parts context out out
   within is parts context out keeps =
       let g = t.goes_on.within is in
@@ -175,8 +175,8 @@ module _ (role : Role) (limits : Limits) (fs : List Frame) (rest before : List �
         extra = [];
         is = append-nil (shown_so_far detail fs at) ∙ same_so_far detail fs at (InFrame part.head (before ++ payload)) refl ∙ (λ i. shown_so_far detail (sym g.0 i) (sym g.1 i));
         printed = prints_nothing context out;
-        keeps = subst (λ (bs : List ℕ). Keeps parts frames position bs) (sym since_is)
-            (subst (λ (p : Position). Keeps parts frames p (rest ++ share)) (sym g.1) (subst (λ (gs : List Frame). Keeps parts gs (InFrame part.head (before ++ payload)) (rest ++ share)) (sym g.0) keeps));
+        keeps = subst (λ (bs : List ℕ). KeepsStream parts frames position bs) (sym since_is)
+            (subst (λ (p : Position). KeepsStream parts frames p (rest ++ share)) (sym g.1) (subst (λ (gs : List Frame). KeepsStream parts gs (InFrame part.head (before ++ payload)) (rest ++ share)) (sym g.0) keeps));
       }
 
 -- The head is shown first.

@@ -15,9 +15,8 @@ use Rattle.wsn_show.specs.Styles.{styled_items}
 use Rattle.wsn_show.specs.declared.entry_context.EntryContext.{EntryContext}
 use Rattle.wsn_show.specs.declared.stream_parts.StreamParts.{StreamParts}
 use Rattle.wsn_show.specs.ShownItems.{position_in, Prints}
-use Rattle.wsn_show.specs.ShownSoFar.{items_in, HasShown, IsShowing, ShowsMore}
-use Rattle.wsn_show.specs.StreamViews.{Viewed, HasViewed}
-use Rattle.wsn_show.proofs.ShownPieces.{frames_of}
+use Rattle.wsn_show.specs.ShownSoFar.{items_in, HasShown, IsShowing, ShowsMore, Viewed, HasViewed}
+use Rattle.wsn_show.proofs.ShownChunks.{frames_of}
 use Rattle.wsn_show.proofs.StreamsShown.{all_shown}
 
 module _ (role : Role) (limits : Limits) (style : Style) (viewed : Viewed) (came : List ℕ) (has : HasViewed role limits style viewed came) where

@@ -13,16 +13,16 @@ use Rattle.wsn_rules.specs.ShownCapture.{LineItem, ShownLine, GivesTime, GivesNo
 use Rattle.wsn_print.specs.declared.style.Style.{Style}
 use Rattle.wsn_show.specs.declared.ended_by.EndedBy.{EndedBy}
 use Rattle.wsn_show.specs.EndedBy.{IsEndedBy}
-use Rattle.wsn_show.specs.EndNotes.{HasNotedEnd}
-use Rattle.wsn_show.specs.LastTimes.{HasNotedTimes}
+use Rattle.wsn_show.specs.EndNotes.{HasNotedEnd, HasNotedTimes}
 use Rattle.wsn_show.specs.Styles.{styled_line_item, styled_line, styled_left, styled_ended_by}
 use Rattle.wsn_capture.specs.declared.line_fault.LineFault.{LineFault}
 use Rattle.wsn_capture.specs.LineFaults.{HasFault}
 use Rattle.wsn_capture.specs.CaptureLines.{HasAccepted, HasNotedCloses, count_of}
-use Rattle.wsn_print.specs.ShownParts.{Position}
-use Rattle.wsn_print.specs.ShownParts.Position.{InLine}
-use Rattle.wsn_show.specs.StreamViews.{HasViewed}
+use Rattle.wsn_print.specs.ShownParts.{EntryPosition}
+use Rattle.wsn_print.specs.ShownParts.EntryPosition.{InLine}
+use Rattle.wsn_show.specs.ShownSoFar.{HasViewed}
 use Rattle.wsn_show.specs.declared.capture_view.CaptureView.{CaptureView}
+use Rattle.wsn_list.specs.Listing.{PrintsMore}
 
 -- ---- lines that were shown
 
@@ -71,7 +71,7 @@ IsTimeNext before text after =
     ((seconds : List ℕ) × GivesTime text seconds × (after ≡ Some seconds)) ⊎ (GivesNoTime text × (after ≡ before))
 
 -- Where the view's last line is: its number, and the time that holds.
-abbrev pub line_position : CaptureView → Position
+abbrev pub line_position : CaptureView → EntryPosition
 line_position view = InLine (count_of view.lines) view.time
 
 -- What a text with this entry shows was printed, with the time that held before it.
@@ -84,7 +84,7 @@ pub record ShowsText (limits : Limits) (style : Style) (old new : CaptureView) (
   pub printed : IsWrittenUpToFailure before after (flat_map (styled_line_item style (line_position old)) items)
 
 -- What an endpoint's end mark shows was printed, at this position.
-pub record ShowsMark (role : Role) (limits : Limits) (style : Style) (given : List Entry) (position : Position)
+pub record ShowsMark (role : Role) (limits : Limits) (style : Style) (given : List Entry) (position : EntryPosition)
     (before after : Outgoing) : Type 0 where
   pub items : List LineItem
   pub shows : IsShownOfEntry style.detail limits given (end_mark role) (Mark role) items
@@ -114,16 +114,14 @@ pub record LeavesAtEnd (role : Role) (limits : Limits) (style : Style) (lines : 
     (old new : Outgoing) : Type 0 where
   pub left : LeftAtEnd
   pub is_left : IsLeftAtEnd role limits lines entries left
-  pub printed : (before : Outgoing) (text : List ℕ) → IsWrittenUpToFailure before old text →
-      IsWrittenUpToFailure before new (text ++ styled_left style role left)
+  pub printed : PrintsMore old new (styled_left style role left)
 
 -- Who ended the connection was printed after what was printed before.
 pub record SaysWhoEnded (style : Style) (lines : List (List ℕ)) (entries : List Entry) (report : Report)
     (old new : Outgoing) : Type 0 where
   pub ended_by : Option EndedBy
   pub is_ended_by : IsEndedBy lines entries report ended_by
-  pub printed : (before : Outgoing) (text : List ℕ) → IsWrittenUpToFailure before old text →
-      IsWrittenUpToFailure before new (text ++ styled_ended_by style ended_by)
+  pub printed : PrintsMore old new (styled_ended_by style ended_by)
 
 -- What is left over of both streams and who ended the connection was printed, and this is the report.
 pub record Finishes (limits : Limits) (style : Style) (lines : List (List ℕ)) (entries : List Entry)

@@ -4,10 +4,9 @@ use Rattle.wsn_wire.specs.declared.refusal.Reason.{Reason}
 use Rattle.wsn_wire.specs.declared.refusal.Reason.TheVariants.{TextBad}
 use Rattle.wsn_wire.specs.Frame.{Frame, is_control, stream}
 use Rattle.wsn_rules.specs.declared.head_info.HeadInfo.{HeadInfo}
-use Rattle.wsn_rules.specs.BadCharacter.{BadCharacter, payload_offset, last_of, character_of}
+use Rattle.wsn_rules.specs.BadCharacter.{BadCharacter, payload_offset, last_of, character_of, PlacedByte}
 use Rattle.wsn_rules.specs.Evidence.{EndsBad}
 use Rattle.wsn_rules.specs.Group.{unfinished, payload_of}
-use Rattle.wsn_rules.specs.PlacedByte.{PlacedByte}
 use Rattle.wsn_scan.specs.Positions.{Position, BetweenFrames, InFrame}
 use Rattle.wsn_show.specs.declared.last_payload.StreamByte.{StreamByte}
 use Rattle.wsn_show.specs.declared.last_payload.LastPayload.{LastPayload}

@@ -6,11 +6,9 @@ pub mod StreamParts
 pub mod ShownItems
 pub mod ShownSoFar
 pub mod TakenParts
-pub mod StreamViews
 pub mod Times
 pub mod EndedBy
 pub mod EndNotes
-pub mod LastTimes
 pub mod CaptureViews
 pub mod Showing
 pub mod PassedLines

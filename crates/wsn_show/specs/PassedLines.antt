@@ -1,6 +1,6 @@
 -- How the text that came is related to the lines that a view has shown.
-use Rattle.std.specs.Prelude.{◌≡◌, ℕ, ◌+◌, ◌*◌, ◌-◌, true, Result, Ok, Err, List, [], ◌++◌, flat_map, length}
-use Rattle.wsn_io.specs.Transfer.{Outgoing, IsWritten, IsPartlyWritten}
+use Rattle.std.specs.Prelude.{◌≡◌, ℕ, ◌+◌, true, Result, Ok, Err, List, [], ◌++◌, flat_map, length}
+use Rattle.wsn_io.specs.Transfer.{Outgoing, IsWritten, IsPartlyWritten, IsWrittenBut, IsWrittenAtLeast}
 use Rattle.wsn_rules.specs.Limits.{Limits}
 use Rattle.wsn_rules.specs.Entries.{Entry}
 use Rattle.wsn_rules.specs.ShownCapture.{ShownLine, AreShownAfter}
@@ -9,16 +9,15 @@ use Rattle.wsn_show.specs.Styles.{styled_line}
 use Rattle.wsn_capture.specs.declared.capture_report.CaptureReport.{CaptureReport}
 use Rattle.wsn_capture.specs.declared.capture_stop.CaptureStop.TheVariants as capture
 use Rattle.wsn_capture.specs.LineFaults.{IsFaultAfter}
-use Rattle.wsn_capture.specs.CaptureLines.{count_of}
 use Rattle.wsn_capture.specs.LineSplitters.{HasPassedOn, IsStopWithin}
 use Rattle.wsn_capture.specs.Tails.{AreTails}
 use Rattle.wsn_capture.specs.RefusedLines.{AreRefusedLines}
-use Rattle.wsn_capture.specs.CaptureAnswers.{begun_most, IsFaulty, IsUnfaulted}
+use Rattle.wsn_capture.specs.CaptureAnswers.{IsFaulty, IsUnfaulted}
 use Rattle.wsn_show.specs.declared.capture_view.CaptureView.{CaptureView}
 use Rattle.wsn_show.specs.declared.showing.ShowStop.{ShowStop}
 use Rattle.wsn_show.specs.declared.showing.ShowStop.TheVariants.{Capture, Write}
 use Rattle.wsn_show.specs.CaptureViews.{HasShownLines, ShowsLine}
-use Rattle.wsn_show.specs.Showing.{IsTextOfLines, BeginWithLines, IsTextOf, IsWholeText, IsPrintedAtLeast, IsPrintedBefore, IsPrintedBut}
+use Rattle.wsn_show.specs.Showing.{IsTextOfLines, BeginWithLines, IsTextOf, IsWholeText, IsPrintedBefore, IsTextSoFar}
 
 -- These bytes came: whole lines, which the view has shown, and a line that has begun. What the lines show was printed.
 pub record HasPrinted (limits : Limits) (style : Style) (first : Outgoing) (view : CaptureView) (begun : List ℕ)
@@ -48,20 +47,16 @@ StopsAtLine limits style new lines entries line before after (Capture capture.Re
 StopsAtLine limits style new lines entries line before after Write =
     ShowsLine limits style new lines entries line before after × (after.failed ≡ true)
 
--- The stop is within the piece, after the bytes that came.
+-- The stop is within the chunk, after the bytes that came.
 abbrev pub StopsWithin : Limits → Style → Outgoing → Outgoing → List ℕ → List ℕ → ShowStop → Type 0
-StopsWithin limits style first now came piece (Capture (capture.Line number fault)) =
-    IsStopWithin limits came piece (capture.Line number fault)
-    × ((lines : List (List ℕ)) × (text : List ℕ) × BeginWithLines (came ++ piece) lines × (number ≡ length lines + 1)
+StopsWithin limits style first now came chunk (Capture (capture.Line number fault)) =
+    IsStopWithin limits came chunk (capture.Line number fault)
+    × ((lines : List (List ℕ)) × (text : List ℕ) × BeginWithLines (came ++ chunk) lines × (number ≡ length lines + 1)
     × IsTextOfLines limits style lines text × IsWritten first now text)
-StopsWithin limits style first now came piece (Capture capture.Read) = ⊥
-StopsWithin limits style first now came piece Write =
-    ((text : List ℕ) × IsTextOf limits style (came ++ piece) text × IsPartlyWritten first now text)
-    × IsPrintedBut (length piece) limits style (came ++ piece) first now
-
--- the number of bytes that may still come
-abbrev pub bytes_ahead : CaptureView → List ℕ → ℕ
-bytes_ahead view begun = (1000001 - count_of view.lines) * begun_most - length begun
+StopsWithin limits style first now came chunk (Capture capture.Read) = ⊥
+StopsWithin limits style first now came chunk Write =
+    ((text : List ℕ) × IsTextOf limits style (came ++ chunk) text × IsPartlyWritten first now text)
+    × IsWrittenBut (length chunk) (IsTextSoFar limits style) (came ++ chunk) first now
 
 -- ---- the end of the text
 
@@ -85,4 +80,4 @@ EndsShowing limits style first now came (Err (Capture (capture.Line number fault
 EndsShowing limits style first now came (Err (Capture capture.Read)) = ⊥
 EndsShowing limits style first now came (Err Write) =
     ((text : List ℕ) × IsTextOf limits style came text × IsPartlyWritten first now text)
-    × IsPrintedAtLeast limits style came first now
+    × IsWrittenAtLeast (IsTextSoFar limits style came) first now

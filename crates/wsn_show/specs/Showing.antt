@@ -1,8 +1,8 @@
 -- What is printed of a capture's text.
-use Rattle.std.specs.Prelude.{◌≡◌, ℕ, ◌+◌, ◌*◌, ◌≤◌, ◌⊎◌, true, false, Option, Result, Ok, Err, List, [], ◌++◌, flat_map, length}
+use Rattle.std.specs.Prelude.{◌≡◌, ℕ, ◌+◌, ◌*◌, ◌⊎◌, true, false, Option, Result, Ok, Err, List, [], ◌++◌, flat_map, length}
 use Rattle.std.specs.List.{AllByRecursion}
-use Rattle.std.specs.Io.KnownBytes.{Appends, IsAtEnd}
-use Rattle.wsn_io.specs.Transfer.{Incoming, Outgoing, IsReceived, IsWritten, IsPartlyWritten}
+use Rattle.std.specs.Io.KnownBytes.{IsAtEnd}
+use Rattle.wsn_io.specs.Transfer.{Incoming, Outgoing, IsReceived, IsWritten, IsPartlyWritten, IsWrittenBut}
 use Rattle.wsn_rules.specs.Limits.{Limits}
 use Rattle.wsn_rules.specs.declared.report.Report.{Report}
 use Rattle.wsn_rules.specs.Entries.{Entry}
@@ -60,18 +60,10 @@ abbrev pub AreLinesSoFar : List ℕ → List (List ℕ) → Type 0
 AreLinesSoFar came lines =
     (AllByRecursion IsLine lines × ((begun : List ℕ) × IsLine begun × (came ≡ ended lines ++ begun))) ⊎ AreLines came lines
 
--- What these lines of the bytes show was printed, and perhaps more.
-abbrev pub IsPrintedAtLeast : Limits → Style → List ℕ → Outgoing → Outgoing → Type 0
-IsPrintedAtLeast limits style came before after = (lines : List (List ℕ)) × (text more : List ℕ) × AreLinesSoFar came lines
-    × IsTextOfLines limits style lines text × Appends before.written after.written (text ++ more)
-
--- The same of all but the last bytes, at most this many.
-pub record IsPrintedBut (most : ℕ) (limits : Limits) (style : Style) (came : List ℕ) (before after : Outgoing) : Type 0 where
-  pub done : List ℕ
-  pub last : List ℕ
-  pub whole : came ≡ done ++ last
-  pub short : length last ≤ most
-  pub printed : IsPrintedAtLeast limits style done before after
+-- What is printed of these lines of the bytes.
+abbrev pub IsTextSoFar : Limits → Style → List ℕ → List ℕ → Type 0
+IsTextSoFar limits style came text =
+    (lines : List (List ℕ)) × AreLinesSoFar came lines × IsTextOfLines limits style lines text
 
 -- ---- the answer
 
@@ -114,4 +106,4 @@ pub record IsShown (limits : Limits) (style : Style) (old new : Incoming) (befor
   pub came : List ℕ
   pub received : IsReceived (1000001 * begun_most + 4095) old new came
   pub answer : IsShowAnswer limits style new came before after result
-  pub at_once : result ≡ Err Write → IsPrintedBut chunk_size limits style came before after
+  pub at_once : result ≡ Err Write → IsWrittenBut chunk_size (IsTextSoFar limits style) came before after

@@ -8,7 +8,7 @@ use Rattle.wsn_rules.specs.declared.detail.Detail.TheVariants.{Events, Frames}
 use Rattle.wsn_rules.specs.declared.head_info.HeadInfo.{HeadInfo}
 use Rattle.wsn_rules.specs.declared.verdict.Refusal.{Refusal}
 use Rattle.wsn_rules.specs.Heads.{heads_of}
-use Rattle.wsn_rules.specs.Limits.{Limits}
+use Rattle.wsn_rules.specs.Limits.{Limits, InRange}
 use Rattle.wsn_rules.specs.Verdict.{IsRefused}
 use Rattle.wsn_rules.specs.ShownStream.{Item, Shown, shown_of, shown_head, AreShownFrames, IsShownRefusal}
 use Rattle.wsn_scan.specs.declared.scan.Scan.{Scan}
@@ -18,9 +18,10 @@ use Rattle.wsn_scan.specs.Scans.{refusal_in}
 use Rattle.wsn_show.specs.declared.entry_context.EntryContext.{EntryContext}
 use Rattle.wsn_show.specs.declared.stream_parts.StreamParts.{StreamParts}
 use Rattle.wsn_show.specs.HeldParts.{HasFirst}
-use Rattle.wsn_show.specs.StreamParts.{Keeps}
+use Rattle.wsn_show.specs.StreamParts.{KeepsStream}
 use Rattle.wsn_scan.specs.FollowedScans.{HasFollowed}
 use Rattle.wsn_show.specs.ShownItems.{Prints}
+use Rattle.wsn_print.specs.declared.style.Style.{Style}
 
 -- The items, without the number of bytes with which they are shown.
 abbrev pub items_in : List Shown → List Item
@@ -39,7 +40,7 @@ pub record HasShownFrames (detail : Detail) (role : Role) (limits : Limits) (sca
   pub at : Position
   pub rest : List ℕ
   pub followed : HasFollowed role limits scan came done at rest
-  pub keeps : Keeps parts done at rest
+  pub keeps : KeepsStream parts done at rest
   pub is : shown ≡ shown_so_far detail done at
 
 -- The bytes up to `read` are refused at the last one, whatever follows; this was shown of them and the refusal. The
@@ -89,3 +90,31 @@ pub record ShowsFrames (role : Role) (limits : Limits) (scan : Scan) (parts : St
   pub extra : List Shown
   pub frames : HasShownFrames context.style.detail role limits scan parts came (shown ++ extra)
   pub printed : Prints context old new (items_in extra)
+
+-- What a contract sees of a view: the endpoint, the style, the input limit, how many bytes may still come, and what was
+-- read and is kept.
+pub record Viewed : Type 0 where
+  pub role : Role
+  pub style : Style
+  pub input : ℕ
+  pub room : ℕ
+  pub scan : Scan
+  pub parts : StreamParts
+
+-- These bytes came, and what is shown of them was printed.
+pub record HasViewed (role : Role) (limits : Limits) (style : Style) (viewed : Viewed) (came : List ℕ) : Type 0 where
+  pub sender : viewed.role ≡ role
+  pub in_style : viewed.style ≡ style
+  pub in_range : InRange limits
+  pub input : viewed.input ≡ limits.input
+  pub room : viewed.room + length came ≡ limits.input
+  pub shown : List Shown
+  pub has : HasShown style.detail role limits viewed.scan viewed.parts came shown
+
+-- Some bytes came, or none.
+pub record IsViewing (viewed : Viewed) : Type 0 where
+  pub role : Role
+  pub limits : Limits
+  pub style : Style
+  pub came : List ℕ
+  pub has : HasViewed role limits style viewed came

@@ -69,7 +69,7 @@ pub record KeepsFrame (parts : StreamParts) (fs : List Frame) (at : Position) (r
   pub last : HasLast parts.last (held_at at rest)
 
 -- After the frames fs, at this position in the next frame, whose bytes so far are `rest`.
-pub record Keeps (parts : StreamParts) (fs : List Frame) (at : Position) (rest : List ℕ) : Type 0 where
+pub record KeepsStream (parts : StreamParts) (fs : List Frame) (at : Position) (rest : List ℕ) : Type 0 where
   pub message : KeepsMessage parts.message fs (data_part at)
   pub joined : HasJoinedAt parts.message fs at
   pub frame : KeepsFrame parts fs at rest

@@ -1,7 +1,6 @@
 -- What is printed of the stream that one endpoint sent: what is shown of it, what is left over, and the verdict.
-use Rattle.std.specs.Prelude.{◌≡◌, ℕ, ◌+◌, ◌≤◌, ◌⊎◌, Result, Ok, Err, List, [], ◌++◌, length, take}
-use Rattle.std.specs.Io.KnownBytes.{Appends}
-use Rattle.wsn_io.specs.Transfer.{Incoming, Outgoing, IsReceived, IsWritten, IsPartlyWritten}
+use Rattle.std.specs.Prelude.{◌≡◌, ℕ, ◌+◌, ◌⊎◌, Result, Ok, Err, List, [], ◌++◌, take}
+use Rattle.wsn_io.specs.Transfer.{Incoming, Outgoing, IsReceived, IsWritten, IsPartlyWritten, IsWrittenBut, IsWrittenAtLeast}
 use Rattle.wsn_io.specs.declared.stop.Stop.{Stop}
 use Rattle.wsn_io.specs.declared.stop.Stop.TheVariants as stop
 use Rattle.wsn_wire.specs.Frame.{Frame}
@@ -11,7 +10,7 @@ use Rattle.wsn_rules.specs.declared.verdict.Verdict.TheVariants.{Refused}
 use Rattle.wsn_rules.specs.Limits.{Limits}
 use Rattle.wsn_rules.specs.Verdict.{IsVerdict}
 use Rattle.wsn_rules.specs.ShownStream.{Item, Shown, IsShownStream, IsLeftOver}
-use Rattle.wsn_print.specs.ShownParts.Position.{InStream}
+use Rattle.wsn_print.specs.ShownParts.EntryPosition.{InStream}
 use Rattle.wsn_scan.specs.Judging.{chunk_size}
 use Rattle.wsn_list.specs.Listing.{IsListAnswer}
 use Rattle.wsn_print.specs.declared.style.Style.{Style}
@@ -45,20 +44,6 @@ abbrev pub IsPrintedText : Role → Limits → Style → List ℕ → List ℕ �
 IsPrintedText role limits style bytes text =
     IsItemText role limits style bytes text ⊎ ((verdict : Verdict) × IsStreamText role limits style bytes verdict text)
 
--- The text of what is shown of these bytes was written, and perhaps more.
-abbrev pub IsShownAtLeast : Role → Limits → Style → List ℕ → Outgoing → Outgoing → Type 0
-IsShownAtLeast role limits style bytes before after =
-    (text more : List ℕ) × IsItemText role limits style bytes text × Appends before.written after.written (text ++ more)
-
--- All but at most the last chunk of these bytes was shown.
-pub record IsShownButChunk (role : Role) (limits : Limits) (style : Style) (came : List ℕ) (before after : Outgoing)
-    : Type 0 where
-  pub done : List ℕ
-  pub last : List ℕ
-  pub whole : came ≡ done ++ last
-  pub short : length last ≤ chunk_size
-  pub shown : IsShownAtLeast role limits style done before after
-
 -- After the text of what is shown of these bytes, the rest was printed, since the stream ends here; `first` is the
 -- output before it all.
 abbrev pub EndsStream :
@@ -67,7 +52,7 @@ EndsStream role limits style bytes first after (Ok verdict) =
     (text : List ℕ) × IsStreamText role limits style bytes verdict text × IsWritten first after text
 EndsStream role limits style bytes first after (Err stopped) = (stopped ≡ stop.Write)
     × ((text : List ℕ) × IsPrintedText role limits style bytes text × IsPartlyWritten first after text)
-    × IsShownAtLeast role limits style bytes first after
+    × IsWrittenAtLeast (IsItemText role limits style bytes) first after
 
 -- What was printed at each answer, of the bytes within the limit: with a verdict the whole text; after a failed write a
 -- prefix; at any other stop what is shown of these bytes.
@@ -80,11 +65,11 @@ IsStreamPrinted role limits style came before after (Err stopped) =
     (text : List ℕ) × IsItemText role limits style (take limits.input came) text × IsWritten before after text
 
 -- These bytes came from the input, at most one past its limit. The answer is right for them, as that of a list of frames
--- is, and this was printed of them. After a failed write nothing more was read.
+-- is, and this was printed of them. After a failed write nothing more was read: all but at most the last chunk was shown.
 pub record IsStreamShown (role : Role) (limits : Limits) (style : Style) (old new : Incoming) (before after : Outgoing)
     (result : Result Verdict Stop) : Type 0 where
   pub came : List ℕ
   pub received : IsReceived (limits.input + 1) old new came
   pub answer : IsListAnswer role limits new came result
   pub printed : IsStreamPrinted role limits style came before after result
-  pub at_once : result ≡ Err stop.Write → IsShownButChunk role limits style came before after
+  pub at_once : result ≡ Err stop.Write → IsWrittenBut chunk_size (IsItemText role limits style) came before after

@@ -6,8 +6,8 @@ use Rattle.wsn_rules.specs.declared.report.Report.{Report}
 use Rattle.wsn_rules.specs.declared.verdict.Verdict.{Verdict}
 use Rattle.wsn_rules.specs.ShownStream.{Item}
 use Rattle.wsn_rules.specs.ShownCapture.{LineItem, ShownLine, LeftAtEnd}
-use Rattle.wsn_print.specs.ShownParts.{Position}
-use Rattle.wsn_print.specs.ShownParts.Position.{AtEnd}
+use Rattle.wsn_print.specs.ShownParts.{EntryPosition}
+use Rattle.wsn_print.specs.ShownParts.EntryPosition.{AtEnd}
 use Rattle.wsn_shown_text.specs.EntryFormats.{item_entry, line_item_entry, line_entries}
 use Rattle.wsn_print.specs.Formats.{report_text, verdict_text}
 use Rattle.wsn_print.specs.declared.style.Style.{Style}
@@ -15,15 +15,15 @@ use Rattle.wsn_show.specs.declared.ended_by.EndedBy.{EndedBy}
 use Rattle.wsn_show.specs.EndedBy.{ended_by_text}
 
 -- An item of an endpoint's stream.
-abbrev pub styled_item : Style → Role → Position → Item → List ℕ
+abbrev pub styled_item : Style → Role → EntryPosition → Item → List ℕ
 styled_item style = item_entry style.format style.view
 
 -- Items, in order.
-abbrev pub styled_items : Style → Role → Position → List Item → List ℕ
+abbrev pub styled_items : Style → Role → EntryPosition → List Item → List ℕ
 styled_items style role position = flat_map (styled_item style role position)
 
 -- What is printed of an item of a capture's line.
-abbrev pub styled_line_item : Style → Position → LineItem → List ℕ
+abbrev pub styled_line_item : Style → EntryPosition → LineItem → List ℕ
 styled_line_item style = line_item_entry style.format style.view
 
 -- What is printed of a line of a capture.

@@ -10,7 +10,7 @@ use Rattle.wsn_show.specs.declared.message_so_far.MessageSoFar.{MessageSoFar}
 use Rattle.wsn_show.specs.declared.stream_parts.StreamParts.{StreamParts}
 use Rattle.wsn_show.specs.ShownItems.{Prints}
 use Rattle.wsn_show.specs.ShownSoFar.{items_in, shown_so_far}
-use Rattle.wsn_show.specs.StreamParts.{Keeps}
+use Rattle.wsn_show.specs.StreamParts.{KeepsStream}
 
 -- A whole frame with this head is an event by itself: a control, or the only frame of a message.
 abbrev pub IsAlone : MessageSoFar → HeadInfo → Type 0
@@ -22,4 +22,4 @@ pub record ShowsPart (fs : List Frame) (at : Position) (frames : List Frame) (po
   pub extra : List Shown
   pub is : shown_so_far context.style.detail fs at ++ extra ≡ shown_so_far context.style.detail frames position
   pub printed : Prints context old new (items_in extra)
-  pub keeps : Keeps parts frames position since
+  pub keeps : KeepsStream parts frames position since

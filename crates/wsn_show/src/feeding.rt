@@ -15,54 +15,54 @@ use std::io::Write;
 use wsn_io::Output;
 use wsn_scan::{Part, Scan, Taken};
 
-/// Lets the scan consume the piece, and prints what it completes. Bytes after a refusal are kept, but not read.
+/// Lets the scan consume the chunk, and prints what it completes. Bytes after a refusal are kept, but not read.
 pub fn feed<W: Write>(
     scan: &mut Scan,
     parts: &mut StreamParts,
-    piece: &mut [u8],
+    chunk: &mut [u8],
     output: &mut Output<W>,
     context: &EntryContext<'_>,
 )
     requires begun { refusal_in scan.old ≡ None →
         IsShowing context.now.style.detail scan.old parts.old }
-    requires fits { refusal_in scan.old ≡ None → length piece.old ≤ room_of scan.old }
+    requires fits { refusal_in scan.old ≡ None → length chunk.old ≤ room_of scan.old }
     ensures { (role : Role) (limits : Limits) (came : List ℕ) (shown : List Shown) →
-        length came + length piece.old < 2 ^ 64 →
+        length came + length chunk.old < 2 ^ 64 →
         HasShown context.now.style.detail role limits scan.old parts.old came shown →
         ShowsMore role limits scan.new parts.new context.now output.old output.new
-        (came ++ piece.old) shown }
+        (came ++ chunk.old) shown }
 {
     match scan.refusal() {
-        Some(_) => parts.rest.add(piece),
+        Some(_) => parts.rest.add(chunk),
         None => {
-            let read = feed_unrefused(scan, parts, piece, output, context);
-            parts.rest.add(&piece[read..]);
+            let read = feed_unrefused(scan, parts, chunk, output, context);
+            parts.rest.add(&chunk[read..]);
         }
     }
 }
 
-/// Lets the scan consume the piece, all of it or the bytes up to a refusal, and prints what it completes. Returns the
+/// Lets the scan consume the chunk, all of it or the bytes up to a refusal, and prints what it completes. Returns the
 /// number of bytes that it consumed.
 fn feed_unrefused<W: Write>(
     scan: &mut Scan,
     parts: &mut StreamParts,
-    piece: &mut [u8],
+    chunk: &mut [u8],
     output: &mut Output<W>,
     context: &EntryContext<'_>,
 ) -> usize
     requires begun { IsShowing context.now.style.detail scan.old parts.old }
-    requires fits { length piece.old ≤ room_of scan.old }
-    ensures within { result ≤ length piece.old }
-    ensures kept { drop result piece.new ≡ drop result piece.old }
+    requires fits { length chunk.old ≤ room_of scan.old }
+    ensures within { result ≤ length chunk.old }
+    ensures kept { drop result chunk.new ≡ drop result chunk.old }
     ensures shows { (role : Role) (limits : Limits) (came : List ℕ) (shown : List Shown) →
         HasShownFrames context.now.style.detail role limits scan.old parts.old came shown →
         ShowsMore role limits scan.new parts.new context.now output.old output.new
-        (came ++ take result piece.old) shown }
-    ensures all { refusal_in scan.new ≡ None → result ≡ length piece.old }
+        (came ++ take result chunk.old) shown }
+    ensures all { refusal_in scan.new ≡ None → result ≡ length chunk.old }
 {
     let mut at = 0;
-    while at < piece.len() {
-        at += step(scan, parts, &mut piece[at..], output, context);
+    while at < chunk.len() {
+        at += step(scan, parts, &mut chunk[at..], output, context);
         if let Some(_) = scan.refusal() {
             return at;
         }
@@ -74,25 +74,25 @@ fn feed_unrefused<W: Write>(
 fn step<W: Write>(
     scan: &mut Scan,
     parts: &mut StreamParts,
-    piece: &mut [u8],
+    chunk: &mut [u8],
     output: &mut Output<W>,
     context: &EntryContext<'_>,
 ) -> usize
-    requires fits { length piece.old ≤ room_of scan.old }
-    requires some { 0 < length piece.old }
-    ensures within { result ≤ length piece.old }
-    ensures kept { drop result piece.new ≡ drop result piece.old }
+    requires fits { length chunk.old ≤ room_of scan.old }
+    requires some { 0 < length chunk.old }
+    ensures within { result ≤ length chunk.old }
+    ensures kept { drop result chunk.new ≡ drop result chunk.old }
     ensures room { room_of scan.new + result ≡ room_of scan.old }
     ensures shows { (role : Role) (limits : Limits) (came : List ℕ) (shown : List Shown) →
         HasShownFrames context.now.style.detail role limits scan.old parts.old came shown →
         ShowsMore role limits scan.new parts.new context.now output.old output.new
-        (came ++ take result piece.old) shown }
+        (came ++ take result chunk.old) shown }
     ensures progress { IsShowing context.now.style.detail scan.old parts.old →
         refusal_in scan.new ≡ None → 0 < result }
 {
     let mut part = Part::new();
-    let (count, found) = call(scan, piece, &mut part);
-    let bytes = &piece[..count];
+    let (count, found) = call(scan, chunk, &mut part);
+    let bytes = &chunk[..count];
     match found {
         Taken::More => parts.add_bytes(bytes),
         Taken::Closed => parts.add_bytes(bytes),
@@ -110,12 +110,12 @@ fn step<W: Write>(
 
 /// Calls the scan once, and returns how many bytes it consumed and what they are.
 #[inline(always)]
-fn call(scan: &mut Scan, piece: &mut [u8], part: &mut Part) -> (usize, Taken)
-    requires { length piece.old ≤ room_of scan.old }
-    ensures in_bytes { IsBytes piece.old }
-    ensures call { IsBytes piece.old → IsCall scan.old scan.new piece.old piece.new result.0 result.1 part.new }
-    ensures kept { drop result.0 piece.new ≡ drop result.0 piece.old }
+fn call(scan: &mut Scan, chunk: &mut [u8], part: &mut Part) -> (usize, Taken)
+    requires { length chunk.old ≤ room_of scan.old }
+    ensures in_bytes { IsBytes chunk.old }
+    ensures call { IsBytes chunk.old → IsCall scan.old scan.new chunk.old chunk.new result.0 result.1 part.new }
+    ensures kept { drop result.0 chunk.new ≡ drop result.0 chunk.old }
     ensures start { result.1 ≡ Taken.Part → part.new.start ≤ result.0 }
 {
-    scan.next(piece, part)
+    scan.next(chunk, part)
 }

@@ -28,7 +28,7 @@ impl StreamParts {
     ghost use Rattle.wsn_scan.specs.Positions.{Position, BetweenFrames, InFrame};
     ghost use Rattle.wsn_show.specs.HeldParts.{HasFirst};
     ghost use Rattle.wsn_show.specs.LastPayloads.{GoesWrongAt, character_at, character_held_in};
-    ghost use Rattle.wsn_show.specs.StreamParts.{Keeps, held_at};
+    ghost use Rattle.wsn_show.specs.StreamParts.{KeepsStream, held_at};
     ghost use Rattle.wsn_show.specs.ShownItems.{Prints};
     ghost use Rattle.wsn_show.specs.TakenParts.{IsAlone, ShowsPart};
 
@@ -46,7 +46,7 @@ impl StreamParts {
         ensures { (role : Role) (limits : Limits) (fs frames : List Frame) (at position : Position)
             (rest before share since : List ℕ) → length share ≡ size → IsPartAt at part.now before →
             IsTaken role limits fs rest before part.now payload.now share frames position since →
-            Keeps self.old fs at rest →
+            KeepsStream self.old fs at rest →
             ShowsPart fs at frames position since self.new context.now output.old output.new }
     {
         if part.begins {
@@ -70,7 +70,7 @@ impl StreamParts {
         ensures { (role : Role) (limits : Limits) (fs frames : List Frame) (position : Position)
             (rest share since : List ℕ) → length share ≡ size →
             IsTaken role limits fs rest [] part.now payload.now share frames position since →
-            Keeps self.old fs BetweenFrames rest →
+            KeepsStream self.old fs BetweenFrames rest →
             ShowsPart fs BetweenFrames frames position since self.new context.now output.old output.new }
     {
         put_begun(output, context, &part.head);
@@ -97,7 +97,7 @@ impl StreamParts {
         ensures { (role : Role) (limits : Limits) (fs frames : List Frame) (position : Position)
             (rest before share since : List ℕ) → length share ≡ size →
             IsTaken role limits fs rest before part.now payload.now share frames position since →
-            Keeps self.old fs (InFrame part.now.head before) rest →
+            KeepsStream self.old fs (InFrame part.now.head before) rest →
             ShowsPart fs (InFrame part.now.head before) frames position since self.new context.now output.old
             output.new }
     {
@@ -130,7 +130,7 @@ impl StreamParts {
     )
         ensures printed { (role : Role) (limits : Limits) (fs : List Frame) (at : Position) (rest : List ℕ) →
             IsLawful role limits fs → length (held_at at rest) + length bytes.now < 2 ^ 64 →
-            GoesWrongAt refusal.now.reason fs at rest bytes.now → Keeps self.old fs at rest →
+            GoesWrongAt refusal.now.reason fs at rest bytes.now → KeepsStream self.old fs at rest →
             Prints context.now output.old output.new (interrupted context.now.style.detail fs
             ++ RefusedFrame (length (stream fs)) refusal.now (held_at at rest ++ bytes.now)
             (character_at refusal.now.reason fs at bytes.now) ∷ []) }
@@ -148,7 +148,7 @@ impl StreamParts {
     #[tactic(none)]
     fn bad_character(&mut self, reason: Reason, bytes: &[u8]) -> Option<HeldCharacter>
         ensures character { (fs : List Frame) (at : Position) (rest : List ℕ) →
-            GoesWrongAt reason fs at rest bytes.now → Keeps self.old fs at rest →
+            GoesWrongAt reason fs at rest bytes.now → KeepsStream self.old fs at rest →
             character_held_in result ≡ character_at reason fs at bytes.now }
         ensures others { self.new ≡ record self.old { message = self.new.message } }
     {
@@ -162,7 +162,7 @@ impl StreamParts {
     #[tactic(none)]
     fn character_in_frame(&mut self, bytes: &[u8]) -> Option<HeldCharacter>
         ensures character { (fs : List Frame) (at : Position) (rest : List ℕ) →
-            GoesWrongAt TextBad fs at rest bytes.now → Keeps self.old fs at rest →
+            GoesWrongAt TextBad fs at rest bytes.now → KeepsStream self.old fs at rest →
             character_held_in result ≡ character_at TextBad fs at bytes.now }
         ensures others { self.new ≡ record self.old { message = self.new.message } }
     {

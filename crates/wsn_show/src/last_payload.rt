@@ -1,7 +1,6 @@
 ghost use Rattle.std.specs.Prelude.{◌≡◌, ℕ, ◌+◌, ◌-◌, ◌≤◌, List, [], ◌∷◌, ◌++◌, length, drop};
 ghost use Rattle.wsn_text.specs.Utf8.{IsFirstBad};
-ghost use Rattle.wsn_rules.specs.BadCharacter.{last_of, first_offset, bytes_of, bad_character};
-ghost use Rattle.wsn_rules.specs.PlacedByte.{PlacedByte, placed};
+ghost use Rattle.wsn_rules.specs.BadCharacter.{last_of, first_offset, bytes_of, bad_character, PlacedByte, placed};
 ghost use Rattle.wsn_print.specs.ShownParts.{character_of, character_in};
 ghost use Rattle.wsn_show.specs.LastPayloads.{placed_bytes, HasLastPayload, character_held, character_held_in};
 

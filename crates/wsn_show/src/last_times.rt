@@ -14,7 +14,7 @@ impl LastTimes {
     ghost use Rattle.wsn_rules.specs.Entries.{Entry, IsEntry, AreEntries};
     ghost use Rattle.wsn_rules.specs.ShownCapture.{IsTimeAfter};
     ghost use Rattle.wsn_capture.specs.LineEntries.{held_entry};
-    ghost use Rattle.wsn_show.specs.LastTimes.{last_time, HasNotedTimes};
+    ghost use Rattle.wsn_show.specs.EndNotes.{last_time, HasNotedTimes};
 
     /// No bytes came.
     pub fn new() -> LastTimes

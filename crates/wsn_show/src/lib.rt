@@ -10,7 +10,7 @@
 //!
 //! `wsn_rules/specs/ShownStream.antt` defines what is shown of a stream and what is left over, `ShownCapture.antt` what
 //! is shown of a capture, and `wsn_shown_text/specs/ShownText.antt` how it is printed. Here, `specs/Showing.antt` defines
-//! what was printed at each answer, `specs/CaptureViews.antt` and `specs/StreamViews.antt` how a view's state is related
+//! what was printed at each answer, `specs/CaptureViews.antt` and `specs/ShownSoFar.antt` how a view's state is related
 //! to the lines or bytes that came, `specs/StreamParts.antt` what is kept of the open message and of the frame that has
 //! begun, and `specs/LastPayloads.antt` what is kept of the message's last bytes. `specs/EndedBy.antt` defines who ended
 //! a connection, and its line; [`laws`] says that a capture has one text.

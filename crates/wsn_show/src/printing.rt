@@ -22,7 +22,7 @@ impl StreamParts {
     ghost use Rattle.wsn_print.specs.ShownParts.{item_of_remainder};
     ghost use Rattle.wsn_scan.specs.Positions.{Position, BetweenFrames, InFrame};
     ghost use Rattle.wsn_show.specs.HeldParts.{HasFirst};
-    ghost use Rattle.wsn_show.specs.StreamParts.{KeepsMessage, Keeps, IsSoundPart, items_left};
+    ghost use Rattle.wsn_show.specs.StreamParts.{KeepsMessage, KeepsStream, IsSoundPart, items_left};
     ghost use Rattle.wsn_show.specs.ShownItems.{Prints, IsEventOf, items_of_ended, items_of_end};
 
     /// Prints the open message, if there is one, as unfinished. Its last frame lacks this number of bytes, `None` if
@@ -92,7 +92,7 @@ impl StreamParts {
         ensures { (role : Role) (limits : Limits) (fs : List Frame) (f : Frame) (rest : List ℕ) →
             IsLawful role limits (fs ++ f ∷ []) → head.now ≡ info_of (length (stream fs)) f →
             length (unfinished fs) + 1 < 2 ^ 64 →
-            Keeps self.now fs (InFrame (info_of (length (stream fs)) f) f.payload) rest →
+            KeepsStream self.now fs (InFrame (info_of (length (stream fs)) f) f.payload) rest →
             Prints context.now output.old output.new (items_of_end context.now.style.detail fs f) }
     {
         if !head.fin {
@@ -124,7 +124,7 @@ impl StreamParts {
     pub fn put_left<W: Write>(&self, output: &mut Output<W>, context: &EntryContext<'_>)
         ensures { (role : Role) (limits : Limits) (fs : List Frame) (at : Position) (rest : List ℕ) →
             IsLawful role limits fs → length (unfinished fs) + 1 < 2 ^ 64 → IsSoundPart fs at →
-            Keeps self.now fs at rest → Prints context.now output.old output.new (items_left fs at rest) }
+            KeepsStream self.now fs at rest → Prints context.now output.old output.new (items_left fs at rest) }
     {
         match &self.head {
             Some(head) => self.put_part(output, context, head),
@@ -142,7 +142,7 @@ impl StreamParts {
     )
         ensures { (role : Role) (limits : Limits) (fs : List Frame) (part rest : List ℕ) → IsLawful role limits fs →
             length (unfinished fs) + 1 < 2 ^ 64 → IsSoundPart fs (InFrame head.now part) →
-            Keeps self.now fs (InFrame head.now part) rest →
+            KeepsStream self.now fs (InFrame head.now part) rest →
             Prints context.now output.old output.new (items_left fs (InFrame head.now part) rest) }
     {
         let lacks = Some(head.len.saturating_sub(self.last.end().bytes));
@@ -160,7 +160,7 @@ impl StreamParts {
     #[tactic(none)]
     fn put_head<W: Write>(&self, output: &mut Output<W>, context: &EntryContext<'_>)
         ensures { (role : Role) (limits : Limits) (fs : List Frame) (rest : List ℕ) → IsLawful role limits fs →
-            Keeps self.now fs BetweenFrames rest →
+            KeepsStream self.now fs BetweenFrames rest →
             Prints context.now output.old output.new (items_left fs BetweenFrames rest) }
     {
         if self.size == 0 {

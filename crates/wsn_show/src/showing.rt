@@ -4,10 +4,11 @@ ghost use Rattle.wsn_rules.specs.Limits.{Limits};
 ghost use Rattle.wsn_rules.specs.Entries.{Entry};
 ghost use Rattle.wsn_rules.specs.TextLines.{AreLines};
 ghost use Rattle.wsn_capture.specs.CaptureLines.{count_of};
+ghost use Rattle.wsn_capture.specs.LineSplitters.{bytes_ahead};
 ghost use Rattle.wsn_print.specs.declared.style.Style.{Style};
 ghost use Rattle.wsn_show.specs.CaptureViews.{HasShownLines, IsShowingLines, ShowsLine};
 ghost use Rattle.wsn_show.specs.Showing.{IsShown};
-ghost use Rattle.wsn_show.specs.PassedLines.{HasPrinted, HasPrintedLines, IsPrinting, StopsAtLine, StopsWithin, EndsShowing, bytes_ahead};
+ghost use Rattle.wsn_show.specs.PassedLines.{HasPrinted, HasPrintedLines, IsPrinting, StopsAtLine, StopsWithin, EndsShowing};
 
 use crate::capture_view::CaptureView;
 use std::io::{Read, Write};
@@ -49,18 +50,18 @@ pub fn show<R: Read, W: Write>(
     let mut capture = CaptureView::new(limits, style);
     let mut lines = Lines::new();
     let mut bytes = [0; BYTES_MAX];
-    let mut piece = [0; CHUNK];
+    let mut chunk = [0; CHUNK];
     loop {
-        let Some(count) = input.read(&mut piece) else {
+        let Some(count) = input.read(&mut chunk) else {
             return Err(ShowStop::Capture(CaptureStop::Read));
         };
         if count == 0 {
             return end(&mut capture, lines.line(), &mut bytes, output);
         }
-        show_piece(
+        show_lines(
             &mut capture,
             &mut lines,
-            &piece[..count],
+            &chunk[..count],
             &mut bytes,
             output,
         )?;
@@ -98,12 +99,12 @@ fn show_line<W: Write>(
     Ok(())
 }
 
-/// Shows the lines that a piece of the text ends. The error `Line` is returned at the first byte at which a line isn't
+/// Shows the lines that a chunk of the text ends. The error `Line` is returned at the first byte at which a line isn't
 /// accepted, whatever follows. The contents of `bytes` are then unspecified.
-fn show_piece<W: Write>(
+fn show_lines<W: Write>(
     view: &mut CaptureView,
     lines: &mut Lines,
-    piece: &[u8],
+    chunk: &[u8],
     bytes: &mut [u8; BYTES_MAX],
     output: &mut Output<W>,
 ) -> Result<(), ShowStop>
@@ -113,19 +114,19 @@ fn show_piece<W: Write>(
     requires writable { output.old.failed ≡ false }
     ensures printed { OnOk result ((limits : Limits) (style : Style) (first : Outgoing) (came : List ℕ) →
         HasPrinted limits style first view.old lines.old output.old came →
-        HasPrinted limits style first view.new lines.new output.new (came ++ piece.now)) }
+        HasPrinted limits style first view.new lines.new output.new (came ++ chunk.now)) }
     ensures stop { IfErr result (λ stop. (limits : Limits) (style : Style) (first : Outgoing) (came : List ℕ) →
         HasPrinted limits style first view.old lines.old output.old came →
-        StopsWithin limits style first output.new came piece.now stop) }
+        StopsWithin limits style first output.new came chunk.now stop) }
     ensures few { OnOk result (count_of view.new.lines ≤ 1000000) }
     ensures short { OnOk result (length lines.new < BEGUN_MAX) }
     ensures writable { OnOk result (output.new.failed ≡ false) }
-    ensures left { OnOk result (bytes_ahead view.new lines.new + length piece.now
-        ≤ bytes_ahead view.old lines.old) }
+    ensures left { OnOk result (bytes_ahead view.new.lines lines.new + length chunk.now
+        ≤ bytes_ahead view.old.lines lines.old) }
 {
     let mut taken = 0;
-    while taken < piece.len() {
-        let (count, ended) = lines.take(&piece[taken..]);
+    while taken < chunk.len() {
+        let (count, ended) = lines.take(&chunk[taken..]);
         taken += count;
         if ended {
             show_line(view, lines.line(), bytes, output)?;

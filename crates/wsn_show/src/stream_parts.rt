@@ -31,11 +31,11 @@ impl StreamParts {
     ghost use Rattle.wsn_rules.specs.Group.{unfinished, payload_of};
     ghost use Rattle.wsn_rules.specs.Heads.{info_of};
     ghost use Rattle.wsn_scan.specs.Positions.{Position, BetweenFrames, InFrame};
-    ghost use Rattle.wsn_show.specs.StreamParts.{KeepsMessage, KeepsFrame, Keeps};
+    ghost use Rattle.wsn_show.specs.StreamParts.{KeepsMessage, KeepsFrame, KeepsStream};
 
     /// No byte has come.
     pub fn new() -> StreamParts
-        ensures { Keeps result [] BetweenFrames [] }
+        ensures { KeepsStream result [] BetweenFrames [] }
     {
         StreamParts {
             message: MessageSoFar::new(),
@@ -50,7 +50,7 @@ impl StreamParts {
     /// More bytes come between frames.
     pub fn add_bytes(&mut self, bytes: &[u8])
         ensures { (fs : List Frame) (rest : List ℕ) → length rest + length bytes.now < 2 ^ 64 →
-            Keeps self.old fs BetweenFrames rest → Keeps self.new fs BetweenFrames (rest ++ bytes.now) }
+            KeepsStream self.old fs BetweenFrames rest → KeepsStream self.new fs BetweenFrames (rest ++ bytes.now) }
     {
         self.size = self.size.saturating_add(bytes.len() as u64);
         self.rest.add(bytes);
@@ -60,8 +60,8 @@ impl StreamParts {
     /// The frame's head is complete.
     #[tactic(none)]
     pub fn begin(&mut self, head: HeadInfo)
-        ensures { (fs : List Frame) (rest : List ℕ) → Keeps self.old fs BetweenFrames rest →
-            Keeps self.new fs (InFrame head []) rest }
+        ensures { (fs : List Frame) (rest : List ℕ) → KeepsStream self.old fs BetweenFrames rest →
+            KeepsStream self.new fs (InFrame head []) rest }
     {
         self.head = Some(head);
         self.rest.clear();
@@ -76,8 +76,8 @@ impl StreamParts {
     pub fn add_payload(&mut self, head: &HeadInfo, payload: &[u8], size: usize)
         ensures { (fs : List Frame) (part rest share : List ℕ) → length share ≡ size → length rest + size < 2 ^ 64 →
             length (payload_of (unfinished fs)) + length part + length payload.now < 2 ^ 64 →
-            Keeps self.old fs (InFrame head.now part) rest →
-            Keeps self.new fs (InFrame head.now (part ++ payload.now)) (rest ++ share) }
+            KeepsStream self.old fs (InFrame head.now part) rest →
+            KeepsStream self.new fs (InFrame head.now (part ++ payload.now)) (rest ++ share) }
     {
         self.size = self.size.saturating_add(size as u64);
         self.last.add(payload);
@@ -116,8 +116,8 @@ impl StreamParts {
         ensures { (fs : List Frame) (f : Frame) (rest : List ℕ) → head.now ≡ info_of (length (stream fs)) f →
             length (stream (fs ++ f ∷ [])) ≡ length (stream fs) + length rest →
             length (stream (fs ++ f ∷ [])) < 2 ^ 64 → length (unfinished fs) + 1 < 2 ^ 64 →
-            Keeps self.old fs (InFrame (info_of (length (stream fs)) f) f.payload) rest →
-            Keeps self.new (fs ++ f ∷ []) BetweenFrames [] }
+            KeepsStream self.old fs (InFrame (info_of (length (stream fs)) f) f.payload) rest →
+            KeepsStream self.new (fs ++ f ∷ []) BetweenFrames [] }
     {
         if head.op.is_control() {
             self.next(0);
@@ -133,7 +133,7 @@ impl StreamParts {
         ensures { (fs gs : List Frame) (at : Position) (rest : List ℕ) →
             length (stream gs) ≡ length (stream fs) + (length rest + size) → length (stream gs) < 2 ^ 64 →
             KeepsFrame self.old fs at rest → KeepsMessage self.old.message gs [] →
-            Keeps self.new gs BetweenFrames [] }
+            KeepsStream self.new gs BetweenFrames [] }
     {
         self.offset = self
             .offset

@@ -23,7 +23,7 @@ pub struct StreamView {
 }
 
 impl Model for StreamView {
-    ghost use Rattle.wsn_show.specs.StreamViews.{Viewed, IsViewing};
+    ghost use Rattle.wsn_show.specs.ShownSoFar.{Viewed, IsViewing};
 
     ghost Value = { Viewed };
 
@@ -58,7 +58,7 @@ impl StreamView {
     ghost use Rattle.wsn_print.specs.ShownParts.{position_of};
     ghost use Rattle.wsn_print.specs.declared.style.Style.{Style};
     ghost use Rattle.wsn_show.specs.Styles.{styled_items};
-    ghost use Rattle.wsn_show.specs.StreamViews.{HasViewed};
+    ghost use Rattle.wsn_show.specs.ShownSoFar.{HasViewed};
 
     /// A view of a stream of no bytes. `role` is the endpoint that sent the stream.
     pub fn new(role: Role, limits: Limits, style: Style) -> StreamView

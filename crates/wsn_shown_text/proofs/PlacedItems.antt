@@ -6,7 +6,7 @@ use Rattle.wsn_rules.specs.Meaning.{MeantEvent}
 use Rattle.wsn_rules.specs.ShownStream.{Item}
 use Rattle.wsn_rules.specs.ShownStream.Item.{Event, Head, Unfinished, UnfinishedHead, RefusedFrame, Unread, Tail}
 use Rattle.wsn_print.specs.declared.shown.PlacedEvent.{PlacedEvent}
-use Rattle.wsn_print.specs.ComparisonText.{comparison_line}
+use Rattle.wsn_print.specs.VerdictText.{comparison_line}
 use Rattle.wsn_shown_text.specs.DifferenceText.{event_line, difference_lines, event_value, difference_object}
 use Rattle.wsn_shown_text.specs.DifferingText.{differ_line, differ_field}
 use Rattle.wsn_print.specs.Json.{string_field, number_field}

@@ -8,7 +8,8 @@ use Rattle.wsn_wire.specs.Frame.{key_bytes}
 use Rattle.wsn_rules.specs.ShownStream.{Item}
 use Rattle.wsn_rules.specs.ShownStream.Item.{Event, Head, Unfinished, UnfinishedHead, RefusedFrame, Unread, Tail}
 use Rattle.wsn_print.specs.EscapedText.{is_hidden}
-use Rattle.wsn_print.specs.ShownParts.{HasTextReason, payload_in}
+use Rattle.wsn_print.specs.ShownParts.{HasTextReason}
+use Rattle.wsn_rules.specs.Meaning.{payload_in}
 
 -- ---- JSON strings
 

@@ -12,7 +12,7 @@ ghost use Rattle.wsn_rules.specs.ShownStream.Item.{Event, Head, Unfinished, Unfi
 ghost use Rattle.wsn_shown_text.specs.CharacterText.{character_line, item_lines};
 ghost use Rattle.wsn_print.specs.declared.format.Format.TheVariants as format;
 ghost use Rattle.wsn_shown_text.specs.EntryFormats.{item_entry};
-ghost use Rattle.wsn_print.specs.ShownParts.Position.{AtEnd};
+ghost use Rattle.wsn_print.specs.ShownParts.EntryPosition.{AtEnd};
 ghost use Rattle.wsn_shown_text.specs.ShownText.{item_line, text_view, hex_view, body_view, end_line};
 ghost use Rattle.wsn_print.specs.EscapedText.{quoted, comment_line};
 

@@ -104,7 +104,7 @@ pub fn scanned(rt: &impl Abort, alloc: Global, stream: &Stream, size: usize) -> 
 
 /// The masked text of RFC 6455 section 5.7.
 #[test]
-fn a_frame_in_pieces_of_every_size_is_one_frame(rt: HostRuntime) {
+fn a_frame_in_chunks_of_every_size_is_one_frame(rt: HostRuntime) {
     let alloc = rt.alloc();
     let stream = stream_named(alloc, "Hello with a key").expect(&rt, "a vector of this name");
     for size in 1..=11 {
@@ -197,7 +197,7 @@ static CALLS: [Calls; 8] = [
     },
 ];
 
-/// Pieces of a server's stream, the first three of one frame, and a call with each: the third leaves the ping after the
+/// Chunks of a server's stream, the first three of one frame, and a call with each: the third leaves the ping after the
 /// frame's end.
 static LATER_PARTS: [(&[u8], Call); 4] = [
     (&[0x82, 0x05, 0x41, 0x42], (4, "start of a frame", b"AB")),
@@ -266,16 +266,16 @@ fn each_call_consumes_what_it_can(rt: HostRuntime) {
 }
 
 #[test]
-fn a_frame_goes_on_in_later_pieces(rt: HostRuntime) {
+fn a_frame_goes_on_in_later_chunks(rt: HostRuntime) {
     let mut scan = Scan::new(Role::Server, greatest());
-    for (piece, call) in LATER_PARTS.iter() {
-        let mut bytes = piece.to_vec(rt.alloc()).expect(&rt, "memory");
+    for (chunk, call) in LATER_PARTS.iter() {
+        let mut bytes = chunk.to_vec(rt.alloc()).expect(&rt, "memory");
         expect_call(
             &rt,
             &mut scan,
             bytes.as_mut_slice(),
             call,
-            "a frame in three pieces",
+            "a frame in three chunks",
         );
     }
 }

@@ -3,7 +3,7 @@ use Rattle.std.proofs.Common.{ℕ, ◌<◌, ◌≤◌, ◌⊎◌, ◌↔◌, Lis
 use Rattle.wsn_text.proofs.Numbers.{less_or_not, same_or_not}
 use Rattle.std.specs.List.{AllByRecursion}
 use Rattle.wsn_text.specs.Utf8.{Range, ◌–◌, IsText, BeginsText}
-use Rattle.wsn_text.specs.Rest.{IsRest, Follows}
+use Rattle.wsn_text.specs.Validated.{IsRest, Follows}
 use Rattle.wsn_text.proofs.Rests.{text-nil, any, after_ascii, after_two, after_E0, after_E1_to_EC, after_ED, after_EE_to_EF, after_F0, after_F1_to_F3, after_F4, after_none}
 
 -- No range is empty.

@@ -2,7 +2,7 @@
 use Rattle.std.proofs.Common.{◌≡◌, ℕ, ◌≤◌, ◌⊎◌, ◌↔◌, List, [], ◌∷◌, ◌++◌, inl, inr, refl, sym, subst, ap, arith}
 use Rattle.std.specs.List.{AllByRecursion, concat}
 use Rattle.wsn_text.specs.Utf8.{Range, ◌–◌, table, FitsRow, FitsSome, IsCharacter, IsText}
-use Rattle.wsn_text.specs.Rest.{IsRest}
+use Rattle.wsn_text.specs.Validated.{IsRest}
 
 pub text-nil : IsText []
 text-nil = record { characters = []; each = tt; whole = refl }

@@ -1,8 +1,7 @@
 -- Which states of a `Utf8` are whole, and after which bytes may follow.
 use Rattle.std.proofs.Common.{◌≡◌, ◌≢◌, ℕ, List, [], ◌∷◌, Option, refl, sym, subst, append-nil, arith}
 use Rattle.wsn_text.specs.Utf8.{Range, ◌–◌, IsText}
-use Rattle.wsn_text.specs.Rest.{Follows}
-use Rattle.wsn_text.specs.Validated.{HasValidated}
+use Rattle.wsn_text.specs.Validated.{Follows, HasValidated}
 use Rattle.wsn_text.specs.Expected.{awaited}
 use Rattle.wsn_text.specs.declared.utf8_check.Expected.{Expected}
 use Rattle.wsn_text.specs.declared.utf8_check.Expected.TheVariants.{Character, One, Two, TwoFromA0, TwoUpTo9F, Three, ThreeFrom90, ThreeUpTo8F, Nothing}

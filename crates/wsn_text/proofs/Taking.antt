@@ -1,12 +1,10 @@
--- The state after more bytes: byte by byte, after text, and after one piece and another.
+-- The state after more bytes: byte by byte, after text, and after one chunk and another.
 use Rattle.std.proofs.Common.{◌≡◌, ℕ, ◌+◌, ◌<◌, ◌≤◌, ◌↔◌, List, [], ◌∷◌, ◌++◌, length, take, drop, get_or, Result, Ok, Err, Option, Some, refl, sym, ◌∙◌, subst, ap, append_assoc, append-nil, arith}
 use Rattle.std.proofs.Math.Seq.{take-append-add, take-add}
 use Rattle.std.proofs.lemmas.List.{take-append-drop, take_more, length-append, length-take-le}
 use Rattle.std.specs.Result.{MatchResult, IfErr, IsOk}
 use Rattle.wsn_text.specs.Utf8.{Range, IsText, BeginsText, IsFirstBad}
-use Rattle.wsn_text.specs.Rest.{Follows}
-use Rattle.wsn_text.specs.Validated.{HasValidated}
-use Rattle.wsn_text.specs.Piece.{Validates, Breaks}
+use Rattle.wsn_text.specs.Validated.{Follows, HasValidated, Validates, Breaks}
 use Rattle.wsn_text.proofs.Boundaries.{text_after}
 use Rattle.wsn_text.proofs.Prefixes.{text-append, text_begins, begins_front, begins_shorter, first_bad-append}
 
@@ -67,7 +65,7 @@ breaks_at old before new bytes i less consumes live same dead =
     let next : TakesFirst old new bytes (i + 1) = takes_next old before new bytes i less consumes same in
     let front_of : (taken : List ℕ) (n : ℕ) → take (length taken + n) (taken ++ bytes) ≡ taken ++ take n bytes = λ taken n. take-append-add taken bytes n in
     let whole : (taken : List ℕ) → (taken ++ take (i + 1) bytes) ++ drop (i + 1) bytes ≡ taken ++ bytes =
-    λ taken. append_assoc taken (take (i + 1) bytes) (drop (i + 1) bytes) ∙ ap (λ (piece : List ℕ). taken ++ piece) (take-append-drop (i + 1) bytes) in
+    λ taken. append_assoc taken (take (i + 1) bytes) (drop (i + 1) bytes) ∙ ap (λ (chunk : List ℕ). taken ++ chunk) (take-append-drop (i + 1) bytes) in
     let good : (taken : List ℕ) → HasValidated old taken → BeginsText (taken ++ take i bytes) = λ taken has. begins_live before (taken ++ take i bytes) (consumes taken has) live in
     let bad : (taken : List ℕ) → HasValidated old taken → ¬ (BeginsText (taken ++ take (i + 1) bytes)) = λ taken has. ends_dead new (taken ++ take (i + 1) bytes) (next taken has) dead in
     record {
@@ -108,11 +106,11 @@ takes_end state first bytes same is_text =
       begins = λ taken has. text_begins (taken ++ bytes) (both taken has);
     }
 
--- One piece after another.
+-- One chunk after another.
 
 pub takes_then_takes : (old mid new : State) (front back bytes : List ℕ) → bytes ≡ front ++ back → Validates old mid front → Validates mid new back → Validates old new bytes
 takes_then_takes old mid new front back bytes joined first second =
-    let whole : (taken : List ℕ) → (taken ++ front) ++ back ≡ taken ++ bytes = λ taken. append_assoc taken front back ∙ ap (λ (piece : List ℕ). taken ++ piece) (sym joined) in
+    let whole : (taken : List ℕ) → (taken ++ front) ++ back ≡ taken ++ bytes = λ taken. append_assoc taken front back ∙ ap (λ (chunk : List ℕ). taken ++ chunk) (sym joined) in
     record {
       taken = λ taken has. subst (HasValidated new) (whole taken) (second.taken (taken ++ front) (first.taken taken has));
       begins = λ taken has. subst BeginsText (whole taken) (second.begins (taken ++ front) (first.taken taken has));
@@ -120,7 +118,7 @@ takes_then_takes old mid new front back bytes joined first second =
 
 pub takes_then_breaks : (old mid new : State) (front back bytes : List ℕ) (i : ℕ) → bytes ≡ front ++ back → Validates old mid front → Breaks mid new back i → Breaks old new bytes (length front + i)
 takes_then_breaks old mid new front back bytes i joined first second =
-    let whole : (taken : List ℕ) → (taken ++ front) ++ back ≡ taken ++ bytes = λ taken. append_assoc taken front back ∙ ap (λ (piece : List ℕ). taken ++ piece) (sym joined) in
+    let whole : (taken : List ℕ) → (taken ++ front) ++ back ≡ taken ++ bytes = λ taken. append_assoc taken front back ∙ ap (λ (chunk : List ℕ). taken ++ chunk) (sym joined) in
     record {
       taken = λ taken has. subst (HasValidated new) (whole taken) (second.taken (taken ++ front) (first.taken taken has));
       ends = λ taken has begins. second.ends (taken ++ front) (first.taken taken has) (subst BeginsText (sym (whole taken)) begins);
@@ -133,7 +131,7 @@ takes_then_breaks old mid new front back bytes i joined first second =
 
 pub breaks_then : (old new : State) (front back bytes : List ℕ) (i : ℕ) → bytes ≡ front ++ back → Breaks old new front i → Breaks old new bytes i
 breaks_then old new front back bytes i joined first =
-    let whole : (taken : List ℕ) → (taken ++ front) ++ back ≡ taken ++ bytes = λ taken. append_assoc taken front back ∙ ap (λ (piece : List ℕ). taken ++ piece) (sym joined) in
+    let whole : (taken : List ℕ) → (taken ++ front) ++ back ≡ taken ++ bytes = λ taken. append_assoc taken front back ∙ ap (λ (chunk : List ℕ). taken ++ chunk) (sym joined) in
     record {
       taken = λ taken has.
           let now : HasValidated new (taken ++ front) = first.taken taken has in
@@ -143,7 +141,7 @@ breaks_then old new front back bytes i joined first =
       later = first.later;
     }
 
--- The result for the second piece, with its offset counted from the start of the first.
+-- The result for the second chunk, with its offset counted from the start of the first.
 
 abbrev pub Shifted : {T : Type 0} → Result T ℕ → Result T ℕ → ℕ → Type 0
 Shifted answer shifted n = MatchResult answer (λ x. shifted ≡ Ok x) (λ i. shifted ≡ Err (n + i))
@@ -169,22 +167,22 @@ answers_before old new front back bytes answer i joined is first =
 
 -- What `feed` says of its result.
 
-pub taken_of : {T : Type 0} (old new : State) (piece : List ℕ) (answer : Result T ℕ) → MatchResult answer (λ _. Validates old new piece) (Breaks old new piece)
-    → (taken : List ℕ) → HasValidated old taken → HasValidated new (taken ++ piece)
-taken_of old new piece (Ok x) consumes taken has = consumes.taken taken has
-taken_of old new piece (Err i) breaks taken has = breaks.taken taken has
+pub taken_of : {T : Type 0} (old new : State) (chunk : List ℕ) (answer : Result T ℕ) → MatchResult answer (λ _. Validates old new chunk) (Breaks old new chunk)
+    → (taken : List ℕ) → HasValidated old taken → HasValidated new (taken ++ chunk)
+taken_of old new chunk (Ok x) consumes taken has = consumes.taken taken has
+taken_of old new chunk (Err i) breaks taken has = breaks.taken taken has
 
-pub ok_of : {T : Type 0} (old new : State) (piece : List ℕ) (answer : Result T ℕ) → MatchResult answer (λ _. Validates old new piece) (Breaks old new piece)
-    → (taken : List ℕ) → HasValidated old taken → IsOk answer ↔ BeginsText (taken ++ piece)
-ok_of old new piece (Ok x) consumes taken has = (λ ok. consumes.begins taken has, λ begins. refl)
-ok_of old new piece (Err i) breaks taken has = (λ ok. cc, λ begins. absurd (breaks.ends taken has begins))
+pub ok_of : {T : Type 0} (old new : State) (chunk : List ℕ) (answer : Result T ℕ) → MatchResult answer (λ _. Validates old new chunk) (Breaks old new chunk)
+    → (taken : List ℕ) → HasValidated old taken → IsOk answer ↔ BeginsText (taken ++ chunk)
+ok_of old new chunk (Ok x) consumes taken has = (λ ok. consumes.begins taken has, λ begins. refl)
+ok_of old new chunk (Err i) breaks taken has = (λ ok. cc, λ begins. absurd (breaks.ends taken has begins))
 
-pub first_bad_of : {T : Type 0} (old new : State) (piece : List ℕ) (answer : Result T ℕ) → MatchResult answer (λ _. Validates old new piece) (Breaks old new piece)
-    → (taken : List ℕ) → HasValidated old taken → BeginsText taken → IfErr answer (λ i. IsFirstBad (taken ++ piece) (length taken + i))
-first_bad_of old new piece (Ok x) consumes taken has begins = tt
-first_bad_of old new piece (Err i) breaks taken has begins = breaks.first taken has begins
+pub first_bad_of : {T : Type 0} (old new : State) (chunk : List ℕ) (answer : Result T ℕ) → MatchResult answer (λ _. Validates old new chunk) (Breaks old new chunk)
+    → (taken : List ℕ) → HasValidated old taken → BeginsText taken → IfErr answer (λ i. IsFirstBad (taken ++ chunk) (length taken + i))
+first_bad_of old new chunk (Ok x) consumes taken has begins = tt
+first_bad_of old new chunk (Err i) breaks taken has begins = breaks.first taken has begins
 
-pub after_bad_of : {T : Type 0} (old new : State) (piece : List ℕ) (answer : Result T ℕ) → MatchResult answer (λ _. Validates old new piece) (Breaks old new piece)
+pub after_bad_of : {T : Type 0} (old new : State) (chunk : List ℕ) (answer : Result T ℕ) → MatchResult answer (λ _. Validates old new chunk) (Breaks old new chunk)
     → (taken : List ℕ) → HasValidated old taken → ¬ (BeginsText taken) → answer ≡ Err 0
-after_bad_of old new piece (Ok x) consumes taken has ends = absurd (ends (begins_front taken piece (consumes.begins taken has)))
-after_bad_of old new piece (Err i) breaks taken has ends = ap (λ (n : ℕ). Err n) (breaks.later taken has ends)
+after_bad_of old new chunk (Ok x) consumes taken has ends = absurd (ends (begins_front taken chunk (consumes.begins taken has)))
+after_bad_of old new chunk (Err i) breaks taken has ends = ap (λ (n : ℕ). Err n) (breaks.later taken has ends)

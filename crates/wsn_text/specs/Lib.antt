@@ -1,7 +1,5 @@
 -- Definitions of UTF-8, of the state of a validator, and of the body of a Close.
 pub mod Utf8
 pub mod CloseBody
-pub mod Rest
 pub mod Validated
-pub mod Piece
 pub mod Expected

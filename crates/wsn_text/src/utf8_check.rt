@@ -1,8 +1,6 @@
 ghost use Rattle.std.specs.Prelude.{◌≡◌, ℕ, ◌+◌, ◌<◌, ◌≤◌, ◌⊎◌, ◌↔◌, List, [], ◌∷◌, ◌++◌, length, take, IsTrue, IsFalse, IsOk, IfSome, IfErr, MatchResult};
 ghost use Rattle.wsn_text.specs.Utf8.{IsText, BeginsText, IsFirstBad};
-ghost use Rattle.wsn_text.specs.Rest.{Follows};
-ghost use Rattle.wsn_text.specs.Validated.{HasValidated};
-ghost use Rattle.wsn_text.specs.Piece.{Validates, Breaks};
+ghost use Rattle.wsn_text.specs.Validated.{Follows, HasValidated, Validates, Breaks};
 ghost use Rattle.wsn_text.specs.Expected.{awaited};
 
 use crate::ascii_blocks::is_ascii;
@@ -157,30 +155,30 @@ impl Utf8 {
         }
     }
 
-    /// Validates the next bytes. `piece` may be empty.
+    /// Validates the next bytes. `chunk` may be empty.
     ///
     /// # Errors
     ///
-    /// The offset in `piece` of the first bad byte among all bytes fed so far. 0 for every call after a bad byte.
+    /// The offset in `chunk` of the first bad byte among all bytes fed so far. 0 for every call after a bad byte.
     #[inline(always)]
     #[tactic(none)]
-    pub fn feed(&mut self, piece: &[u8]) -> Result<(), usize>
-        ensures within { IfErr result (λ i. (i ≡ 0) ⊎ (i < length piece.now)) }
+    pub fn feed(&mut self, chunk: &[u8]) -> Result<(), usize>
+        ensures within { IfErr result (λ i. (i ≡ 0) ⊎ (i < length chunk.now)) }
 
         // Whatever was fed before:
-        ensures taken { (taken : List ℕ) → HasValidated self.old taken → HasValidated self.new (taken ++ piece.now) }
-        ensures ok { (taken : List ℕ) → HasValidated self.old taken → (IsOk result ↔ BeginsText (taken ++ piece.now)) }
+        ensures taken { (taken : List ℕ) → HasValidated self.old taken → HasValidated self.new (taken ++ chunk.now) }
+        ensures ok { (taken : List ℕ) → HasValidated self.old taken → (IsOk result ↔ BeginsText (taken ++ chunk.now)) }
         ensures first_bad { (taken : List ℕ) → HasValidated self.old taken → BeginsText taken
-            → IfErr result (λ i. IsFirstBad (taken ++ piece.now) (length taken + i)) }
+            → IfErr result (λ i. IsFirstBad (taken ++ chunk.now) (length taken + i)) }
         ensures after_bad { (taken : List ℕ) → HasValidated self.old taken → ¬ (BeginsText taken) → result ≡ Err 0 }
     {
-        if self.goes_on_in_ascii(piece) {
+        if self.goes_on_in_ascii(chunk) {
             return Ok(());
         }
         if self.is_bad() {
             return Err(0);
         }
-        self.take_piece(piece)
+        self.take_chunk(chunk)
     }
 
     /// Whether all bytes fed so far are UTF-8. `false` forever after a bad byte.
@@ -191,12 +189,12 @@ impl Utf8 {
         matches!(self.expected, Expected::Character)
     }
 
-    /// Whether no character is unfinished and the piece is ASCII.
+    /// Whether no character is unfinished and the chunk is ASCII.
     #[inline(always)]
-    fn goes_on_in_ascii(&self, piece: &[u8]) -> bool
-        ensures { IsTrue result → Validates self.now self.now piece.now }
+    fn goes_on_in_ascii(&self, chunk: &[u8]) -> bool
+        ensures { IsTrue result → Validates self.now self.now chunk.now }
     {
-        self.is_whole() && is_ascii(piece)
+        self.is_whole() && is_ascii(chunk)
     }
 
     /// Whether a bad byte has come.
@@ -207,23 +205,23 @@ impl Utf8 {
         matches!(self.expected, Expected::Nothing)
     }
 
-    /// Validates a piece by parts, so that not much is read after a bad byte.
+    /// Validates a chunk by parts, so that not much is read after a bad byte.
     #[inline(never)]
     #[tactic(none)]
-    fn take_piece(&mut self, piece: &[u8]) -> Result<(), usize>
+    fn take_chunk(&mut self, chunk: &[u8]) -> Result<(), usize>
         requires { (more : List ℕ) × Follows self.old more }
-        ensures within { IfErr result (λ i. i < length piece.now) }
-        ensures steps { MatchResult result (λ _. Validates self.old self.new piece.now)
-            (Breaks self.old self.new piece.now) }
+        ensures within { IfErr result (λ i. i < length chunk.now) }
+        ensures steps { MatchResult result (λ _. Validates self.old self.new chunk.now)
+            (Breaks self.old self.new chunk.now) }
     {
-        if piece.len() <= FEW {
-            return self.take_each(piece);
+        if chunk.len() <= FEW {
+            return self.take_each(chunk);
         }
         let mut at = 0;
         loop {
-            let end = piece.len().min(at + PART);
-            self.take_part(&piece[at..end]).map_err(|i| at + i)?;
-            if end == piece.len() {
+            let end = chunk.len().min(at + PART);
+            self.take_part(&chunk[at..end]).map_err(|i| at + i)?;
+            if end == chunk.len() {
                 return Ok(());
             }
             at = end;
@@ -232,16 +230,16 @@ impl Utf8 {
 
     /// Validates a part: all of it at once but an unfinished last character, or in steps if a byte is bad.
     #[tactic(none)]
-    fn take_part(&mut self, piece: &[u8]) -> Result<(), usize>
+    fn take_part(&mut self, chunk: &[u8]) -> Result<(), usize>
         requires { (more : List ℕ) × Follows self.old more }
-        ensures within { IfErr result (λ i. i < length piece.now) }
+        ensures within { IfErr result (λ i. i < length chunk.now) }
         ensures good { IsOk result → (more : List ℕ) × Follows self.new more }
-        ensures steps { MatchResult result (λ _. Validates self.old self.new piece.now)
-            (Breaks self.old self.new piece.now) }
+        ensures steps { MatchResult result (λ _. Validates self.old self.new chunk.now)
+            (Breaks self.old self.new chunk.now) }
     {
-        let (front, rest) = piece.split_at(piece.len() - unfinished(piece));
+        let (front, rest) = chunk.split_at(chunk.len() - unfinished(chunk));
         if !is_text_after(self.expected.first_byte(), front) {
-            return self.take_in_steps(piece);
+            return self.take_in_steps(chunk);
         }
         self.expected = Expected::Character;
         if rest.is_empty() {
@@ -250,17 +248,17 @@ impl Utf8 {
         self.take_each(rest).map_err(|i| front.len() + i)
     }
 
-    /// Validates a piece: what the last character still needs byte by byte, and then the rest.
+    /// Validates a chunk: what the last character still needs byte by byte, and then the rest.
     #[inline(never)]
     #[tactic(none)]
-    fn take_in_steps(&mut self, piece: &[u8]) -> Result<(), usize>
+    fn take_in_steps(&mut self, chunk: &[u8]) -> Result<(), usize>
         requires { (more : List ℕ) × Follows self.old more }
-        ensures within { IfErr result (λ i. i < length piece.now) }
+        ensures within { IfErr result (λ i. i < length chunk.now) }
         ensures good { IsOk result → (more : List ℕ) × Follows self.new more }
-        ensures steps { MatchResult result (λ _. Validates self.old self.new piece.now)
-            (Breaks self.old self.new piece.now) }
+        ensures steps { MatchResult result (λ _. Validates self.old self.new chunk.now)
+            (Breaks self.old self.new chunk.now) }
     {
-        let (begun, rest) = piece.split_at(self.expected.missing().min(piece.len()));
+        let (begun, rest) = chunk.split_at(self.expected.missing().min(chunk.len()));
         self.take_each(begun)?;
         self.take_rest(rest).map_err(|i| begun.len() + i)
     }

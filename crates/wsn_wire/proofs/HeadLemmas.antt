@@ -17,9 +17,8 @@ use Rattle.wsn_wire.specs.declared.refusal.Reason.{Reason}
 use Rattle.wsn_wire.specs.declared.refusal.Reason.TheVariants.{ReservedBits, ReservedOpcode, ControlNotFinal, MaskMissing, MaskPresent, ControlTooLong, CloseOneByte, LengthTopBit, LengthNotMinimal}
 use Rattle.wsn_wire.specs.Frame.{Frame, opcode, is_control, first_byte, second_byte, length_field, length_bytes, len_form_of, key_bytes, wire_payload, frame_bytes, masked, IsBytes, IsKey, FormFits}
 use Rattle.wsn_wire.specs.Layout.{fin_bit, reserved_bits, opcode_field, mask_bit, len_form_at, length_count, encoded_length, HasLayout}
-use Rattle.wsn_wire.specs.EvidenceInHeads.{IsReserved, IsControlOpcode, EvidentInFirst, EvidentInSecond, EvidentInLength, HasTopBit, IsNotMinimal, IsLong}
+use Rattle.wsn_wire.specs.EvidenceInHeads.{IsReserved, IsControlOpcode, EvidentInFirst, EvidentInSecond, EvidentInLength, HasTopBit, IsNotMinimal, IsLong, HeadHasNoEvidence, IsNoCloseOfOneByte}
 use Rattle.wsn_wire.specs.HeadLaw.{IsEncodedFor}
-use Rattle.wsn_wire.specs.HeadsWithoutEvidence.{HeadHasNoEvidence, IsNoCloseOfOneByte}
 use Rattle.wsn_wire.proofs.MaskLemmas.{at-All}
 use Rattle.wsn_wire.proofs.FrameLemmas.{op_at, form_at, key_at, frame_at, Spells, short-len_form_of, two-len_form_of, eight-len_form_of, IsBytes-left, IsBytes-right, length-wire_payload, wire_payload_bytes, wire_payload_twice, IsFirstByteOf, first_byte_fields, second_byte_fields, length_bytes_fields, spells-len_form_of}
 

@@ -1,5 +1,5 @@
 -- The refusals for which a frame's head alone is evidence. RFC 6455 sections 5.1, 5.2 and 5.5.
-use Rattle.std.specs.Prelude.{◌≡◌, ℕ, ◌^◌, ◌<◌, ◌≤◌, ◌⊎◌, false, true, List}
+use Rattle.std.specs.Prelude.{◌≡◌, ℕ, ◌^◌, ◌<◌, ◌≤◌, ◌⊎◌, false, true, List, ◌≢◌, length}
 use Rattle.wsn_wire.specs.declared.endpoint.Role.{Role}
 use Rattle.wsn_wire.specs.declared.endpoint.Role.TheVariants.{Client, Server}
 use Rattle.wsn_wire.specs.declared.length_forms.Lengths.{Lengths}
@@ -9,6 +9,8 @@ use Rattle.wsn_wire.specs.declared.length_forms.LenForm.TheVariants.{Short, Two,
 use Rattle.wsn_wire.specs.declared.refusal.Reason.{Reason}
 use Rattle.wsn_wire.specs.declared.refusal.Reason.TheVariants.{ReservedBits, ReservedOpcode, ControlNotFinal, MaskMissing, MaskPresent, ControlTooLong, CloseOneByte, LengthTopBit, LengthNotMinimal}
 use Rattle.wsn_wire.specs.Layout.{fin_bit, reserved_bits, opcode_field, mask_bit, len_form_at, encoded_length}
+use Rattle.wsn_wire.specs.declared.opcode.Op.TheVariants.{Close}
+use Rattle.wsn_wire.specs.Frame.{Frame}
 
 -- [5.2] The opcodes 3 to 7 and 11 to 15 are reserved.
 abbrev pub IsReserved : ℕ → Type 0
@@ -62,3 +64,13 @@ abbrev pub EvidentInLength : Lengths → Reason → LenForm → List ℕ → Typ
 EvidentInLength lengths LengthTopBit f bytes = HasTopBit f (encoded_length f bytes)
 EvidentInLength lengths LengthNotMinimal f bytes = (lengths ≡ Shortest) × IsNotMinimal f (encoded_length f bytes)
 EvidentInLength lengths _ f bytes = ⊥
+
+-- The head is evidence for no reason: neither its first byte, nor its second, nor its length bytes.
+pub record HeadHasNoEvidence (role : Role) (lengths : Lengths) (first second : ℕ) (len : List ℕ) : Type 0 where
+  pub by_first : (r : Reason) → ¬ (EvidentInFirst r first)
+  pub by_second : (r : Reason) → ¬ (EvidentInSecond role r first second)
+  pub by_length : (r : Reason) → ¬ (EvidentInLength lengths r (len_form_at second) len)
+
+-- [5.5.1] The frame isn't a Close whose body is a single byte.
+abbrev pub IsNoCloseOfOneByte : Frame → Type 0
+IsNoCloseOfOneByte f = f.op ≡ Close → length f.payload ≢ 1

@@ -4,4 +4,3 @@ pub mod Layout
 pub mod Refusal
 pub mod EvidenceInHeads
 pub mod HeadLaw
-pub mod HeadsWithoutEvidence

@@ -7,7 +7,7 @@ use Rattle.wsn_wire.specs.declared.endpoint.Role.{Role}
 use Rattle.wsn_wire.specs.Frame.{Frame, is_control}
 use Rattle.wsn_rules.specs.Limits.{Limits}
 use Rattle.wsn_rules.specs.Group.{unfinished, kind_of, payload_of}
-use Rattle.wsn_rules.specs.LawfulAfter.{AreLawfulAfter}
+use Rattle.wsn_rules.specs.Lawful.{AreLawfulAfter}
 use Rattle.wsn_rules.specs.Meaning.{MeantEvent, event_at, events_after}
 use Rattle.wsn_rules.specs.Meaning as meant
 use Rattle.wsn_rules.specs.Plan.{next_text}

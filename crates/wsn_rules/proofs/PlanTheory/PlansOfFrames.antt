@@ -16,8 +16,7 @@ use Rattle.wsn_rules.specs.declared.step.Step.{Step}
 use Rattle.wsn_rules.specs.declared.step.Step.TheVariants.{Piece, Last, Control}
 use Rattle.wsn_rules.specs.Limits.{Limits}
 use Rattle.wsn_rules.specs.Group.{is_data, unfinished, kind_at, kind_of, payload_of}
-use Rattle.wsn_rules.specs.Lawful.{GroupLaw, LawAt, IsLawful}
-use Rattle.wsn_rules.specs.LawfulAfter.{AreLawfulAfter}
+use Rattle.wsn_rules.specs.Lawful.{GroupLaw, LawAt, IsLawful, AreLawfulAfter}
 use Rattle.wsn_rules.specs.Meaning.{MeantEvent, events_after, meaning}
 use Rattle.wsn_rules.specs.Meaning as meant
 use Rattle.wsn_rules.specs.NormalForm.{op_of}

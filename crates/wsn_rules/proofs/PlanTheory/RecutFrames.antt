@@ -6,8 +6,7 @@ use Rattle.wsn_rules.specs.declared.step.Step.{Step}
 use Rattle.wsn_rules.specs.declared.step.Step.TheVariants.{Piece, Last, Control}
 use Rattle.wsn_rules.specs.Limits.{Limits}
 use Rattle.wsn_rules.specs.Group.{unfinished}
-use Rattle.wsn_rules.specs.Lawful.{IsLawful}
-use Rattle.wsn_rules.specs.LawfulAfter.{AreLawfulAfter}
+use Rattle.wsn_rules.specs.Lawful.{IsLawful, AreLawfulAfter}
 use Rattle.wsn_rules.specs.Accepted.{IsAccepted}
 use Rattle.wsn_rules.specs.Meaning.{MeantEvent, event_at, events_after, meaning}
 use Rattle.wsn_rules.specs.LawfulEvents.{AreLawful}

@@ -1,4 +1,4 @@
-//! Runs of frames that are whole in a piece and each end an event, with the event's normal frame written in their place.
+//! Runs of frames that are whole in a chunk and each end an event, with the event's normal frame written in their place.
 ghost use Rattle.std.specs.Prelude.{◌≡◌, ◌≢◌, ◌+◌, ◌<◌, ◌≤◌, ◌⊎◌, true, false, None, Ok, List, [], ◌∷◌, length, take, drop, IsTrue, IfSome, IfNone};
 ghost use Rattle.wsn_wire.specs.Frame.{Frame, IsBytes, first_byte};
 ghost use Rattle.wsn_frame.specs.declared.payload_check.PayloadCheck.{PayloadCheck};
@@ -46,19 +46,19 @@ impl EventFrame {
 }
 
 impl Scan {
-    /// Consumes frames at the start of the piece, up to the first that [`take_event`] leaves, and writes the normal
+    /// Consumes frames at the start of the chunk, up to the first that [`take_event`] leaves, and writes the normal
     /// form of their events in their place (RFC 6455 section 5.4). Returns the number of bytes. It does so if the scan
     /// is between frames and no message is open. With 0 nothing changes.
     #[inline(never)]
     #[tactic(none)]
-    pub(crate) fn take_events(&mut self, piece: &mut [u8]) -> usize
-        requires { length piece.old ≤ room_of self.old }
-        ensures taken { 0 < result → IsIdle self.old × TakesEvents self.old self.new piece.old piece.new result }
-        ensures within { result ≤ length piece.old }
-        ensures kept { drop result piece.new ≡ drop result piece.old }
+    pub(crate) fn take_events(&mut self, chunk: &mut [u8]) -> usize
+        requires { length chunk.old ≤ room_of self.old }
+        ensures taken { 0 < result → IsIdle self.old × TakesEvents self.old self.new chunk.old chunk.new result }
+        ensures within { result ≤ length chunk.old }
+        ensures kept { drop result chunk.new ≡ drop result chunk.old }
         ensures room { room_of self.new + result ≡ room_of self.old }
         ensures reported { refusal_in self.old ≡ None → refusal_in self.new ≡ None }
-        ensures none { result ≡ 0 → (self.new ≡ self.old) × (piece.new ≡ piece.old) }
+        ensures none { result ≡ 0 → (self.new ≡ self.old) × (chunk.new ≡ chunk.old) }
     {
         if !self.is_idle() {
             return 0;
@@ -70,7 +70,7 @@ impl Scan {
         };
         let mut counts = self.counts;
         let mut at = 0;
-        while let Some(frame) = take_event(&context, &mut piece[at..]) {
+        while let Some(frame) = take_event(&context, &mut chunk[at..]) {
             counts = counts.with(true, frame.op);
             at += frame.size;
         }
@@ -83,49 +83,49 @@ impl Scan {
         at
     }
 
-    /// Consumes the frame at the start of the piece if [`take_event`] takes it, and returns its size and its head; its
+    /// Consumes the frame at the start of the chunk if [`take_event`] takes it, and returns its size and its head; its
     /// event's normal frame is in its place. It does so if the scan is between frames and no message is open. Otherwise it
     /// returns `None`, and nothing changes.
     #[inline(always)]
-    pub fn next_event(&mut self, piece: &mut [u8]) -> Option<(usize, HeadInfo)>
-        requires { length piece.old ≤ room_of self.old }
-        ensures taken { IfSome result (λ found. IsBytes piece.old →
-            ConsumesPrefix self.old self.new piece.old found.0 (found.1 ∷ [])) }
-        ensures part { IfSome result (λ found. AdvancesFrom self.old.stage self.old self.new piece.old piece.new found.0
+    pub fn next_event(&mut self, chunk: &mut [u8]) -> Option<(usize, HeadInfo)>
+        requires { length chunk.old ≤ room_of self.old }
+        ensures taken { IfSome result (λ found. IsBytes chunk.old →
+            ConsumesPrefix self.old self.new chunk.old found.0 (found.1 ∷ [])) }
+        ensures part { IfSome result (λ found. AdvancesFrom self.old.stage self.old self.new chunk.old chunk.new found.0
             Taken.Part (whole_part found.1 found.0)) }
         ensures first { IfSome result (λ found. (found.1.fin ≡ true)
-            × (take 1 piece.old ≡ first_byte true found.1.op ∷ [])) }
+            × (take 1 chunk.old ≡ first_byte true found.1.op ∷ [])) }
         ensures whole { IfSome result (λ found. (found.1.len ≤ found.0) × HasNoRest self.new) }
         ensures reported { IfSome result (λ _. refusal_in self.new ≡ None) }
-        ensures within { IfSome result (λ found. (0 < found.0) × (found.0 ≤ length piece.old)) }
-        ensures kept { IfSome result (λ found. drop found.0 piece.new ≡ drop found.0 piece.old) }
+        ensures within { IfSome result (λ found. (0 < found.0) × (found.0 ≤ length chunk.old)) }
+        ensures kept { IfSome result (λ found. drop found.0 chunk.new ≡ drop found.0 chunk.old) }
         ensures room { IfSome result (λ found. room_of self.new + found.0 ≡ room_of self.old) }
-        ensures none { IfNone result ((self.new ≡ self.old) × (piece.new ≡ piece.old)) }
+        ensures none { IfNone result ((self.new ≡ self.old) × (chunk.new ≡ chunk.old)) }
     {
-        if piece.len() < HEAD_MAX {
+        if chunk.len() < HEAD_MAX {
             return None;
         }
-        self.next_event_after(piece[0], piece)
+        self.next_event_after(chunk[0], chunk)
     }
 
-    /// Consumes a frame as [`Scan::next_event`] does; `byte` is the piece's first.
+    /// Consumes a frame as [`Scan::next_event`] does; `byte` is the chunk's first.
     #[inline(always)]
     #[tactic(none)]
-    pub fn next_event_after(&mut self, byte: u8, piece: &mut [u8]) -> Option<(usize, HeadInfo)>
-        requires fits { length piece.old ≤ room_of self.old }
-        requires first { take 1 piece.old ≡ byte ∷ [] }
-        ensures taken { IfSome result (λ found. IsBytes piece.old →
-            ConsumesPrefix self.old self.new piece.old found.0 (found.1 ∷ [])) }
-        ensures part { IfSome result (λ found. AdvancesFrom self.old.stage self.old self.new piece.old piece.new found.0
+    pub fn next_event_after(&mut self, byte: u8, chunk: &mut [u8]) -> Option<(usize, HeadInfo)>
+        requires fits { length chunk.old ≤ room_of self.old }
+        requires first { take 1 chunk.old ≡ byte ∷ [] }
+        ensures taken { IfSome result (λ found. IsBytes chunk.old →
+            ConsumesPrefix self.old self.new chunk.old found.0 (found.1 ∷ [])) }
+        ensures part { IfSome result (λ found. AdvancesFrom self.old.stage self.old self.new chunk.old chunk.new found.0
             Taken.Part (whole_part found.1 found.0)) }
         ensures first { IfSome result (λ found. (found.1.fin ≡ true)
-            × (take 1 piece.old ≡ first_byte true found.1.op ∷ [])) }
+            × (take 1 chunk.old ≡ first_byte true found.1.op ∷ [])) }
         ensures whole { IfSome result (λ found. (found.1.len ≤ found.0) × HasNoRest self.new) }
         ensures reported { IfSome result (λ _. refusal_in self.new ≡ None) }
-        ensures within { IfSome result (λ found. (0 < found.0) × (found.0 ≤ length piece.old)) }
-        ensures kept { IfSome result (λ found. drop found.0 piece.new ≡ drop found.0 piece.old) }
+        ensures within { IfSome result (λ found. (0 < found.0) × (found.0 ≤ length chunk.old)) }
+        ensures kept { IfSome result (λ found. drop found.0 chunk.new ≡ drop found.0 chunk.old) }
         ensures room { IfSome result (λ found. room_of self.new + found.0 ≡ room_of self.old) }
-        ensures none { IfNone result ((self.new ≡ self.old) × (piece.new ≡ piece.old)) }
+        ensures none { IfNone result ((self.new ≡ self.old) × (chunk.new ≡ chunk.old)) }
     {
         if !self.is_idle() {
             return None;
@@ -135,7 +135,7 @@ impl Scan {
             message: None,
             ..self.context
         };
-        let frame = take_event_after(byte, &context, piece)?;
+        let frame = take_event_after(byte, &context, chunk)?;
         let head = frame.info(self.used);
         self.counts = self.counts.with(true, frame.op);
         self.room -= frame.size as u64;
@@ -152,57 +152,57 @@ impl Scan {
     }
 }
 
-/// Writes the normal frame of an event in place of the frame that ends it, at the start of the piece, and returns that
-/// frame. It does so if no message is open, the piece has the whole frame and at least 14 bytes, and the frame is valid,
+/// Writes the normal frame of an event in place of the frame that ends it, at the start of the chunk, and returns that
+/// frame. It does so if no message is open, the chunk has the whole frame and at least 14 bytes, and the frame is valid,
 /// final and no Close, and encodes its length shortest, in at most two length bytes. Otherwise it returns `None`, and
 /// nothing changes.
 #[inline(always)]
-fn take_event(context: &FrameContext, piece: &mut [u8]) -> Option<EventFrame>
+fn take_event(context: &FrameContext, chunk: &mut [u8]) -> Option<EventFrame>
     requires { context.now.message ≡ None }
-    ensures taken { IfSome result (λ frame. IsBytes piece.old →
-        IsEventFrame context.now.role context.now.limits piece.old piece.new frame) }
-    ensures first { IfSome result (λ frame. take 1 piece.old ≡ first_byte true frame.op ∷ []) }
-    ensures within { IfSome result (λ frame. (0 < frame.size) × (frame.size ≤ length piece.old)
+    ensures taken { IfSome result (λ frame. IsBytes chunk.old →
+        IsEventFrame context.now.role context.now.limits chunk.old chunk.new frame) }
+    ensures first { IfSome result (λ frame. take 1 chunk.old ≡ first_byte true frame.op ∷ []) }
+    ensures within { IfSome result (λ frame. (0 < frame.size) × (frame.size ≤ length chunk.old)
         × (frame.len ≤ frame.size)) }
-    ensures kept { IfSome result (λ frame. drop frame.size piece.new ≡ drop frame.size piece.old) }
-    ensures none { IfNone result (piece.new ≡ piece.old) }
+    ensures kept { IfSome result (λ frame. drop frame.size chunk.new ≡ drop frame.size chunk.old) }
+    ensures none { IfNone result (chunk.new ≡ chunk.old) }
 {
-    if piece.len() < HEAD_MAX {
+    if chunk.len() < HEAD_MAX {
         return None;
     }
-    take_event_after(piece[0], context, piece)
+    take_event_after(chunk[0], context, chunk)
 }
 
-/// Takes an event as [`take_event`] does; `byte` is the piece's first.
+/// Takes an event as [`take_event`] does; `byte` is the chunk's first.
 #[inline(always)]
 #[tactic(none)]
-fn take_event_after(byte: u8, context: &FrameContext, piece: &mut [u8]) -> Option<EventFrame>
+fn take_event_after(byte: u8, context: &FrameContext, chunk: &mut [u8]) -> Option<EventFrame>
     requires none_open { context.now.message ≡ None }
-    requires first { take 1 piece.old ≡ byte ∷ [] }
-    ensures taken { IfSome result (λ frame. IsBytes piece.old →
-        IsEventFrame context.now.role context.now.limits piece.old piece.new frame) }
-    ensures first { IfSome result (λ frame. take 1 piece.old ≡ first_byte true frame.op ∷ []) }
-    ensures within { IfSome result (λ frame. (0 < frame.size) × (frame.size ≤ length piece.old)
+    requires first { take 1 chunk.old ≡ byte ∷ [] }
+    ensures taken { IfSome result (λ frame. IsBytes chunk.old →
+        IsEventFrame context.now.role context.now.limits chunk.old chunk.new frame) }
+    ensures first { IfSome result (λ frame. take 1 chunk.old ≡ first_byte true frame.op ∷ []) }
+    ensures within { IfSome result (λ frame. (0 < frame.size) × (frame.size ≤ length chunk.old)
         × (frame.len ≤ frame.size)) }
-    ensures kept { IfSome result (λ frame. drop frame.size piece.new ≡ drop frame.size piece.old) }
-    ensures none { IfNone result (piece.new ≡ piece.old) }
+    ensures kept { IfSome result (λ frame. drop frame.size chunk.new ≡ drop frame.size chunk.old) }
+    ensures none { IfNone result (chunk.new ≡ chunk.old) }
 {
-    let (start, head) = whole_head_after(byte, piece, context)?;
+    let (start, head) = whole_head_after(byte, chunk, context)?;
     if head.len == 0 {
-        let frame = take_empty(&head, &mut piece[..start])?;
+        let frame = take_empty(&head, &mut chunk[..start])?;
         return Some(frame);
     }
-    let room = (piece.len() - start) as u64;
+    let room = (chunk.len() - start) as u64;
     if head.len > room || !is_plain(&head) {
         return None;
     }
     let end = start + head.len as usize;
-    unmask(head.key, 0, &mut piece[start..end]);
-    if !is_valid(head.first, &piece[start..end]) {
-        unmask(head.key, 0, &mut piece[start..end]);
+    unmask(head.key, 0, &mut chunk[start..end]);
+    if !is_valid(head.first, &chunk[start..end]) {
+        unmask(head.key, 0, &mut chunk[start..end]);
         return None;
     }
-    clear_key(head.key, &mut piece[..start]);
+    clear_key(head.key, &mut chunk[..start]);
     Some(EventFrame {
         op: head.first.op,
         key: head.key,

@@ -24,27 +24,28 @@ use wsn_wire::{Op, Reason};
 
 impl Scan {
     ghost use Rattle.std.specs.Prelude.{◌≡◌, ◌≢◌, ◌+◌, ◌-◌, ◌<◌, ◌≤◌, ◌↔◌, true, None, length, take, drop, IfSome, IfNone, IsSome, IsTrue};
-    ghost use Rattle.wsn_scan.specs.Words.{AdvancesFrom, TakesPart, TakesFound, Unmasks, HasNoRest, ContinuesHead, BeginsAt, BeginsFrame, AddsPart, EndsFrame, IsCutAt, room_of, refusal_in, refusal_of, info_at};
+    ghost use Rattle.wsn_scan.specs.Scans.{AdvancesFrom, TakesPart, TakesFound, Unmasks, HasNoRest, ContinuesHead, BeginsAt, BeginsFrame, AddsPart, EndsFrame, IsCutAt, room_of, refusal_in, refusal_of};
+    ghost use Rattle.wsn_frame.specs.PartialHeads.{info_at};
 
-    /// Takes what the piece has of the frame at its start, if the scan is between frames, [`whole_head`] reads the frame's
+    /// Takes what the chunk has of the frame at its start, if the scan is between frames, [`whole_head`] reads the frame's
     /// head, it is no Close, and no byte is evidence for a refusal. Otherwise nothing changes.
     #[inline(always)]
     #[tactic(none)]
-    pub(super) fn take_frame(&mut self, piece: &mut [u8], part: &mut Part) -> Option<usize>
-        requires fits { length piece.old ≤ room_of self.old }
+    pub(super) fn take_frame(&mut self, chunk: &mut [u8], part: &mut Part) -> Option<usize>
+        requires fits { length chunk.old ≤ room_of self.old }
         ensures taken { IfSome result (λ count.
-            AdvancesFrom self.old.stage self.old self.new piece.old piece.new count Taken.Part part.new) }
-        ensures part { IfSome result (λ count. TakesPart self.old self.new piece.old piece.new count part.new) }
+            AdvancesFrom self.old.stage self.old self.new chunk.old chunk.new count Taken.Part part.new) }
+        ensures part { IfSome result (λ count. TakesPart self.old self.new chunk.old chunk.new count part.new) }
         ensures between { IfSome result (λ _. self.old.stage ≡ Stage.Between) }
-        ensures none { IfNone result ((self.new ≡ self.old) × (piece.new ≡ piece.old)) }
+        ensures none { IfNone result ((self.new ≡ self.old) × (chunk.new ≡ chunk.old)) }
     {
         if !self.is_between() {
             return None;
         }
         // The compiler knows of the first copy that no message is open.
         match self.context.message {
-            None => self.take_frame_after(&None, piece, part),
-            message => self.take_frame_within(&message, piece, part),
+            None => self.take_frame_after(&None, chunk, part),
+            message => self.take_frame_within(&message, chunk, part),
         }
     }
 
@@ -53,17 +54,17 @@ impl Scan {
     fn take_frame_within(
         &mut self,
         message: &Option<OpenMessage>,
-        piece: &mut [u8],
+        chunk: &mut [u8],
         part: &mut Part,
     ) -> Option<usize>
-        requires fits { length piece.old ≤ room_of self.old }
+        requires fits { length chunk.old ≤ room_of self.old }
         requires open { message.now ≡ self.old.context.message }
         ensures taken { IfSome result (λ count.
-            AdvancesFrom Stage.Between self.old self.new piece.old piece.new count Taken.Part part.new) }
-        ensures part { IfSome result (λ count. TakesPart self.old self.new piece.old piece.new count part.new) }
-        ensures none { IfNone result ((self.new ≡ self.old) × (piece.new ≡ piece.old)) }
+            AdvancesFrom Stage.Between self.old self.new chunk.old chunk.new count Taken.Part part.new) }
+        ensures part { IfSome result (λ count. TakesPart self.old self.new chunk.old chunk.new count part.new) }
+        ensures none { IfNone result ((self.new ≡ self.old) × (chunk.new ≡ chunk.old)) }
     {
-        self.take_frame_after(message, piece, part)
+        self.take_frame_after(message, chunk, part)
     }
 
     /// Whether it is between frames.
@@ -80,106 +81,106 @@ impl Scan {
     fn take_frame_after(
         &mut self,
         message: &Option<OpenMessage>,
-        piece: &mut [u8],
+        chunk: &mut [u8],
         part: &mut Part,
     ) -> Option<usize>
-        requires fits { length piece.old ≤ room_of self.old }
+        requires fits { length chunk.old ≤ room_of self.old }
         requires open { message.now ≡ self.old.context.message }
         ensures taken { IfSome result (λ count.
-            AdvancesFrom Stage.Between self.old self.new piece.old piece.new count Taken.Part part.new) }
-        ensures part { IfSome result (λ count. TakesPart self.old self.new piece.old piece.new count part.new) }
-        ensures none { IfNone result ((self.new ≡ self.old) × (piece.new ≡ piece.old)) }
+            AdvancesFrom Stage.Between self.old self.new chunk.old chunk.new count Taken.Part part.new) }
+        ensures part { IfSome result (λ count. TakesPart self.old self.new chunk.old chunk.new count part.new) }
+        ensures none { IfNone result ((self.new ≡ self.old) × (chunk.new ≡ chunk.old)) }
     {
         let context = FrameContext {
             message: *message,
             ..self.context
         };
-        let (start, head) = whole_head(piece, &context)?;
+        let (start, head) = whole_head(chunk, &context)?;
         if head.first.op == Op::Close {
             return None;
         }
-        self.begin(message, start, &head, piece, part)
+        self.begin(message, start, &head, chunk, part)
     }
 
-    /// Does what [`next`](Scan::next) does where no frame begins, where the piece has fewer than 14 bytes, where a head
+    /// Does what [`next`](Scan::next) does where no frame begins, where the chunk has fewer than 14 bytes, where a head
     /// has eight length bytes or is a Close's, and where a byte is evidence for a refusal.
     #[inline(never)]
     #[tactic(none)]
-    pub(super) fn next_slow(&mut self, piece: &mut [u8], part: &mut Part) -> (usize, Taken)
-        requires { length piece.old ≤ room_of self.old }
-        ensures taken { AdvancesFrom self.old.stage self.old self.new piece.old piece.new result.0 result.1 part.new }
-        ensures found { TakesFound self.old self.new piece.old piece.new result.0 result.1 part.new }
-        ensures untouched { result.1 ≢ Taken.Part → result.1 ≢ Taken.Refused → piece.new ≡ piece.old }
-        ensures refused { result.1 ≡ Taken.Refused → Unmasks self.old.stage self.old piece.old piece.new result.0 }
-        ensures again { IfSome (refusal_in self.old) (λ _. (self.new ≡ self.old) × (piece.new ≡ piece.old)
+    pub(super) fn next_slow(&mut self, chunk: &mut [u8], part: &mut Part) -> (usize, Taken)
+        requires { length chunk.old ≤ room_of self.old }
+        ensures taken { AdvancesFrom self.old.stage self.old self.new chunk.old chunk.new result.0 result.1 part.new }
+        ensures found { TakesFound self.old self.new chunk.old chunk.new result.0 result.1 part.new }
+        ensures untouched { result.1 ≢ Taken.Part → result.1 ≢ Taken.Refused → chunk.new ≡ chunk.old }
+        ensures refused { result.1 ≡ Taken.Refused → Unmasks self.old.stage self.old chunk.old chunk.new result.0 }
+        ensures again { IfSome (refusal_in self.old) (λ _. (self.new ≡ self.old) × (chunk.new ≡ chunk.old)
             × (result.0 ≡ 0) × (result.1 ≡ Taken.Refused)) }
     {
         match &mut self.stage {
-            Stage::Between if piece.is_empty() => (0, Taken::More),
-            Stage::Between => self.next_head(ArrayVec::new(), piece, part),
+            Stage::Between if chunk.is_empty() => (0, Taken::More),
+            Stage::Between => self.next_head(ArrayVec::new(), chunk, part),
             Stage::Head(begun) => {
                 let begun = mem::replace(begun, ArrayVec::new());
-                self.next_head(begun, piece, part)
+                self.next_head(begun, chunk, part)
             }
             Stage::Payload(inside) => {
                 let inside = *inside;
-                self.next_payload(inside, piece, part)
+                self.next_payload(inside, chunk, part)
             }
             Stage::Closed(_) => {
-                self.room -= piece.len() as u64;
-                (piece.len(), Taken::Closed)
+                self.room -= chunk.len() as u64;
+                (chunk.len(), Taken::Closed)
             }
             Stage::Refused(_) => (0, Taken::Refused),
         }
     }
 
-    /// Reads a head, of which `begun` came before, and takes what the piece has of its frame.
+    /// Reads a head, of which `begun` came before, and takes what the chunk has of its frame.
     #[tactic(none)]
     fn next_head(
         &mut self,
         mut begun: ArrayVec<u8, HEAD_MAX>,
-        piece: &mut [u8],
+        chunk: &mut [u8],
         part: &mut Part,
     ) -> (usize, Taken)
-        requires { length piece.old ≤ room_of self.old }
-        ensures taken { ContinuesHead self.old self.new begun.items piece.old piece.new result.0 result.1 part.new }
-        ensures found { TakesFound self.old self.new piece.old piece.new result.0 result.1 part.new }
-        ensures untouched { result.1 ≢ Taken.Part → piece.new ≡ piece.old }
+        requires { length chunk.old ≤ room_of self.old }
+        ensures taken { ContinuesHead self.old self.new begun.items chunk.old chunk.new result.0 result.1 part.new }
+        ensures found { TakesFound self.old self.new chunk.old chunk.new result.0 result.1 part.new }
+        ensures untouched { result.1 ≢ Taken.Part → chunk.new ≡ chunk.old }
     {
         let before = begun.len();
-        let came = piece.len().min(begun.remaining_capacity());
-        let _fits = begun.try_extend_from_slice(&piece[..came]);
+        let came = chunk.len().min(begun.remaining_capacity());
+        let _fits = begun.try_extend_from_slice(&chunk[..came]);
         match parse(&begun, &self.context) {
             Parsed::Incomplete => {
-                self.room -= piece.len() as u64;
+                self.room -= chunk.len() as u64;
                 self.stage = Stage::Head(begun);
-                (piece.len(), Taken::More)
+                (chunk.len(), Taken::More)
             }
             Parsed::Whole(size, head) => {
-                self.begin_slow(size.saturating_sub(before), &head, piece, part)
+                self.begin_slow(size.saturating_sub(before), &head, chunk, part)
             }
             Parsed::Refused(size, reason) => self.refuse(size.saturating_sub(before), reason),
         }
     }
 
-    /// Takes what the piece has of a frame whose head ends at `start`. If a byte of its payload is evidence for a refusal,
+    /// Takes what the chunk has of a frame whose head ends at `start`. If a byte of its payload is evidence for a refusal,
     /// it takes the head alone.
     #[tactic(none)]
     fn begin_slow(
         &mut self,
         start: usize,
         head: &Head,
-        piece: &mut [u8],
+        chunk: &mut [u8],
         part: &mut Part,
     ) -> (usize, Taken)
-        requires fits { length piece.old ≤ room_of self.old }
-        requires within { start ≤ length piece.old }
-        ensures taken { BeginsFrame self.old self.new start head.now piece.old piece.new result.0 result.1 part.new }
-        ensures found { TakesFound self.old self.new piece.old piece.new result.0 result.1 part.new }
-        ensures untouched { result.1 ≢ Taken.Part → piece.new ≡ piece.old }
+        requires fits { length chunk.old ≤ room_of self.old }
+        requires within { start ≤ length chunk.old }
+        ensures taken { BeginsFrame self.old self.new start head.now chunk.old chunk.new result.0 result.1 part.new }
+        ensures found { TakesFound self.old self.new chunk.old chunk.new result.0 result.1 part.new }
+        ensures untouched { result.1 ≢ Taken.Part → chunk.new ≡ chunk.old }
     {
         let message = self.context.message;
-        if let Some(taken) = self.begin(&message, start, head, piece, part) {
+        if let Some(taken) = self.begin(&message, start, head, chunk, part) {
             return (taken, Taken::Part);
         }
         if head.len == 0 {
@@ -191,7 +192,7 @@ impl Scan {
         (start, Taken::Part)
     }
 
-    /// Takes what the piece has of a frame whose head ends at `start`, unless a byte is evidence for a refusal. Then
+    /// Takes what the chunk has of a frame whose head ends at `start`, unless a byte is evidence for a refusal. Then
     /// nothing changes.
     #[inline(always)]
     #[tactic(none)]
@@ -200,30 +201,30 @@ impl Scan {
         message: &Option<OpenMessage>,
         start: usize,
         head: &Head,
-        piece: &mut [u8],
+        chunk: &mut [u8],
         part: &mut Part,
     ) -> Option<usize>
-        requires fits { length piece.old ≤ room_of self.old }
+        requires fits { length chunk.old ≤ room_of self.old }
         requires open { message.now ≡ self.old.context.message }
-        requires within { start ≤ length piece.old }
+        requires within { start ≤ length chunk.old }
         ensures taken { IfSome result (λ count.
-            BeginsAt self.old self.new start head.now piece.old piece.new count part.new) }
-        ensures part { IfSome result (λ count. TakesPart self.old self.new piece.old piece.new count part.new) }
+            BeginsAt self.old self.new start head.now chunk.old chunk.new count part.new) }
+        ensures part { IfSome result (λ count. TakesPart self.old self.new chunk.old chunk.new count part.new) }
         ensures start { IfSome result (λ _. part.new.start ≡ start) }
-        ensures none { IfNone result ((self.new ≡ self.old) × (piece.new ≡ piece.old)) }
+        ensures none { IfNone result ((self.new ≡ self.old) × (chunk.new ≡ chunk.old)) }
         ensures cut { IfNone result (head.now.len ≡ 0 → IsCutAt message.now head.now) }
     {
         let mut check = PayloadCheck::new(head.first, *message);
-        let count = head.len.min((piece.len() - start) as u64);
+        let count = head.len.min((chunk.len() - start) as u64);
         let end = start + count as usize;
-        unmask(head.key, 0, &mut piece[start..end]);
+        unmask(head.key, 0, &mut chunk[start..end]);
         if !takes(
             &mut check,
-            &piece[start..end],
+            &chunk[start..end],
             head.first.fin,
             count == head.len,
         ) {
-            unmask(head.key, 0, &mut piece[start..end]);
+            unmask(head.key, 0, &mut chunk[start..end]);
             return None;
         }
         self.add_part(message, head, &check, count, start, end, part);
@@ -231,25 +232,25 @@ impl Scan {
         Some(end)
     }
 
-    /// Takes what the piece has of the payload of a frame that began in an earlier one.
+    /// Takes what the chunk has of the payload of a frame that began in an earlier one.
     #[tactic(none)]
-    fn next_payload(&mut self, inside: Inside, piece: &mut [u8], part: &mut Part) -> (usize, Taken)
-        requires { length piece.old ≤ room_of self.old }
-        ensures taken { AdvancesFrom (Stage.Payload inside) self.old self.new piece.old piece.new result.0 result.1 part.new }
-        ensures found { TakesFound self.old self.new piece.old piece.new result.0 result.1 part.new }
-        ensures untouched { result.1 ≢ Taken.Part → result.1 ≢ Taken.Refused → piece.new ≡ piece.old }
+    fn next_payload(&mut self, inside: Inside, chunk: &mut [u8], part: &mut Part) -> (usize, Taken)
+        requires { length chunk.old ≤ room_of self.old }
+        ensures taken { AdvancesFrom (Stage.Payload inside) self.old self.new chunk.old chunk.new result.0 result.1 part.new }
+        ensures found { TakesFound self.old self.new chunk.old chunk.new result.0 result.1 part.new }
+        ensures untouched { result.1 ≢ Taken.Part → result.1 ≢ Taken.Refused → chunk.new ≡ chunk.old }
         ensures refused { result.1 ≡ Taken.Refused →
-            Unmasks (Stage.Payload inside) self.old piece.old piece.new result.0 }
+            Unmasks (Stage.Payload inside) self.old chunk.old chunk.new result.0 }
     {
         let Inside { head, check, done } = inside;
         let left = head.len.saturating_sub(done);
-        let count = left.min(piece.len() as u64) as usize;
+        let count = left.min(chunk.len() as u64) as usize;
         if count == 0 {
             self.stage = Stage::Payload(inside);
             return (0, Taken::More);
         }
-        unmask(head.key, done, &mut piece[..count]);
-        match check.feed(&piece[..count], head.first.fin, count as u64 == left) {
+        unmask(head.key, done, &mut chunk[..count]);
+        match check.feed(&chunk[..count], head.first.fin, count as u64 == left) {
             Ok(check) => {
                 let done = done + count as u64;
                 let message = self.context.message;
@@ -258,13 +259,13 @@ impl Scan {
             }
             Err(bad) => {
                 let taken = bad.at.saturating_add(1).min(count);
-                unmask(head.key, done + taken as u64, &mut piece[taken..count]);
+                unmask(head.key, done + taken as u64, &mut chunk[taken..count]);
                 self.refuse(taken, bad.reason)
             }
         }
     }
 
-    /// Takes the first `end` bytes of a piece as a part of a frame that doesn't begin it. The part's payload begins at
+    /// Takes the first `end` bytes of a chunk as a part of a frame that doesn't begin it. The part's payload begins at
     /// `start`; with it `done` bytes of the frame's payload came. If that is all, the frame ends. `message` is the open
     /// message.
     #[inline(always)]

@@ -6,7 +6,11 @@ use wsn_rules::{Summary, Verdict};
 
 impl Scan {
     ghost use Rattle.std.specs.Prelude.{◌≡◌, ℕ, ◌-◌, ◌++◌, List, Some};
-    ghost use Rattle.wsn_scan.specs.Words.{Frame, AreHeads, HasScanned, Position, refusal_in, taken_of, summary_of, verdict_between, refusal_judged, heads_of, begun_at, IsVerdict};
+    ghost use Rattle.wsn_wire.specs.Frame.{Frame};
+    ghost use Rattle.wsn_rules.specs.Heads.{AreHeads, heads_of};
+    ghost use Rattle.wsn_scan.specs.Scans.{HasScanned, refusal_in, taken_of, summary_of, verdict_between, refusal_judged};
+    ghost use Rattle.wsn_scan.specs.Positions.{Position, begun_at};
+    ghost use Rattle.wsn_rules.specs.Verdict.{IsVerdict};
 
     /// The verdict on the bytes consumed so far, as if the input ended here (RFC 6455 sections 5 and 7).
     #[tactic(auto, using(crate::proofs::HeadsSoFar::heads_reported))]

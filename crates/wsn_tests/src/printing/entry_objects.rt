@@ -2,12 +2,11 @@
 
 use crate::printing::reading::expect_object;
 use wsn_io::Output;
-use wsn_print::{EntryFront, HeldBytes, Origin, Remainder, ShownCharacter, ShownEvent, ViewLimit};
-use wsn_rules::{HeadInfo, Refusal};
-use wsn_shown_text::{
-    put_comment_object, put_end_object, put_event_object, put_refused_object, put_remainder_object,
-    put_shown_frame_object, put_unfinished_head_object, put_unfinished_object,
+use wsn_print::{
+    EntryFront, Format, HeldBytes, Origin, Remainder, ShownCharacter, ShownEvent, ViewLimit,
 };
+use wsn_rules::{HeadInfo, Refusal};
+use wsn_shown_text::{ShownItem, put_comment_as, put_end_as, put_entry};
 use wsn_wire::{Form, Op, Reason, Role};
 
 /// In line 1 of a capture, with a time.
@@ -53,44 +52,74 @@ fn whole(held: &[u8]) -> HeldBytes<'_> {
     }
 }
 
-/// Where an event is, its kind and bytes, the most bytes of it that are shown, and its object.
-type EventRow = (EntryFront<'static>, Op, &'static [u8], u16, &'static str);
-
-/// A text, one that is cut off, and a Close.
-static EVENTS: [EventRow; 3] = [
-    (
-        IN_LINE,
-        Op::Text,
-        b"a\"\\\n\xe2\x82\xac",
-        48,
-        r#"{"type":"event","line":1,"side":"client","time":0.001356,"offset":3,"event":"text","bytes":7,"frames":2,"text":"a\"\\\n€"}"#,
-    ),
-    (
-        IN_STREAM,
-        Op::Text,
-        b"Hello",
-        2,
-        r#"{"type":"event","side":"server","offset":7,"event":"text","bytes":5,"frames":2,"text":"He","truncated":true}"#,
-    ),
-    (
-        IN_LINE,
-        Op::Close,
-        b"\x03\xe8bye",
-        48,
-        r#"{"type":"event","line":1,"side":"client","time":0.001356,"offset":3,"event":"close","bytes":5,"frames":2,"code":1000,"reason":"bye"}"#,
-    ),
-];
+#[test]
+fn a_text(rt: HostRuntime) {
+    let view = ViewLimit::new(48).expect(&rt, "a view");
+    let mut line = Vec::new(rt.alloc());
+    let event = event_of(Op::Text, b"a\"\\\n\xe2\x82\xac");
+    let item = ShownItem::Event(event);
+    let put = put_entry(
+        &mut Output::new(&mut line),
+        Format::Json,
+        view,
+        &IN_LINE,
+        &item,
+    );
+    assert_eq!(rt; put, Ok(()));
+    let members = [
+        ("/type", "\"event\""),
+        ("/line", "1"),
+        ("/side", "\"client\""),
+        ("/time", "0.001356"),
+        ("/offset", "3"),
+        ("/event", "\"text\""),
+        ("/bytes", "7"),
+        ("/frames", "2"),
+        ("/text", "\"a\\\"\\\\\\n\u{20ac}\""),
+    ];
+    expect_object(&rt, rt.alloc(), line.as_slice(), 9, &members);
+}
 
 #[test]
-fn objects_of_events(rt: HostRuntime) {
-    for (front, op, held, bytes, expected) in EVENTS.iter() {
-        let view = ViewLimit::new(*bytes).expect(&rt, "a view");
-        let mut line = Vec::new(rt.alloc());
-        let event = event_of(*op, held);
-        let put = put_event_object(&mut Output::new(&mut line), view, front, &event);
-        assert_eq!(rt; put, Ok(()));
-        expect_object(&rt, rt.alloc(), line.as_slice(), expected);
-    }
+fn a_text_that_is_cut_off(rt: HostRuntime) {
+    let view = ViewLimit::new(2).expect(&rt, "a view");
+    let mut line = Vec::new(rt.alloc());
+    let event = event_of(Op::Text, b"Hello");
+    let item = ShownItem::Event(event);
+    let put = put_entry(
+        &mut Output::new(&mut line),
+        Format::Json,
+        view,
+        &IN_STREAM,
+        &item,
+    );
+    assert_eq!(rt; put, Ok(()));
+    let members = [("/text", "\"He\""), ("/truncated", "true")];
+    expect_object(&rt, rt.alloc(), line.as_slice(), 8, &members);
+    expect_none(&rt, rt.alloc(), line.as_slice(), "/line");
+    expect_none(&rt, rt.alloc(), line.as_slice(), "/time");
+}
+
+#[test]
+fn a_close(rt: HostRuntime) {
+    let view = ViewLimit::new(48).expect(&rt, "a view");
+    let mut line = Vec::new(rt.alloc());
+    let event = event_of(Op::Close, b"\x03\xe8bye");
+    let item = ShownItem::Event(event);
+    let put = put_entry(
+        &mut Output::new(&mut line),
+        Format::Json,
+        view,
+        &IN_LINE,
+        &item,
+    );
+    assert_eq!(rt; put, Ok(()));
+    let members = [
+        ("/event", "\"close\""),
+        ("/code", "1000"),
+        ("/reason", "\"bye\""),
+    ];
+    expect_object(&rt, rt.alloc(), line.as_slice(), 10, &members);
 }
 
 #[test]
@@ -98,8 +127,14 @@ fn an_unfinished_message(rt: HostRuntime) {
     let view = ViewLimit::new(4).expect(&rt, "a view");
     let mut line = Vec::new(rt.alloc());
     let event = event_of(Op::Binary, b"\x00\xff\x00");
-    let mut output = Output::new(&mut line);
-    let put = put_unfinished_object(&mut output, view, &AT_END, &event, Some(144));
+    let item = ShownItem::Unfinished(event, Some(144));
+    let put = put_entry(
+        &mut Output::new(&mut line),
+        Format::Json,
+        view,
+        &AT_END,
+        &item,
+    );
     assert_eq!(rt; put, Ok(()));
     let expected = r#"{"type":"unfinished","side":"server","time":0.001356,"offset":17,"event":"binary","bytes":3,"frames":2,"lacks":144,"hex":"00ff","truncated":true}"#;
     expect_object(&rt, rt.alloc(), line.as_slice(), expected);
@@ -107,8 +142,16 @@ fn an_unfinished_message(rt: HostRuntime) {
 
 #[test]
 fn an_unfinished_head(rt: HostRuntime) {
+    let view = ViewLimit::new(48).expect(&rt, "a view");
     let mut line = Vec::new(rt.alloc());
-    let put = put_unfinished_head_object(&mut Output::new(&mut line), &AT_END);
+    let item = ShownItem::UnfinishedHead;
+    let put = put_entry(
+        &mut Output::new(&mut line),
+        Format::Json,
+        view,
+        &AT_END,
+        &item,
+    );
     assert_eq!(rt; put, Ok(()));
     let expected = r#"{"type":"unfinished","side":"server","time":0.001356,"offset":17,"event":"head","bytes":0,"frames":0,"lacks":null,"hex":""}"#;
     expect_object(&rt, rt.alloc(), line.as_slice(), expected);
@@ -123,8 +166,14 @@ fn a_refusal(rt: HostRuntime) {
         place: 4,
         reason: Reason::MaskPresent,
     };
-    let evidence = whole(b"\x81\x80\xff");
-    let put = put_refused_object(&mut output, view, &IN_LINE, &refusal, &evidence, &None);
+    let item = ShownItem::Refused(refusal, whole(b"\x81\x80\xff"), None);
+    let put = put_entry(
+        &mut Output::new(&mut line),
+        Format::Json,
+        view,
+        &IN_LINE,
+        &item,
+    );
     assert_eq!(rt; put, Ok(()));
     let expected = r#"{"type":"refused","line":1,"side":"client","time":0.001356,"offset":3,"place":4,"reason":"mask-present","code":1002,"hex":"80ff","truncated":true}"#;
     expect_object(&rt, rt.alloc(), line.as_slice(), expected);
@@ -159,22 +208,53 @@ fn a_refusal_for_a_bad_character(rt: HostRuntime) {
         in_payload: 12,
         bytes: b"\xe9 ",
         earlier: b"",
-    });
-    for (bytes, expected) in BAD_CHARACTERS.iter() {
-        let view = ViewLimit::new(*bytes).expect(&rt, "a view");
-        let mut line = Vec::new(rt.alloc());
-        let mut output = Output::new(&mut line);
-        let put = put_refused_object(
-            &mut output,
-            view,
-            &IN_STREAM,
-            &refusal,
-            &evidence,
-            &character,
-        );
-        assert_eq!(rt; put, Ok(()));
-        expect_object(&rt, rt.alloc(), line.as_slice(), expected);
-    }
+    };
+    let evidence = whole(b"{\"name\":\"Ren\xe9 ");
+    let item = ShownItem::Refused(refusal, evidence, Some(character));
+    let put = put_entry(
+        &mut Output::new(&mut line),
+        Format::Json,
+        view,
+        &IN_STREAM,
+        &item,
+    );
+    assert_eq!(rt; put, Ok(()));
+    expect_object(rt, alloc, line.as_slice(), count, members);
+}
+
+#[test]
+fn a_refusal_for_a_bad_character(rt: HostRuntime) {
+    let members = [
+        ("/place", "19"),
+        ("/reason", "\"text-bad\""),
+        ("/hex", "\"7b226e616d65223a2252656ee920\""),
+        ("/character/offset", "18"),
+        ("/character/in_payload", "12"),
+        ("/character/hex", "\"e920\""),
+        ("/character/before", "\"{\\\"name\\\":\\\"Ren\""),
+    ];
+    expect_bad_character(&rt, rt.alloc(), 48, 8, &members);
+}
+
+#[test]
+fn a_refusal_of_whose_text_a_part_is_shown(rt: HostRuntime) {
+    let members = [
+        ("/hex", "\"52656ee920\""),
+        ("/truncated", "true"),
+        ("/character/hex", "\"e920\""),
+        ("/character/before", "\"Ren\""),
+        ("/character/truncated", "true"),
+    ];
+    expect_bad_character(&rt, rt.alloc(), 10, 9, &members);
+    let members = [
+        ("/hex", "\"\""),
+        ("/character/offset", "18"),
+        ("/character/in_payload", "12"),
+        ("/character/hex", "\"\""),
+        ("/character/before", "\"\""),
+        ("/character/truncated", "true"),
+    ];
+    expect_bad_character(&rt, rt.alloc(), 0, 9, &members);
 }
 
 #[test]
@@ -191,8 +271,14 @@ fn bytes_in_no_frame(rt: HostRuntime) {
         ),
     ] {
         let mut line = Vec::new(rt.alloc());
-        let bytes = whole(b"\xdf\x65");
-        let put = put_remainder_object(&mut Output::new(&mut line), view, &AT_END, which, &bytes);
+        let item = ShownItem::Remainder(which, whole(b"\xdf\x65"));
+        let put = put_entry(
+            &mut Output::new(&mut line),
+            Format::Json,
+            view,
+            &AT_END,
+            &item,
+        );
         assert_eq!(rt; put, Ok(()));
         expect_object(&rt, rt.alloc(), line.as_slice(), expected);
     }
@@ -201,7 +287,7 @@ fn bytes_in_no_frame(rt: HostRuntime) {
 #[test]
 fn an_end_mark(rt: HostRuntime) {
     let mut line = Vec::new(rt.alloc());
-    let put = put_end_object(&mut Output::new(&mut line), &IN_LINE);
+    let put = put_end_as(&mut Output::new(&mut line), Format::Json, &IN_LINE);
     assert_eq!(rt; put, Ok(()));
     let expected = r#"{"type":"end","line":1,"side":"client","time":0.001356,"offset":3}"#;
     expect_object(&rt, rt.alloc(), line.as_slice(), expected);
@@ -222,7 +308,7 @@ static COMMENTS: [(&[u8], &str); 4] = [
 fn objects_of_comments(rt: HostRuntime) {
     for (text, expected) in COMMENTS.iter() {
         let mut line = Vec::new(rt.alloc());
-        let put = put_comment_object(&mut Output::new(&mut line), 2, text);
+        let put = put_comment_as(&mut Output::new(&mut line), Format::Json, 2, text);
         assert_eq!(rt; put, Ok(()));
         expect_object(&rt, rt.alloc(), line.as_slice(), expected);
     }
@@ -238,9 +324,16 @@ fn a_frame(rt: HostRuntime) {
         form: Form::Shortest,
         len: 0,
     };
+    let view = ViewLimit::new(48).expect(&rt, "a view");
     let mut line = Vec::new(rt.alloc());
-    let mut output = Output::new(&mut line);
-    let put = put_shown_frame_object(&mut output, Role::Client, &IN_LINE.origin, &head);
+    let item = ShownItem::Frame(head);
+    let put = put_entry(
+        &mut Output::new(&mut line),
+        Format::Json,
+        view,
+        &IN_LINE,
+        &item,
+    );
     assert_eq!(rt; put, Ok(()));
     let expected = r#"{"type":"frame","line":1,"side":"client","time":0.001356,"offset":3,"fin":true,"opcode":"pong","key":null,"length":0,"form":"shortest"}"#;
     expect_object(&rt, rt.alloc(), line.as_slice(), expected);

@@ -5,10 +5,8 @@ use std::alloc::{AllocError, Global};
 use std::process::Abort;
 use std::str;
 use wsn_io::Output;
-use wsn_print::{EntryFront, Origin, ShownEvent, ViewLimit, put_comment};
-use wsn_shown_text::{
-    put_comment_object, put_event, put_event_object, put_unfinished, put_unfinished_object,
-};
+use wsn_print::{EntryFront, Format, Origin, ShownEvent, ViewLimit, put_comment};
+use wsn_shown_text::{ShownItem, put_comment_as, put_entry};
 use wsn_wire::{Op, Role};
 
 /// A hundred and two characters: those that are escaped, and others whose bytes are like theirs.
@@ -106,8 +104,15 @@ fn expect_comment(rt: &impl Abort, alloc: Global, text: &str) {
     comment
         .extend_from_slice(text.as_bytes())
         .expect(rt, "memory");
-    let put = put_comment_object(&mut Output::new(&mut object), 7, comment.as_slice());
-    assert_eq!(rt; put, Ok(()));
+    assert_eq!(rt;
+        put_comment_as(
+            &mut Output::new(&mut object),
+            Format::Json,
+            7,
+            comment.as_slice()
+        ),
+        Ok(())
+    );
     let front = b"{\"type\":\"comment\",\"line\":7,\"text\":\"";
     let expected = written(alloc, front, text, true, b"\"}\n").expect(rt, "memory");
     assert_eq!(rt; object.as_slice(), expected.as_slice(), "{text}");
@@ -151,19 +156,58 @@ fn expect_view(rt: &impl Abort, alloc: Global, text: &str, most: u16) {
     let view = ViewLimit::new(most).expect(rt, "a view of at most 4096 bytes");
     let bytes = text.as_bytes();
     let shown = whole(bytes.get(..usize::from(most)).unwrap_or(bytes));
-    let event = event_of(bytes);
-    let (line_end, object_end) = ends(shown.len() < bytes.len());
+    let event = ShownEvent {
+        op: Op::Text,
+        bytes: bytes.len() as u64,
+        frames: 1,
+        held: bytes,
+    };
+    let is_cut = shown.len() < bytes.len();
+    let front = EntryFront {
+        role: Role::Server,
+        origin: Origin::Stream,
+        offset: 0,
+    };
+    let item = ShownItem::Event(event);
     let mut line = Vec::new(alloc);
-    let put = put_event(&mut Output::new(&mut line), view, &FRONT.of_line(), &event);
-    assert_eq!(rt; put, Ok(()));
-    if most > 0 || bytes.is_empty() {
-        expect_quoted(rt, alloc, line.as_slice(), shown, (b" 1 \"", line_end));
-    }
+    assert_eq!(rt;
+        put_entry(
+            &mut Output::new(&mut line),
+            Format::Text,
+            view,
+            &front,
+            &item
+        ),
+        Ok(())
+    );
+    let end: &[u8] = if is_cut { b"\" ..\n" } else { b"\"\n" };
+    let expected = written(alloc, b" 1 \"", shown, true, end).expect(rt, "memory");
+    let is_dash = most == 0 && !bytes.is_empty();
+    assert!(rt;
+        is_dash || line.as_slice().ends_with(expected.as_slice()),
+        "{text} {most}"
+    );
     let mut object = Vec::new(alloc);
-    let put = put_event_object(&mut Output::new(&mut object), view, &FRONT, &event);
-    assert_eq!(rt; put, Ok(()));
-    let around = (b",\"text\":\"".as_slice(), object_end);
-    expect_quoted(rt, alloc, object.as_slice(), shown, around);
+    assert_eq!(rt;
+        put_entry(
+            &mut Output::new(&mut object),
+            Format::Json,
+            view,
+            &front,
+            &item
+        ),
+        Ok(())
+    );
+    let end: &[u8] = if is_cut {
+        b"\",\"truncated\":true}\n"
+    } else {
+        b"\"}\n"
+    };
+    let expected = written(alloc, b",\"text\":\"", shown, true, end).expect(rt, "memory");
+    assert!(rt;
+        object.as_slice().ends_with(expected.as_slice()),
+        "{text} {most}"
+    );
 }
 
 /// Fails unless the first bytes of a message's text are written as they should be while no more have come, in words and
@@ -172,20 +216,59 @@ fn expect_unfinished(rt: &impl Abort, alloc: Global, text: &str, count: usize) {
     let view = ViewLimit::new(4_096).expect(rt, "a view of at most 4096 bytes");
     let bytes = text.as_bytes().get(..count).expect(rt, "enough bytes");
     let shown = whole(bytes);
-    let event = event_of(bytes);
-    let (line_end, object_end) = ends(shown.len() < bytes.len());
+    let event = ShownEvent {
+        op: Op::Text,
+        bytes: bytes.len() as u64,
+        frames: 1,
+        held: bytes,
+    };
+    let is_cut = shown.len() < bytes.len();
+    let front = EntryFront {
+        role: Role::Server,
+        origin: Origin::Stream,
+        offset: 0,
+    };
+    let item = ShownItem::Unfinished(event, Some(7));
     let mut line = Vec::new(alloc);
-    let mut output = Output::new(&mut line);
-    let put = put_unfinished(&mut output, view, &FRONT.of_line(), &event, Some(7));
-    assert_eq!(rt; put, Ok(()));
-    let around = (b" lacks 7 \"".as_slice(), line_end);
-    expect_quoted(rt, alloc, line.as_slice(), shown, around);
+    assert_eq!(rt;
+        put_entry(
+            &mut Output::new(&mut line),
+            Format::Text,
+            view,
+            &front,
+            &item
+        ),
+        Ok(())
+    );
+    let end: &[u8] = if is_cut { b"\" ..\n" } else { b"\"\n" };
+    let expected = written(alloc, b" lacks 7 \"", shown, true, end).expect(rt, "memory");
+    assert!(rt;
+        line.as_slice().ends_with(expected.as_slice()),
+        "{text} {count}"
+    );
     let mut object = Vec::new(alloc);
-    let mut output = Output::new(&mut object);
-    let put = put_unfinished_object(&mut output, view, &FRONT, &event, Some(7));
-    assert_eq!(rt; put, Ok(()));
-    let around = (b",\"lacks\":7,\"text\":\"".as_slice(), object_end);
-    expect_quoted(rt, alloc, object.as_slice(), shown, around);
+    assert_eq!(rt;
+        put_entry(
+            &mut Output::new(&mut object),
+            Format::Json,
+            view,
+            &front,
+            &item
+        ),
+        Ok(())
+    );
+    let end: &[u8] = if is_cut {
+        b"\",\"truncated\":true}\n"
+    } else {
+        b"\"}\n"
+    };
+    let expected = written(alloc, b",\"lacks\":7,\"text\":\"", shown, true, end).expect(
+        rt, "memory",
+    );
+    assert!(rt;
+        object.as_slice().ends_with(expected.as_slice()),
+        "{text} {count}"
+    );
 }
 
 /// A text of `before` letters, a character, and 40 letters less.

@@ -1,7 +1,8 @@
 use Rattle.std.proofs.Common.{rules, ◌≡◌, ℕ, List, inl, inr, subst}
 use Rattle.wsn_print.specs.FaultText.{line_fault_line}
 use Rattle.wsn_capture.specs.LineFaults.{fault_word}
-use Rattle.wsn_c.specs.Calls.{Call, Gives, call}
+use Rattle.wsn_job.specs.Calls.{Call, Gives}
+use Rattle.wsn_c.specs.Calls.{call}
 use Rattle.wsn_c.proofs.MemoryRuns.{before_sentinel}
 use Rattle.wsn_c.proofs.sides.give_sent.Goals as goal
 

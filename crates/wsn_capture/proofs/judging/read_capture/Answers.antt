@@ -76,8 +76,8 @@ read-requires g c = search rules
 pub finish-requires : goal.finish-requires
 finish-requires g c = search rules
 
-pub slice_bounds-piece-end : goal.slice_bounds-piece-end
-slice_bounds-piece-end g c = search rules
+pub slice_bounds-chunk-end : goal.slice_bounds-chunk-end
+slice_bounds-chunk-end g c = search rules
 
 pub slice_bounds-take-end : goal.slice_bounds-take-end
 slice_bounds-take-end g c = search rules

@@ -1,4 +1,4 @@
-use Rattle.wsn_events.specs.EventReaders.{readings_left}
+use Rattle.wsn_events.specs.EventReaders.{events_ahead}
 use Rattle.wsn_events.proofs.Normalising.{HasWritten}
 use Rattle.wsn_events.proofs.normal.normalise.Given as goal
 
@@ -7,4 +7,4 @@ abbrev pub invariant-loop-source : goal.invariant-loop-source
 invariant-loop-source g l = HasWritten l.fn.role l.fn.limits l.fn.input l.input l.fn.output l.output l.source
 
 abbrev pub decreases-loop-source : goal.decreases-loop-source
-decreases-loop-source g l = readings_left l.source
+decreases-loop-source g l = events_ahead l.source

@@ -2,7 +2,7 @@ use Rattle.std.proofs.Common.{◌≡◌, ℕ, true, false, Ok, List, take, refl,
 use Rattle.std.specs.Io.KnownBytes.{Appends}
 use Rattle.wsn_events.proofs.TakenEvents.{puts_none}
 use Rattle.wsn_events.specs.declared.event_reader.EventReader.{EventReader}
-use Rattle.wsn_events.specs.TakenEvents.{PutsTaken}
+use Rattle.wsn_events.specs.LentMessages.{PutsTaken}
 use Rattle.wsn_events.proofs.normal.put_taken.Goals as goal
 
 pub take_events-requires : goal.take_events-requires

@@ -4,10 +4,10 @@ use Rattle.std.proofs.lemmas.Str.{utf8_valid_len_le}
 use Rattle.std.specs.Str.Lossy.{utf8_valid_len}
 use Rattle.wsn_text.specs.Utf8.{BeginsText}
 use Rattle.wsn_print.specs.DifferingPayloads.{is_text}
-use Rattle.wsn_print.specs.ShownParts.{payload_in}
 use Rattle.wsn_events.specs.PayloadExcerpts.{meant_payload}
 use Rattle.wsn_events.proofs.PayloadParts.{few_left, text_is_begun, start_in_text, start_in_bytes}
 use Rattle.wsn_events.proofs.payload_difference.view_start.Goals as goal
+use Rattle.wsn_rules.specs.Meaning.{payload_in}
 
 pub returns-then-is_text : goal.returns-then-is_text
 returns-then-is_text c = record {

@@ -4,8 +4,7 @@ use Rattle.wsn_wire.specs.Frame.{first_byte}
 use Rattle.wsn_wire.specs.Refusal.{IsFirstEvident}
 use Rattle.wsn_wire.specs.EvidenceInHeads.{EvidentInSecond}
 use Rattle.wsn_rules.specs.Evidence.{EvidentByFirst}
-use Rattle.wsn_frame.specs.EvidentLast.{IsEvidentLast}
-use Rattle.wsn_frame.specs.PartialHeads.{IsHeadSoFar, HasTwoBytes, IsParsed, IsWithin}
+use Rattle.wsn_frame.specs.PartialHeads.{IsEvidentLast, IsHeadSoFar, HasTwoBytes, IsParsed, IsWithin}
 use Rattle.wsn_frame.proofs.HeadsAtOnce.{no_items, one_so_far, first_refused, second_refused}
 use Rattle.wsn_frame.proofs.parsing.parse_after.Goals as goal
 

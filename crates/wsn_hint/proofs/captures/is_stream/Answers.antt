@@ -3,7 +3,7 @@ use Rattle.wsn_wire.specs.declared.endpoint.Role.{Role}
 use Rattle.wsn_wire.specs.declared.endpoint.Role.TheVariants.{Client, Server}
 use Rattle.wsn_rules.specs.Limits.{Limits}
 use Rattle.wsn_scan.specs.Judging.{IsUnrefused}
-use Rattle.wsn_hint.specs.Hints.{greatest_limits}
+use Rattle.wsn_rules.specs.Examples.{greatest}
 use Rattle.wsn_hint.proofs.captures.is_stream.Goals as goal
 
 -- What an endpoint may send and the client may not, the server may.
@@ -14,14 +14,14 @@ servers limits bytes client server by_client by_server not_client Server unrefus
 pub returns-then-is_lawful_start : goal.returns-then-is_lawful_start
 returns-then-is_lawful_start c =
     let bytes = take 2 c.args.first.now in
-    let value : c.in-Some.limits ≡ greatest_limits = c.in-Some.ensures.value in
+    let value : c.in-Some.limits ≡ greatest = c.in-Some.ensures.value in
     (λ is. (omega arith, (Client, subst (λ (limits : Limits). IsUnrefused Client limits bytes) value (c.is_lawful_start.ensures.unrefused is))), λ stream. c.if-is_lawful_start.true)
 
 pub returns-else-is_lawful_start : goal.returns-else-is_lawful_start
 returns-else-is_lawful_start c =
     let bytes = take 2 c.args.first.now in
     let limits = c.in-Some.limits in
-    let value : limits ≡ greatest_limits = c.in-Some.ensures.value in
+    let value : limits ≡ greatest = c.in-Some.ensures.value in
     let input : limits.input ≡ 1099511627776 = ap (λ (l : Limits). l.input) value in
     let some : 2 ≤ limits.input = omega (arith, input) in
     let client = c.is_lawful_start in

@@ -1,13 +1,13 @@
 use Rattle.std.proofs.Common.{Option, None, Some, [], ◌∷◌, refl}
 use Rattle.wsn_hint.specs.declared.hint.Hint.{Hint}
 use Rattle.wsn_hint.specs.declared.hint.Hint.TheVariants.{HttpHead, HexDump, OffsetDump, Hexadecimal}
-use Rattle.wsn_hint.specs.Hints.{Fits}
+use Rattle.wsn_hint.specs.Hints.{HintFits}
 use Rattle.wsn_hint.proofs.FirstFits.{first_at, first_past}
 use Rattle.wsn_hint.proofs.formats.written_format_of.Goals as goal
 
 pub returns-then-is_hexadecimal : goal.returns-then-is_hexadecimal
 returns-then-is_hexadecimal c = λ limits.
-    let fits = Fits limits c.args.first.now in
+    let fits = HintFits limits c.args.first.now in
     let result : Option Hint = Some Hexadecimal in
     first_past fits HttpHead (HexDump ∷ OffsetDump ∷ Hexadecimal ∷ []) result c.is_http_head.result c.is_http_head.ensures c.if-is_http_head.false
     (first_past fits HexDump (OffsetDump ∷ Hexadecimal ∷ []) result c.is_hex_dump.result c.is_hex_dump.ensures c.if-is_hex_dump.false
@@ -16,7 +16,7 @@ returns-then-is_hexadecimal c = λ limits.
 
 pub returns-else-is_hexadecimal : goal.returns-else-is_hexadecimal
 returns-else-is_hexadecimal c = λ limits.
-    let fits = Fits limits c.args.first.now in
+    let fits = HintFits limits c.args.first.now in
     let result : Option Hint = None in
     first_past fits HttpHead (HexDump ∷ OffsetDump ∷ Hexadecimal ∷ []) result c.is_http_head.result c.is_http_head.ensures c.if-is_http_head.false
     (first_past fits HexDump (OffsetDump ∷ Hexadecimal ∷ []) result c.is_hex_dump.result c.is_hex_dump.ensures c.if-is_hex_dump.false

@@ -14,5 +14,5 @@ loop-left-preserved g c =
       loop.0 ++ came,
       Consumes-trans c.args.input.now.remaining c.loop-left.input.remaining c.read.new.self.remaining loop.0 came loop.1 read.bytes,
       all_append IsTextByte loop.0 came loop.2 (c.if-not-is_text.ensures.0 refl),
-      omega (arith, loop.3, size, few, read.within, length-append loop.0 came, c.read.auto.into, length-take c.min.result c.loop-left.chunk),
+      omega (arith, loop.3, size, few, read.within, length-append loop.0 came, c.read.auto.into, length-take c.min.result c.loop-left.buffer),
     )

@@ -11,5 +11,5 @@ loop-left-preserved g c =
     let size : length came ≡ c.in-Some.read = length-take-le c.in-Some.read c.read.new.into read.within in (
       loop.0 ++ came,
       Consumes-trans c.args.input.now.remaining c.loop-left.input.remaining c.read.new.self.remaining loop.0 came loop.1 read.bytes,
-      omega (arith, loop.2, size, few, read.within, length-append loop.0 came, c.read.auto.into, length-take c.min.result c.loop-left.chunk),
+      omega (arith, loop.2, size, few, read.within, length-append loop.0 came, c.read.auto.into, length-take c.min.result c.loop-left.buffer),
     )

@@ -4,7 +4,7 @@ use Rattle.wsn_rules.specs.declared.verdict.Refusal.{Refusal}
 use Rattle.wsn_rules.specs.declared.verdict.Verdict.TheVariants.{Refused}
 use Rattle.wsn_hint.specs.declared.hint.Hint.{Hint}
 use Rattle.wsn_hint.specs.declared.hint.Hint.TheVariants.{Capture}
-use Rattle.wsn_hint.specs.Hints.{Fits, FitsRefused, HasVerdict, IsFirstFit, format_hints, frame_hints}
+use Rattle.wsn_hint.specs.Hints.{HintFits, FitsRefused, HasVerdict, IsFirstFit, format_hints, frame_hints}
 use Rattle.wsn_hint.proofs.EarlyVerdicts.{one_refusal, refused_early}
 use Rattle.wsn_hint.proofs.FirstFits.{fits_of_first, first_of_more, first_after, first_past}
 use Rattle.wsn_hint.proofs.streams.hint_of.Goals as goal
@@ -23,7 +23,7 @@ returns-in-Some-format_of c = record {
   refused = λ given.
       let own = subst (λ (o : Option Refusal). IfSome o (λ refusal. HasVerdict c.args.role c.args.limits (take 2 c.args.first.now) (Refused refusal))) c.in-Some.is c.early_refusal.ensures.refused in
       inr (λ later. refused_early c.args.role c.args.limits c.args.first.now later c.in-Some.refusal own);
-  fits = let fits = Fits c.args.limits c.args.first.now in
+  fits = let fits = HintFits c.args.limits c.args.first.now in
       fits_of_first fits format_hints (Some c.in-Some-format_of.hint)
       (subst (λ (o : Option Hint). IsFirstFit fits format_hints o) c.in-Some-format_of.is (c.format_of.ensures c.args.limits));
   first = λ some refusal has.
@@ -32,7 +32,7 @@ returns-in-Some-format_of c = record {
       let result : Option Hint = Some c.in-Some-format_of.hint in
       first_past fits Capture (format_hints ++ frame_hints) result c.is_capture_text.result c.is_capture_text.ensures c.if-is_capture_text.false
       (first_of_more fits format_hints frame_hints c.in-Some-format_of.hint
-      (subst (λ (o : Option Hint). IsFirstFit (Fits limits c.args.first.now) format_hints o) c.in-Some-format_of.is (c.format_of.ensures limits)));
+      (subst (λ (o : Option Hint). IsFirstFit (HintFits limits c.args.first.now) format_hints o) c.in-Some-format_of.is (c.format_of.ensures limits)));
   empty = search rules;
 }
 
@@ -52,5 +52,5 @@ returns-in-None-clause-first c = λ some refusal has.
     let fits = FitsRefused role limits refusal.reason first in
     first_past fits Capture (format_hints ++ frame_hints) result c.is_capture_text.result c.is_capture_text.ensures c.if-is_capture_text.false
     (first_after fits format_hints frame_hints result
-    (subst (λ (o : Option Hint). IsFirstFit (Fits limits first) format_hints o) c.in-None.is (c.format_of.ensures limits))
+    (subst (λ (o : Option Hint). IsFirstFit (HintFits limits first) format_hints o) c.in-None.is (c.format_of.ensures limits))
     (subst (λ (r : Refusal). IsFirstFit (FitsRefused role limits r.reason first) frame_hints result) same (c.frame_hint.ensures.first some)))

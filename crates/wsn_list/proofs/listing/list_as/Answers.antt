@@ -64,7 +64,7 @@ loop-len-preserved g c =
           c.loop-len.scan c.list_chunk-refusal.new.scan read.0 read.1 read.2 read.3 c.loop-len.invariant.unfailed (take c.in-Some.len c.next.new.buffer) got.come (short_chunk got (c.next.auto.buffer ∙ c.loop-len.invariant.size))
           c.in_default-refusal.ensures.listed (sym c.failed.ensures ∙ c.if-failed.false);
       unfailed = sym c.failed.ensures ∙ c.if-failed.false;
-      size = same_size c.in-Some.len c.next.new.buffer c.list_chunk-refusal.new.piece got.in_buffer c.list_chunk-refusal.auto.piece ∙ c.next.auto.buffer ∙ c.loop-len.invariant.size;
+      size = same_size c.in-Some.len c.next.new.buffer c.list_chunk-refusal.new.chunk got.in_buffer c.list_chunk-refusal.auto.chunk ∙ c.next.auto.buffer ∙ c.loop-len.invariant.size;
       none_held = c.list_chunk-refusal.ensures.none_held;
     }
 

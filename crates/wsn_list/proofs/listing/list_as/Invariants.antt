@@ -2,7 +2,7 @@ use Rattle.std.proofs.Common.{◌≡◌, ℕ, false, List, [], length}
 use Rattle.std.specs.Io.KnownBytes.{Appends}
 use Rattle.wsn_rules.specs.declared.head_info.HeadInfo.{HeadInfo}
 use Rattle.wsn_print.specs.Formats.{heads_text}
-use Rattle.wsn_scan.specs.ChunkReaders.{reads_left}
+use Rattle.wsn_scan.specs.ChunkReaders.{chunks_ahead}
 use Rattle.wsn_scan.specs.Judging.{chunk_size}
 use Rattle.wsn_scan.proofs.JudgedInputs.{HasRead}
 use Rattle.wsn_list.proofs.listing.list_as.Given as goal
@@ -18,4 +18,4 @@ invariant-loop-len g l = record {
 }
 
 abbrev pub decreases-loop-len : goal.decreases-loop-len
-decreases-loop-len g l = reads_left l.chunks
+decreases-loop-len g l = chunks_ahead l.chunks

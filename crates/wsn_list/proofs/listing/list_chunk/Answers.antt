@@ -4,7 +4,7 @@ use Rattle.wsn_scan.specs.declared.scan.Scan.{Scan}
 use Rattle.wsn_scan.specs.Scans.{refusal_in}
 use Rattle.wsn_rules.specs.declared.head_info.HeadInfo.{HeadInfo}
 use Rattle.wsn_list.specs.Listing.{IsListedChunk, ListsMore}
-use Rattle.wsn_scan.proofs.FedPieces.{bytes_below, takes_none}
+use Rattle.wsn_scan.proofs.FedChunks.{bytes_below, takes_none}
 use Rattle.wsn_scan.proofs.FoundHeads.{none_refused}
 use Rattle.wsn_list.proofs.ListedParts.{IsListedTo, none_begun, lists_none, falls, listed_on, listed_run, listed_chunk}
 use Rattle.wsn_list.proofs.Printing.{prints_none}
@@ -13,12 +13,12 @@ use Rattle.wsn_list.proofs.listing.list_chunk.Goals.{else-loop-at-test, then-loo
 
 pub loop-at-init : goal.loop-at-init
 loop-at-init g c = record {
-  in_bytes = bytes_below c.args.piece.now (λ i. let below = c.type_inv.piece i in omega (arith, below));
+  in_bytes = bytes_below c.args.chunk.now (λ i. let below = c.type_inv.chunk i in omega (arith, below));
   within = omega arith;
   size = refl;
   kept = refl;
   room = omega arith;
-  run = ([], takes_none c.args.scan.now c.args.piece.now, ([], c.requires.none_held, prints_none c.args.output.now));
+  run = ([], takes_none c.args.scan.now c.args.chunk.now, ([], c.requires.none_held, prints_none c.args.output.now));
 }
 
 pub loop-at-smaller : goal.loop-at-smaller
@@ -27,9 +27,9 @@ loop-at-smaller g c =
     let known = c.loop-at.invariant in
     let call = c.next-taken in
     let e = call.ensures in
-    let so_far : IsListedTo c.args.format c.args.scan.now c.loop-at.scan c.args.output.now c.loop-at.output c.args.piece.now c.loop-at.piece c.loop-at.lines at =
+    let so_far : IsListedTo c.args.format c.args.scan.now c.loop-at.scan c.args.output.now c.loop-at.output c.args.chunk.now c.loop-at.chunk c.loop-at.lines at =
     record { fed = record { in_bytes = known.in_bytes; within = known.within; size = known.size; kept = known.kept; room = known.room; consumes = (known.run.0, known.run.1) }; held = known.run.2 } in
-    let one = falls c.args.format c.args.scan.now c.loop-at.scan call.new.self c.args.output.now c.loop-at.output c.args.piece.now c.loop-at.piece call.new.piece c.loop-at.lines at call.result.0 call.result.1 call.new.part so_far e.taken e.within call.auto.piece e.kept e.room c.requires.begun c.in_default.not-Refused c.loop-at-test.true in
+    let one = falls c.args.format c.args.scan.now c.loop-at.scan call.new.self c.args.output.now c.loop-at.output c.args.chunk.now c.loop-at.chunk call.new.chunk c.loop-at.lines at call.result.0 call.result.1 call.new.part so_far e.taken e.within call.auto.chunk e.kept e.room c.requires.begun c.in_default.not-Refused c.loop-at-test.true in
     omega (arith, one)
 
 pub loop-at-preserved : goal.loop-at-preserved
@@ -38,12 +38,12 @@ loop-at-preserved g c =
     let known = c.loop-at.invariant in
     let call = c.next-taken in
     let e = call.ensures in
-    let so_far : IsListedTo c.args.format c.args.scan.now c.loop-at.scan c.args.output.now c.loop-at.output c.args.piece.now c.loop-at.piece c.loop-at.lines at =
+    let so_far : IsListedTo c.args.format c.args.scan.now c.loop-at.scan c.args.output.now c.loop-at.output c.args.chunk.now c.loop-at.chunk c.loop-at.lines at =
     record { fed = record { in_bytes = known.in_bytes; within = known.within; size = known.size; kept = known.kept; room = known.room; consumes = (known.run.0, known.run.1) }; held = known.run.2 } in
-    let on = listed_on c.args.format c.args.scan.now c.loop-at.scan call.new.self c.args.output.now c.loop-at.output c.args.piece.now c.loop-at.piece call.new.piece c.loop-at.lines at call.result.0 call.result.1 call.new.part so_far e.taken e.within call.auto.piece e.kept e.room c.list_head.new.output c.list_head.new.lines c.list_head.ensures in
-    let there = put_mid at (length c.loop-at.piece - at) c.loop-at.piece call.new.piece in
+    let on = listed_on c.args.format c.args.scan.now c.loop-at.scan call.new.self c.args.output.now c.loop-at.output c.args.chunk.now c.loop-at.chunk call.new.chunk c.loop-at.lines at call.result.0 call.result.1 call.new.part so_far e.taken e.within call.auto.chunk e.kept e.room c.list_head.new.output c.list_head.new.lines c.list_head.ensures in
+    let there = put_mid at (length c.loop-at.chunk - at) c.loop-at.chunk call.new.chunk in
     let run = c.list_events-at in
-    let all = listed_run c.args.format c.args.scan.now call.new.self run.new.scan c.args.output.now c.list_head.new.output run.new.output c.args.piece.now there run.new.piece c.list_head.new.lines run.new.lines (at + call.result.0) run.result on run.ensures.within run.auto.piece run.ensures.kept run.ensures.room run.ensures.listed in
+    let all = listed_run c.args.format c.args.scan.now call.new.self run.new.scan c.args.output.now c.list_head.new.output run.new.output c.args.chunk.now there run.new.chunk c.list_head.new.lines run.new.lines (at + call.result.0) run.result on run.ensures.within run.auto.chunk run.ensures.kept run.ensures.room run.ensures.listed in
     record {
       in_bytes = all.fed.in_bytes;
       within = all.fed.within;
@@ -57,7 +57,7 @@ pub returns-clause-listed : goal.returns-clause-listed
 returns-clause-listed g c =
     let at = c.loop-at.at in
     let known = c.loop-at.invariant in
-    let so_far : IsListedTo c.args.format c.args.scan.now c.loop-at.scan c.args.output.now c.loop-at.output c.args.piece.now c.loop-at.piece c.loop-at.lines at =
+    let so_far : IsListedTo c.args.format c.args.scan.now c.loop-at.scan c.args.output.now c.loop-at.output c.args.chunk.now c.loop-at.chunk c.loop-at.lines at =
     record { fed = record { in_bytes = known.in_bytes; within = known.within; size = known.size; kept = known.kept; room = known.room; consumes = (known.run.0, known.run.1) }; held = known.run.2 } in
     let refusal = c.refusal.result in
     let before = c.args.output.now in
@@ -65,20 +65,20 @@ returns-clause-listed g c =
     let printed = c.print_lines.ensures.printed in
     elim c.loop-at-test.branch [
       | else-loop-at-test w ↦
-          subst (λ (s : Scan). IsListedChunk c.args.format c.args.scan.now s before out c.args.piece.now refusal) (sym w.scan-is)
-          (listed_chunk c.args.format c.args.scan.now c.loop-at.scan before c.loop-at.output out c.args.piece.now c.loop-at.piece c.loop-at.lines at refusal so_far printed c.requires.writable
+          subst (λ (s : Scan). IsListedChunk c.args.format c.args.scan.now s before out c.args.chunk.now refusal) (sym w.scan-is)
+          (listed_chunk c.args.format c.args.scan.now c.loop-at.scan before c.loop-at.output out c.args.chunk.now c.loop-at.chunk c.loop-at.lines at refusal so_far printed c.requires.writable
           (λ none. omega (arith, known.within, known.size, w.loop-at-test.false)) (c.refusal.ensures ∙ ap (λ (s : Scan). refusal_in s) w.scan-is))
       | then-loop-at-test+in-Refused w ↦
           let call = w.next-taken in
           let e = call.ensures in
-          let here = put_mid at (length c.loop-at.piece - at) c.loop-at.piece call.new.piece in
+          let here = put_mid at (length c.loop-at.chunk - at) c.loop-at.chunk call.new.chunk in
           let none = none_begun call.result.1 call.new.part (λ is. let both = sym w.in-Refused.is ∙ is in cc) in
           let on =
-          listed_on c.args.format c.args.scan.now c.loop-at.scan call.new.self before c.loop-at.output c.args.piece.now c.loop-at.piece call.new.piece c.loop-at.lines at call.result.0 call.result.1 call.new.part so_far e.taken
-          e.within call.auto.piece e.kept e.room c.loop-at.output c.loop-at.lines (subst (λ (heads : List HeadInfo). ListsMore c.args.format c.loop-at.output c.loop-at.output c.loop-at.lines c.loop-at.lines heads) (sym none) (lists_none c.args.format c.loop-at.output c.loop-at.lines)) in
+          listed_on c.args.format c.args.scan.now c.loop-at.scan call.new.self before c.loop-at.output c.args.chunk.now c.loop-at.chunk call.new.chunk c.loop-at.lines at call.result.0 call.result.1 call.new.part so_far e.taken
+          e.within call.auto.chunk e.kept e.room c.loop-at.output c.loop-at.lines (subst (λ (heads : List HeadInfo). ListsMore c.args.format c.loop-at.output c.loop-at.output c.loop-at.lines c.loop-at.lines heads) (sym none) (lists_none c.args.format c.loop-at.output c.loop-at.lines)) in
           let answered : refusal ≡ refusal_in call.new.self = c.refusal.ensures ∙ ap (λ (s : Scan). refusal_in s) w.scan-is in
-          subst (λ (s : Scan). IsListedChunk c.args.format c.args.scan.now s before out c.args.piece.now refusal) (sym w.scan-is)
-          (listed_chunk c.args.format c.args.scan.now call.new.self before c.loop-at.output out c.args.piece.now here c.loop-at.lines (at + call.result.0) refusal on printed c.requires.writable
+          subst (λ (s : Scan). IsListedChunk c.args.format c.args.scan.now s before out c.args.chunk.now refusal) (sym w.scan-is)
+          (listed_chunk c.args.format c.args.scan.now call.new.self before c.loop-at.output out c.args.chunk.now here c.loop-at.lines (at + call.result.0) refusal on printed c.requires.writable
           (λ none. absurd (none_refused call.new.self (e.reported.1 w.in-Refused.is) (sym answered ∙ none))) answered)
     ]
 

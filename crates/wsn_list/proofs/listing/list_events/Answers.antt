@@ -1,10 +1,10 @@
 use Rattle.std.proofs.Common.{[], rules}
-use Rattle.wsn_scan.proofs.FedPieces.{takes_none}
+use Rattle.wsn_scan.proofs.FedChunks.{takes_none}
 use Rattle.wsn_list.proofs.ListedParts.{lists_none}
 use Rattle.wsn_list.proofs.listing.list_events.Goals as goal
 
 pub returns-then-not-is_idle-clause-listed : goal.returns-then-not-is_idle-clause-listed
-returns-then-not-is_idle-clause-listed g c in_bytes = ([], takes_none c.args.scan.now c.args.piece.now, lists_none c.args.format c.args.output.now c.args.lines.now)
+returns-then-not-is_idle-clause-listed g c in_bytes = ([], takes_none c.args.scan.now c.args.chunk.now, lists_none c.args.format c.args.output.now c.args.lines.now)
 
 pub returns-then-not-is_idle-clause-within : goal.returns-then-not-is_idle-clause-within
 returns-then-not-is_idle-clause-within g c = search rules

@@ -89,7 +89,7 @@ loop-len-preserved g c =
         goes_on c.args.role c.args.limits c.args.at c.args.input.now c.loop-len.input c.loop-len.chunks c.args.output.now c.loop-len.output c.loop-len.scan c.loop-len.event read.0 read.1
             c.next.new.input c.next.new.self (take c.in-Some.len c.next.new.buffer) got.come (short_chunk got (c.next.auto.buffer ∙ c.loop-len.invariant.size)) c.take_chunk.new.scan c.take_chunk.new.event c.take_chunk.new.output given,
       );
-      size = same_size c.in-Some.len c.next.new.buffer c.take_chunk.new.piece got.in_buffer c.take_chunk.auto.piece ∙ c.next.auto.buffer ∙ c.loop-len.invariant.size;
+      size = same_size c.in-Some.len c.next.new.buffer c.take_chunk.new.chunk got.in_buffer c.take_chunk.auto.chunk ∙ c.next.auto.buffer ∙ c.loop-len.invariant.size;
     }
 
 pub returns-clause-taken : goal.returns-clause-taken

@@ -3,7 +3,7 @@ use Rattle.std.proofs.lemmas.List.{length-map}
 use Rattle.wsn_wire.specs.declared.length_forms.Form.TheVariants.{Shortest}
 use Rattle.wsn_rules.specs.declared.step.Step.TheVariants.{Piece}
 use Rattle.wsn_rules.proofs.PlanTheory.Walked.{walked_start, walked_events_left, walked_fits}
-use Rattle.wsn_plan.specs.KeptEvents.{kept_meant}
+use Rattle.wsn_plan.specs.Gathering.{kept_meant}
 use Rattle.wsn_plan.proofs.EventsAhead.{some_left, none_left}
 use Rattle.wsn_plan.proofs.WalkedSteps.{begins_on, consumes, held_is_small, fault_here, follows_on, at_the_end, few_more}
 use Rattle.wsn_plan.proofs.checking.fault_of.Goals as goal

@@ -1,5 +1,5 @@
 use Rattle.std.proofs.Common.{◌≤◌, ◌<◌, ◌^◌, map, take}
-use Rattle.wsn_plan.specs.KeptEvents.{kept_meant}
+use Rattle.wsn_plan.specs.Gathering.{kept_meant}
 use Rattle.wsn_plan.specs.Walking.{IsPlaced}
 use Rattle.wsn_plan.proofs.WalkedSteps.{Follows}
 use Rattle.wsn_plan.proofs.checking.fault_of.Given as goal

@@ -4,7 +4,7 @@ use Rattle.wsn_wire.specs.Frame.{FormFits}
 use Rattle.wsn_rules.specs.Meaning.{MeantEvent}
 use Rattle.wsn_rules.specs.Plan.{next_text}
 use Rattle.wsn_rules.specs.Recut.{next_message}
-use Rattle.wsn_plan.specs.KeptEvents.{kept_meant}
+use Rattle.wsn_plan.specs.Gathering.{kept_meant}
 use Rattle.wsn_plan.specs.Walking.{IsApplicable}
 use Rattle.wsn_plan.specs.Framing.{EncodesItsLength}
 use Rattle.wsn_plan.proofs.NextEvents.{is_within, is_there, first_there, control_is_short}

@@ -4,8 +4,8 @@ use Rattle.wsn_rules.specs.Meaning.{Message}
 use Rattle.wsn_io.specs.declared.stop.Stop.TheVariants as stop
 use Rattle.wsn_events.specs.declared.source.Next.TheVariants as nexts
 use Rattle.wsn_events.specs.declared.turn.Turn.TheVariants as turns
-use Rattle.wsn_events.specs.EventReaders.{readings_left}
-use Rattle.wsn_plan.specs.KeptEvents.{kept_meant}
+use Rattle.wsn_events.specs.EventReaders.{events_ahead}
+use Rattle.wsn_plan.specs.Gathering.{kept_meant}
 use Rattle.wsn_plan.proofs.GatheredEvents.{gives_lent, gives_own, given_back, begins, still, lends_at_once, is_done, is_stopped, goes_on, no_memory, goes_on_lent, no_memory_lent}
 use Rattle.wsn_plan.proofs.gathering.gather.Goals as goal
 
@@ -47,7 +47,7 @@ same-source g c = search rules
 pub loop-kind-smaller-in-Continue-branch-4 : goal.loop-kind-smaller-in-Continue-branch-4
 loop-kind-smaller-in-Continue-branch-4 g c =
     let falls = c.in_ok-kind.ensures.falls (gives_lent c.in_ok-kind.field-0 c.in-Lent.kind c.in-Lent.is) in
-    omega (arith, falls, ap readings_left c.in_default.ensures.none)
+    omega (arith, falls, ap events_ahead c.in_default.ensures.none)
 
 pub loop-kind-preserved-in-Continue-branch-4 : goal.loop-kind-preserved-in-Continue-branch-4
 loop-kind-preserved-in-Continue-branch-4 g c =
@@ -75,7 +75,7 @@ pub loop-kind-smaller : goal.loop-kind-smaller
 loop-kind-smaller g c =
     let is : c.in_ok-kind.field-0 ≡ turns.Own (nexts.Event c.in-Own-Event.event) = cc in
     let falls = c.in_ok-kind.ensures.falls (gives_own c.in_ok-kind.field-0 c.in-Own-Event.event is) in
-    omega (arith, falls, c.reuse.ensures.left, ap readings_left c.in_default.ensures.none)
+    omega (arith, falls, c.reuse.ensures.left, ap events_ahead c.in_default.ensures.none)
 
 pub loop-kind-preserved : goal.loop-kind-preserved
 loop-kind-preserved g c =

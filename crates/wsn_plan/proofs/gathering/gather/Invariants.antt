@@ -1,4 +1,4 @@
-use Rattle.wsn_events.specs.EventReaders.{readings_left}
+use Rattle.wsn_events.specs.EventReaders.{events_ahead}
 use Rattle.wsn_plan.proofs.GatheredEvents.{HasGathered}
 use Rattle.wsn_plan.proofs.gathering.gather.Given as goal
 
@@ -7,4 +7,4 @@ abbrev pub invariant-loop-kind : goal.invariant-loop-kind
 invariant-loop-kind g l = HasGathered l.fn.role l.fn.limits l.fn.input l.input l.source l.events.items
 
 abbrev pub decreases-loop-kind : goal.decreases-loop-kind
-decreases-loop-kind g l = readings_left l.source
+decreases-loop-kind g l = events_ahead l.source

@@ -7,7 +7,7 @@ use Rattle.wsn_rules.proofs.PlanTheory.Walked.{walked_start}
 use Rattle.wsn_wire.specs.Frame.{frame_bytes}
 use Rattle.wsn_io.specs.Transfer.{IsWritten, IsPartlyWritten}
 use Rattle.wsn_rules.specs.Meaning.{MeantEvent}
-use Rattle.wsn_plan.specs.KeptEvents.{kept_meant}
+use Rattle.wsn_plan.specs.Gathering.{kept_meant}
 use Rattle.wsn_plan.specs.Framing.{frame_here}
 use Rattle.wsn_plan.proofs.WalkedSteps.{few_more}
 use Rattle.wsn_plan.proofs.RecutSoFar.{held_fits, may_here, form_here, small_here, way_on, written_on, partly_on, all_written}

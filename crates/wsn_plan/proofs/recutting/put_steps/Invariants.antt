@@ -1,7 +1,7 @@
 use Rattle.std.proofs.Common.{◌≡◌, ◌≤◌, ◌<◌, ◌^◌, map, take}
 use Rattle.wsn_io.specs.Transfer.{IsWritten}
 use Rattle.wsn_rules.specs.Recut.{recut_bytes}
-use Rattle.wsn_plan.specs.KeptEvents.{kept_meant}
+use Rattle.wsn_plan.specs.Gathering.{kept_meant}
 use Rattle.wsn_plan.specs.Walking.{IsPlaced}
 use Rattle.wsn_plan.proofs.RecutSoFar.{IsUnderWay}
 use Rattle.wsn_plan.proofs.recutting.put_steps.Given as goal

@@ -2,7 +2,7 @@ use Rattle.std.proofs.Common.{◌≡◌, Err, List, map, subst, ap, ◌∙◌}
 use Rattle.std.proofs.lemmas.Result.{err_from_is_err_and}
 use Rattle.wsn_rules.specs.declared.step.Step.{Step}
 use Rattle.wsn_plan.specs.declared.kept.Kept.{Kept}
-use Rattle.wsn_plan.specs.KeptEvents.{kept_meant}
+use Rattle.wsn_plan.specs.Gathering.{kept_meant}
 use Rattle.wsn_plan.specs.Recutting.{IsRefragmented}
 use Rattle.wsn_plan.proofs.Recuts.{stopped_before, isnt_accepted, are_lawful, cut, whole_recut}
 use Rattle.wsn_plan.proofs.recutting.recut.Goals as goal

@@ -5,7 +5,7 @@ use Rattle.wsn_rules.proofs.PlanTheory.UniformFaults.{uniform_fault}
 use Rattle.wsn_io.specs.declared.stop.Stop.{Stop}
 use Rattle.wsn_plan.specs.declared.kept.Kept.{Kept}
 use Rattle.wsn_rules.specs.UniformPlan.{uniform_plan}
-use Rattle.wsn_plan.specs.KeptEvents.{kept_meant}
+use Rattle.wsn_plan.specs.Gathering.{kept_meant}
 use Rattle.wsn_plan.specs.declared.recutting.RecutAnswer.{RecutAnswer}
 use Rattle.wsn_plan.specs.Recutting.{IsRefragmented}
 use Rattle.wsn_plan.proofs.Recuts.{stopped_before, isnt_accepted, are_lawful, no_memory, cut, whole_recut}

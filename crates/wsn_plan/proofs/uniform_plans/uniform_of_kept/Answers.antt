@@ -1,7 +1,7 @@
 use Rattle.std.proofs.Common.{◌≡◌, ◌+◌, ◌++◌, ◌∷◌, List, map, drop, ap, ◌∙◌, arith}
 use Rattle.wsn_rules.specs.Meaning.{MeantEvent}
 use Rattle.wsn_rules.specs.UniformPlan.{uniform_plan}
-use Rattle.wsn_plan.specs.KeptEvents.{kept_meant}
+use Rattle.wsn_plan.specs.Gathering.{kept_meant}
 use Rattle.wsn_plan.proofs.EventsAhead.{stands_for}
 use Rattle.wsn_plan.proofs.UniformSteps.{plan_after, counts_control, ends_message}
 use Rattle.wsn_plan.proofs.uniform_plans.uniform_of_kept.Goals as goal

@@ -1,6 +1,6 @@
 use Rattle.std.proofs.Common.{◌≡◌, ◌≤◌, ◌++◌, map, drop}
 use Rattle.wsn_rules.specs.UniformPlan.{uniform_plan}
-use Rattle.wsn_plan.specs.KeptEvents.{kept_meant}
+use Rattle.wsn_plan.specs.Gathering.{kept_meant}
 use Rattle.wsn_plan.proofs.UniformSteps.{plan_after}
 use Rattle.wsn_plan.proofs.uniform_plans.uniform_of_kept.Given as goal
 

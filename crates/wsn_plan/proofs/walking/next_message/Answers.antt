@@ -1,5 +1,5 @@
 use Rattle.std.proofs.Common.{◌∙◌, sym, arith}
-use Rattle.wsn_plan.specs.KeptEvents.{kept_meant}
+use Rattle.wsn_plan.specs.Gathering.{kept_meant}
 use Rattle.wsn_plan.specs.Walking.{IsControl, IsMessageOf}
 use Rattle.wsn_plan.proofs.EventsAhead.{has_reported, not_reported, message_there, at_a_message, past_a_control}
 use Rattle.wsn_plan.proofs.walking.next_message.Goals as goal

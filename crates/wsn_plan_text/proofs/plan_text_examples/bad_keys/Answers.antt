@@ -1,5 +1,6 @@
 use Rattle.std.proofs.Common.{refl, Some, [], ◌∷◌, codes}
-use Rattle.wsn_plan_text.specs.Words.{Shortest, Last}
+use Rattle.wsn_wire.specs.declared.length_forms.Form.TheVariants.{Shortest}
+use Rattle.wsn_rules.specs.declared.step.Step.TheVariants.{Last}
 use Rattle.wsn_plan_text.specs.declared.plan_fault.LineWhy.TheVariants.{BadKey}
 use Rattle.wsn_plan_text.proofs.DecidedLines.{decoded_line, encodes, is_faulty}
 use Rattle.wsn_plan_text.proofs.plan_text_examples.bad_keys.Goals as goal

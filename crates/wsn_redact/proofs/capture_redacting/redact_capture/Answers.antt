@@ -54,25 +54,25 @@ returns-then-count-eq0 g c =
     inv.read inv.few c.end.result c.end.new.output nothing (c.in-Some.ensures.end c.if-count-eq0.true) (c.in-Some.ensures.some ∙ inv.unfailed)
     (c.end.ensures c.args.limits c.args.output.now inv.read.came written)
 
-pub slice_bounds-piece-end : goal.slice_bounds-piece-end
-slice_bounds-piece-end g c = search rules
+pub slice_bounds-chunk-end : goal.slice_bounds-chunk-end
+slice_bounds-chunk-end g c = search rules
 
-pub slice_bounds-redact_piece-end : goal.slice_bounds-redact_piece-end
-slice_bounds-redact_piece-end g c = search rules
+pub slice_bounds-redact_lines-end : goal.slice_bounds-redact_lines-end
+slice_bounds-redact_lines-end g c = search rules
 
-pub redact_piece-requires-clause-writing : goal.redact_piece-requires-clause-writing
-redact_piece-requires-clause-writing g c =
+pub redact_lines-requires-clause-writing : goal.redact_lines-requires-clause-writing
+redact_lines-requires-clause-writing g c =
     let read = c.loop-count.invariant.read in
     record { limits = c.args.limits; first = c.args.output.now; came = read.came; has_written = read.has_written }
 
-pub redact_piece-requires-clause-few : goal.redact_piece-requires-clause-few
-redact_piece-requires-clause-few g c = c.loop-count.invariant.few
+pub redact_lines-requires-clause-few : goal.redact_lines-requires-clause-few
+redact_lines-requires-clause-few g c = c.loop-count.invariant.few
 
-pub redact_piece-requires-clause-short : goal.redact_piece-requires-clause-short
-redact_piece-requires-clause-short g c = c.loop-count.invariant.short
+pub redact_lines-requires-clause-short : goal.redact_lines-requires-clause-short
+redact_lines-requires-clause-short g c = c.loop-count.invariant.short
 
-pub redact_piece-requires-clause-writable : goal.redact_piece-requires-clause-writable
-redact_piece-requires-clause-writable g c = c.loop-count.invariant.writable
+pub redact_lines-requires-clause-writable : goal.redact_lines-requires-clause-writable
+redact_lines-requires-clause-writable g c = c.loop-count.invariant.writable
 
 pub loop-count-smaller : goal.loop-count-smaller
 loop-count-smaller g c = search rules
@@ -82,24 +82,24 @@ loop-count-preserved g c =
     let inv = c.loop-count.invariant in
     record {
       read = goes_on c.args.limits c.args.input.now c.loop-count.input c.read.new.self c.args.output.now c.loop-count.redactor c.loop-count.lines c.loop-count.output
-          inv.read inv.few (take c.in-Some.count c.read.new.into) c.redact_piece.new.redactor c.redact_piece.new.lines c.redact_piece.new.output
+          inv.read inv.few (take c.in-Some.count c.read.new.into) c.redact_lines.new.redactor c.redact_lines.new.lines c.redact_lines.new.output
           (consumed_read c.loop-count.input c.read.new.self c.read.new.into c.in-Some.count c.in-Some.ensures.within c.in-Some.ensures.bytes c.in-Some.ensures.counted c.in-Some.ensures.readable)
-          (c.in_ok-redact_piece.ensures.written c.args.limits c.args.output.now inv.read.came inv.read.has_written);
+          (c.in_ok-redact_lines.ensures.written c.args.limits c.args.output.now inv.read.came inv.read.has_written);
       unfailed = c.in-Some.ensures.some ∙ inv.unfailed;
-      writable = c.in_ok-redact_piece.ensures.writable;
-      few = c.in_ok-redact_piece.ensures.few;
-      short = c.in_ok-redact_piece.ensures.short;
+      writable = c.in_ok-redact_lines.ensures.writable;
+      few = c.in_ok-redact_lines.ensures.few;
+      short = c.in_ok-redact_lines.ensures.short;
       size = omega (arith, c.read.auto.into);
     }
 
-pub returns-in_err-redact_piece : goal.returns-in_err-redact_piece
-returns-in_err-redact_piece g c =
+pub returns-in_err-redact_lines : goal.returns-in_err-redact_lines
+returns-in_err-redact_lines g c =
     let inv = c.loop-count.invariant in
     let out = err_from_is_err_and c.from_residual.result c.from_residual.ensures.1 in
-    let is : c.from_residual.result ≡ Err c.in_err-redact_piece.field-0.0 = out.1 ∙ ap Err out.2 in
+    let is : c.from_residual.result ≡ Err c.in_err-redact_lines.field-0.0 = out.1 ∙ ap Err out.2 in
     let size : length (take c.in-Some.count c.read.new.into) ≤ 4096 = omega (arith, length-take-le c.in-Some.count c.read.new.into c.in-Some.ensures.within, c.in-Some.ensures.within, c.read.auto.into) in
-    subst (λ (r : Result (Unit {0}) RedactStop). IsRedactedCaptureInput c.args.limits c.args.input.now c.read.new.self c.args.output.now c.redact_piece.new.output r) (sym is)
+    subst (λ (r : Result (Unit {0}) RedactStop). IsRedactedCaptureInput c.args.limits c.args.input.now c.read.new.self c.args.output.now c.redact_lines.new.output r) (sym is)
     (stops_here c.args.limits c.args.input.now c.loop-count.input c.read.new.self c.args.output.now c.loop-count.redactor c.loop-count.lines c.loop-count.output
-    inv.read inv.few (take c.in-Some.count c.read.new.into) c.in_err-redact_piece.field-0.0 c.redact_piece.new.output
+    inv.read inv.few (take c.in-Some.count c.read.new.into) c.in_err-redact_lines.field-0.0 c.redact_lines.new.output
     (consumed_read c.loop-count.input c.read.new.self c.read.new.into c.in-Some.count c.in-Some.ensures.within c.in-Some.ensures.bytes c.in-Some.ensures.counted c.in-Some.ensures.readable) size (c.in-Some.ensures.some ∙ inv.unfailed)
-    (c.in_err-redact_piece.ensures.stop c.args.limits c.args.output.now inv.read.came inv.read.has_written))
+    (c.in_err-redact_lines.ensures.stop c.args.limits c.args.output.now inv.read.came inv.read.has_written))

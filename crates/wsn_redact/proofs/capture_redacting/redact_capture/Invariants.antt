@@ -1,6 +1,6 @@
 use Rattle.std.proofs.Common.{◌≡◌, ◌≤◌, ◌<◌, false, length}
 use Rattle.wsn_capture.specs.CaptureLines.{count_of}
-use Rattle.wsn_redact.specs.PassedRedactions.{bytes_ahead}
+use Rattle.wsn_capture.specs.LineSplitters.{bytes_ahead}
 use Rattle.wsn_redact.proofs.RedactedCaptureInputs.{HasRedactedOn}
 use Rattle.wsn_redact.proofs.capture_redacting.redact_capture.Given as goal
 
@@ -12,8 +12,8 @@ invariant-loop-count g l = record {
   writable : l.output.failed ≡ false;
   few : count_of l.redactor.lines ≤ 1000000;
   short : length l.lines < 8196;
-  size : length l.piece ≡ 4096;
+  size : length l.chunk ≡ 4096;
 }
 
 abbrev pub decreases-loop-count : goal.decreases-loop-count
-decreases-loop-count g l = bytes_ahead l.redactor l.lines
+decreases-loop-count g l = bytes_ahead l.redactor.lines l.lines

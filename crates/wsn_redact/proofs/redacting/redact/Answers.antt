@@ -34,8 +34,8 @@ slice_bounds-buffer-end g c =
     let got = next_chunk c.in-Some.is (c.in_ok-len.ensures.next c.args.limits c.args.input.now read.0 read.1.come) in
     got.in_buffer
 
-pub slice_bounds-piece-end : goal.slice_bounds-piece-end
-slice_bounds-piece-end g c =
+pub slice_bounds-chunk-end : goal.slice_bounds-chunk-end
+slice_bounds-chunk-end g c =
     let read = c.loop-len.invariant.read in
     let got = next_chunk c.in-Some.is (c.in_ok-len.ensures.next c.args.limits c.args.input.now read.0 read.1.come) in
     sym (length-take-le c.in-Some.len c.next.new.buffer got.in_buffer)
@@ -64,7 +64,7 @@ returns-in_err-put_line-clause-redacted g c =
     let is : c.from_residual-in_err-put_line.result ≡ Err stop.Write = out.1 ∙ ap Err (out.2 ∙ c.in_err-put_line.ensures.0) in
     subst (λ (r : Result Verdict Stop). IsRedactedInput c.args.role c.args.limits c.args.input.now c.next.new.input c.args.output.now c.put_line.new.to r) (sym is)
     (write_failed c.args.role c.args.limits c.args.input.now c.loop-len.input c.loop-len.chunks c.args.output.now c.loop-len.output c.loop-len.scan c.loop-len.redactor read.0 read.1
-    c.next.new.input c.next.new.self (take c.in-Some.len c.next.new.buffer) got.come c.redact_chunk.new.scan c.redact_chunk.new.redactor c.redact_chunk.new.piece c.redact_chunk.ensures c.redact_chunk.auto.piece
+    c.next.new.input c.next.new.self (take c.in-Some.len c.next.new.buffer) got.come c.redact_chunk.new.scan c.redact_chunk.new.redactor c.redact_chunk.new.chunk c.redact_chunk.ensures c.redact_chunk.auto.chunk
     (short_chunk got (c.next.auto.buffer ∙ c.loop-len.invariant.size)) c.put_line.new.to c.in_err-put_line.ensures.1)
 
 pub returns-in_err-put_line-clause-whole : goal.returns-in_err-put_line-clause-whole
@@ -81,9 +81,9 @@ loop-len-preserved g c =
       read = (
         read.0 ++ take c.in-Some.len c.next.new.buffer,
         goes_on c.args.role c.args.limits c.args.input.now c.loop-len.input c.loop-len.chunks c.args.output.now c.loop-len.output c.loop-len.scan c.loop-len.redactor read.0 read.1
-            c.next.new.input c.next.new.self (take c.in-Some.len c.next.new.buffer) got.come c.redact_chunk.new.scan c.redact_chunk.new.redactor c.redact_chunk.new.piece c.redact_chunk.ensures c.redact_chunk.auto.piece c.put_line.new.to c.in_ok-put_line.ensures,
+            c.next.new.input c.next.new.self (take c.in-Some.len c.next.new.buffer) got.come c.redact_chunk.new.scan c.redact_chunk.new.redactor c.redact_chunk.new.chunk c.redact_chunk.ensures c.redact_chunk.auto.chunk c.put_line.new.to c.in_ok-put_line.ensures,
       );
-      size = same_size c.in-Some.len c.next.new.buffer c.redact_chunk.new.piece got.in_buffer c.redact_chunk.auto.piece ∙ c.next.auto.buffer ∙ c.loop-len.invariant.size;
+      size = same_size c.in-Some.len c.next.new.buffer c.redact_chunk.new.chunk got.in_buffer c.redact_chunk.auto.chunk ∙ c.next.auto.buffer ∙ c.loop-len.invariant.size;
     }
 
 pub returns-clause-redacted : goal.returns-clause-redacted

@@ -1,9 +1,9 @@
 use Rattle.std.proofs.Common.{true, false, List, [], ◌∷◌, ◌++◌, refl, inr, arith}
 use Rattle.wsn_wire.specs.declared.opcode.Op.TheVariants.{Continue, Text, Ping}
 use Rattle.wsn_wire.specs.Frame.{IsEncodable}
-use Rattle.wsn_rules.specs.ShownBytes.{AreDealt}
-use Rattle.wsn_rules.specs.ShownExamples.{server_frame}
-use Rattle.wsn_rules.specs.PlacedByte.{PlacedByte, placed}
+use Rattle.wsn_rules.specs.ShownPlaces.{AreDealt}
+use Rattle.wsn_rules.specs.PlanExamples.{server_frame}
+use Rattle.wsn_rules.specs.BadCharacter.{PlacedByte, placed}
 use Rattle.wsn_rules.proofs.place_examples.in_place.Goals as goal
 
 ping_encodable : IsEncodable (server_frame true Ping [])

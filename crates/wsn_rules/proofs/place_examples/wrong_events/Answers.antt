@@ -6,7 +6,7 @@ use Rattle.wsn_wire.specs.Frame.{frame_bytes}
 use Rattle.wsn_wire.specs.Layout.{fin_bit}
 use Rattle.wsn_wire.proofs.FrameLemmas.{first_byte_fields}
 use Rattle.wsn_rules.specs.Meaning.{Message, Control}
-use Rattle.wsn_rules.specs.PlacedByte.{PlacedByte, placed}
+use Rattle.wsn_rules.specs.BadCharacter.{PlacedByte, placed}
 use Rattle.wsn_rules.specs.ShownPlaces.{PlacedFrame, frames_in, placed_frames, IsFragment, IsMessageOf, AreInOrder}
 use Rattle.wsn_rules.specs.ShownStream.Item.{Event}
 use Rattle.wsn_rules.proofs.PlacedExamples.{only_item}

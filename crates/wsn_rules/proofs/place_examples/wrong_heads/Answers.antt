@@ -3,7 +3,7 @@ use Rattle.std.specs.List.{AllByRecursion}
 use Rattle.wsn_wire.specs.declared.length_forms.Form.TheVariants.{Shortest}
 use Rattle.wsn_wire.specs.declared.opcode.Op.TheVariants.{Ping}
 use Rattle.wsn_rules.specs.declared.head_info.HeadInfo.{HeadInfo}
-use Rattle.wsn_rules.specs.PlacedByte.{PlacedByte, placed}
+use Rattle.wsn_rules.specs.BadCharacter.{PlacedByte, placed}
 use Rattle.wsn_rules.specs.ShownPlaces.{end_of, ArePlaced, AreInOrder, IsPartOf}
 use Rattle.wsn_rules.specs.ShownStream.{Shown}
 use Rattle.wsn_rules.specs.ShownStream.Item.{Head}

@@ -5,8 +5,8 @@ use Rattle.wsn_wire.specs.declared.opcode.Kind.TheVariants as kind
 use Rattle.wsn_wire.specs.Layout.{fin_bit}
 use Rattle.wsn_wire.proofs.FrameLemmas.{first_byte_fields}
 use Rattle.wsn_rules.specs.Meaning.{Message, Control}
-use Rattle.wsn_rules.specs.ShownBytes.{begun_bytes}
-use Rattle.wsn_rules.specs.PlacedByte.{PlacedByte, placed}
+use Rattle.wsn_rules.specs.ShownPlaces.{begun_bytes}
+use Rattle.wsn_rules.specs.BadCharacter.{PlacedByte, placed}
 use Rattle.wsn_rules.specs.ShownPlaces.{PlacedFrame, frames_in, IsFragment, IsOpenPile, AreInOrder}
 use Rattle.wsn_rules.specs.ShownStream.Item.{Event, Unfinished, UnfinishedHead}
 use Rattle.wsn_rules.proofs.BegunHeads.{same_parts}

@@ -6,15 +6,15 @@ use Rattle.wsn_scan.proofs.ReaderBuffers.{part_after, range_after}
 use Rattle.wsn_scan.proofs.frame_reader.event_in.Goals as goal
 
 -- the bytes after those consumed don't change
-kept_after : (at end : ℕ) (buffer piece : List ℕ) (found : Option (ℕ × HeadInfo)) → at ≤ end → end ≤ length buffer → length piece ≡ end - at
-    → IfSome found (λ f. (0 < f.0) × (f.0 ≤ length (mid_of at (end - at) buffer))) → IfSome found (λ f. drop f.0 piece ≡ drop f.0 (mid_of at (end - at) buffer))
-    → IfSome found (λ f. slice_range (put_mid at (end - at) buffer piece) (at + f.0) end ≡ slice_range buffer (at + f.0) end)
-kept_after at end buffer piece None ordered within size some kept = tt
-kept_after at end buffer piece (Some f) ordered within size some kept =
+kept_after : (at end : ℕ) (buffer chunk : List ℕ) (found : Option (ℕ × HeadInfo)) → at ≤ end → end ≤ length buffer → length chunk ≡ end - at
+    → IfSome found (λ f. (0 < f.0) × (f.0 ≤ length (mid_of at (end - at) buffer))) → IfSome found (λ f. drop f.0 chunk ≡ drop f.0 (mid_of at (end - at) buffer))
+    → IfSome found (λ f. slice_range (put_mid at (end - at) buffer chunk) (at + f.0) end ≡ slice_range buffer (at + f.0) end)
+kept_after at end buffer chunk None ordered within size some kept = tt
+kept_after at end buffer chunk (Some f) ordered within size some kept =
     let part = mid_len at end buffer within in
     let fits : at + f.0 ≤ end = omega (arith, some, part, ordered) in
-    part_after at end f.0 buffer piece ordered within size fits ∙ kept ∙ sym (range_after at end f.0 buffer ordered within fits)
+    part_after at end f.0 buffer chunk ordered within size fits ∙ kept ∙ sym (range_after at end f.0 buffer ordered within fits)
 
 pub returns-clause-kept : goal.returns-clause-kept
 returns-clause-kept c =
-    kept_after c.args.at c.args.end c.args.buffer.now c.next_event_after.new.piece c.next_event_after.result c.requires.within.0 c.requires.within.1 (c.next_event_after.auto.piece ∙ mid_len c.args.at c.args.end c.args.buffer.now c.requires.within.1) c.next_event_after.ensures.within c.next_event_after.ensures.kept
+    kept_after c.args.at c.args.end c.args.buffer.now c.next_event_after.new.chunk c.next_event_after.result c.requires.within.0 c.requires.within.1 (c.next_event_after.auto.chunk ∙ mid_len c.args.at c.args.end c.args.buffer.now c.requires.within.1) c.next_event_after.ensures.within c.next_event_after.ensures.kept

@@ -10,7 +10,7 @@ pub returns-clause-kept : goal.returns-clause-kept
 returns-clause-kept c =
     let part = mid_len c.args.at c.args.end c.args.buffer.now c.requires.within.1 in
     let fits : c.args.at + c.take_events.result ≤ c.args.end = omega (arith, c.take_events.ensures.within, part, c.requires.within) in
-    part_after c.args.at c.args.end c.take_events.result c.args.buffer.now c.take_events.new.piece c.requires.within.0 c.requires.within.1 (c.take_events.auto.piece ∙ part) fits
+    part_after c.args.at c.args.end c.take_events.result c.args.buffer.now c.take_events.new.chunk c.requires.within.0 c.requires.within.1 (c.take_events.auto.chunk ∙ part) fits
     ∙ c.take_events.ensures.kept
     ∙ sym (range_after c.args.at c.args.end c.take_events.result c.args.buffer.now c.requires.within.0 c.requires.within.1 fits)
 
@@ -20,8 +20,8 @@ returns-clause-taken c some =
     let end = c.args.end in
     let took = c.take_events.ensures.taken some in
     let part = mid_len at end c.args.buffer.now c.requires.within.1 in
-    let same : slice_range (put_mid at (end - at) c.args.buffer.now c.take_events.new.piece) at end ≡ c.take_events.new.piece =
-    between-put_mid at (end - at) c.args.buffer.now c.take_events.new.piece end (omega (arith, c.requires.within)) (c.take_events.auto.piece ∙ part) in
+    let same : slice_range (put_mid at (end - at) c.args.buffer.now c.take_events.new.chunk) at end ≡ c.take_events.new.chunk =
+    between-put_mid at (end - at) c.args.buffer.now c.take_events.new.chunk end (omega (arith, c.requires.within)) (c.take_events.auto.chunk ∙ part) in
     (took.0, subst (λ (after : List ℕ). TakesEvents c.args.scan.now c.take_events.new.self (slice_range c.args.buffer.now at end) after c.take_events.result) (sym same) took.1)
 
 pub returns-clause-none : goal.returns-clause-none

@@ -7,6 +7,6 @@ pub returns-clause-kept : goal.returns-clause-kept
 returns-clause-kept c =
     let part = mid_len c.args.at c.args.end c.args.buffer.now c.requires.within.1 in
     let fits : c.args.at + c.next.result.0 ≤ c.args.end = omega (arith, c.next.ensures.within, part, c.requires.within) in
-    part_after c.args.at c.args.end c.next.result.0 c.args.buffer.now c.next.new.piece c.requires.within.0 c.requires.within.1 (c.next.auto.piece ∙ part) fits
+    part_after c.args.at c.args.end c.next.result.0 c.args.buffer.now c.next.new.chunk c.requires.within.0 c.requires.within.1 (c.next.auto.chunk ∙ part) fits
     ∙ c.next.ensures.kept
     ∙ sym (range_after c.args.at c.args.end c.next.result.0 c.args.buffer.now c.requires.within.0 c.requires.within.1 fits)

@@ -106,7 +106,7 @@ loop-len-preserved g c =
         read.1 ++ c.in_default-feed.ensures.heads,
         goes_on c.args.role c.args.limits c.args.input.now c.loop-len.input c.loop-len.chunks c.loop-len.scan read.0 read.1 read.2 c.next.new.input c.next.new.self c.feed.new.self (take c.in-Some.len c.next.new.buffer) got.come c.in_default-feed.ensures,
       );
-      size = same_size c.in-Some.len c.next.new.buffer c.feed.new.piece got.in_buffer c.feed.auto.piece ∙ c.next.auto.buffer ∙ c.loop-len.invariant.size;
+      size = same_size c.in-Some.len c.next.new.buffer c.feed.new.chunk got.in_buffer c.feed.auto.chunk ∙ c.next.auto.buffer ∙ c.loop-len.invariant.size;
     }
 
 pub returns-clause-judged : goal.returns-clause-judged

@@ -6,16 +6,16 @@ use Rattle.wsn_scan.specs.Scans.{room_of}
 use Rattle.wsn_show.specs.ShownSoFar.{HasShownFrames, ShowsFrames}
 use Rattle.wsn_show.proofs.feeding.feed_unrefused.Given as goal
 
--- The scan has consumed the piece so far and hasn't refused it, and the rest of the piece is unchanged.
+-- The scan has consumed the chunk so far and hasn't refused it, and the rest of the chunk is unchanged.
 abbrev pub invariant-loop-at : goal.invariant-loop-at
 invariant-loop-at g l = record {
-  within : l.at ≤ length l.fn.piece;
-  size : length l.piece ≡ length l.fn.piece;
-  kept : drop l.at l.piece ≡ drop l.at l.fn.piece;
+  within : l.at ≤ length l.fn.chunk;
+  size : length l.chunk ≡ length l.fn.chunk;
+  kept : drop l.at l.chunk ≡ drop l.at l.fn.chunk;
   room : room_of l.scan + l.at ≡ room_of l.fn.scan;
   shows : (role : Role) (limits : Limits) (came : List ℕ) (shown : List Shown) → HasShownFrames l.fn.context.style.detail role limits l.fn.scan l.fn.parts came shown →
-      ShowsFrames role limits l.scan l.parts l.fn.context l.fn.output l.output (came ++ take l.at l.fn.piece) shown;
+      ShowsFrames role limits l.scan l.parts l.fn.context l.fn.output l.output (came ++ take l.at l.fn.chunk) shown;
 }
 
 abbrev pub decreases-loop-at : goal.decreases-loop-at
-decreases-loop-at g l = length l.initial.piece - l.at
+decreases-loop-at g l = length l.initial.chunk - l.at

@@ -55,25 +55,25 @@ returns-then-count-eq0 g c =
     inv.read inv.few c.end.result c.end.new.output nothing (c.in-Some.ensures.end c.if-count-eq0.true) (c.in-Some.ensures.some ∙ inv.unfailed)
     (c.end.ensures c.args.limits c.args.style c.args.output.now inv.read.came printed)
 
-pub slice_bounds-piece-end : goal.slice_bounds-piece-end
-slice_bounds-piece-end g c = search rules
+pub slice_bounds-chunk-end : goal.slice_bounds-chunk-end
+slice_bounds-chunk-end g c = search rules
 
-pub slice_bounds-show_piece-end : goal.slice_bounds-show_piece-end
-slice_bounds-show_piece-end g c = search rules
+pub slice_bounds-show_lines-end : goal.slice_bounds-show_lines-end
+slice_bounds-show_lines-end g c = search rules
 
-pub show_piece-requires-clause-printing : goal.show_piece-requires-clause-printing
-show_piece-requires-clause-printing g c =
+pub show_lines-requires-clause-printing : goal.show_lines-requires-clause-printing
+show_lines-requires-clause-printing g c =
     let read = c.loop-count.invariant.read in
     record { limits = c.args.limits; style = c.args.style; first = c.args.output.now; came = read.came; has_printed = read.printed }
 
-pub show_piece-requires-clause-few : goal.show_piece-requires-clause-few
-show_piece-requires-clause-few g c = c.loop-count.invariant.few
+pub show_lines-requires-clause-few : goal.show_lines-requires-clause-few
+show_lines-requires-clause-few g c = c.loop-count.invariant.few
 
-pub show_piece-requires-clause-short : goal.show_piece-requires-clause-short
-show_piece-requires-clause-short g c = c.loop-count.invariant.short
+pub show_lines-requires-clause-short : goal.show_lines-requires-clause-short
+show_lines-requires-clause-short g c = c.loop-count.invariant.short
 
-pub show_piece-requires-clause-writable : goal.show_piece-requires-clause-writable
-show_piece-requires-clause-writable g c = c.loop-count.invariant.writable
+pub show_lines-requires-clause-writable : goal.show_lines-requires-clause-writable
+show_lines-requires-clause-writable g c = c.loop-count.invariant.writable
 
 pub loop-count-smaller : goal.loop-count-smaller
 loop-count-smaller g c = search rules
@@ -83,24 +83,24 @@ loop-count-preserved g c =
     let inv = c.loop-count.invariant in
     record {
       read = goes_on c.args.limits c.args.style c.args.input.now c.loop-count.input c.read.new.self c.args.output.now c.loop-count.capture c.loop-count.lines c.loop-count.output
-          inv.read inv.few (take c.in-Some.count c.read.new.into) c.show_piece.new.view c.show_piece.new.lines c.show_piece.new.output
+          inv.read inv.few (take c.in-Some.count c.read.new.into) c.show_lines.new.view c.show_lines.new.lines c.show_lines.new.output
           (consumed_read c.loop-count.input c.read.new.self c.read.new.into c.in-Some.count c.in-Some.ensures.within c.in-Some.ensures.bytes c.in-Some.ensures.counted c.in-Some.ensures.readable)
-          (c.in_ok-show_piece.ensures.printed c.args.limits c.args.style c.args.output.now inv.read.came inv.read.printed);
+          (c.in_ok-show_lines.ensures.printed c.args.limits c.args.style c.args.output.now inv.read.came inv.read.printed);
       unfailed = c.in-Some.ensures.some ∙ inv.unfailed;
-      writable = c.in_ok-show_piece.ensures.writable;
-      few = c.in_ok-show_piece.ensures.few;
-      short = c.in_ok-show_piece.ensures.short;
+      writable = c.in_ok-show_lines.ensures.writable;
+      few = c.in_ok-show_lines.ensures.few;
+      short = c.in_ok-show_lines.ensures.short;
       size = omega (arith, c.read.auto.into);
     }
 
-pub returns-in_err-show_piece : goal.returns-in_err-show_piece
-returns-in_err-show_piece g c =
+pub returns-in_err-show_lines : goal.returns-in_err-show_lines
+returns-in_err-show_lines g c =
     let inv = c.loop-count.invariant in
     let out = err_from_is_err_and c.from_residual.result c.from_residual.ensures.1 in
-    let is : c.from_residual.result ≡ Err c.in_err-show_piece.field-0.0 = out.1 ∙ ap Err out.2 in
+    let is : c.from_residual.result ≡ Err c.in_err-show_lines.field-0.0 = out.1 ∙ ap Err out.2 in
     let size : length (take c.in-Some.count c.read.new.into) ≤ 4096 = omega (arith, length-take-le c.in-Some.count c.read.new.into c.in-Some.ensures.within, c.in-Some.ensures.within, c.read.auto.into) in
-    subst (λ (r : Result CaptureReport ShowStop). IsShown c.args.limits c.args.style c.args.input.now c.read.new.self c.args.output.now c.show_piece.new.output r) (sym is)
+    subst (λ (r : Result CaptureReport ShowStop). IsShown c.args.limits c.args.style c.args.input.now c.read.new.self c.args.output.now c.show_lines.new.output r) (sym is)
     (stops_here c.args.limits c.args.style c.args.input.now c.loop-count.input c.read.new.self c.args.output.now c.loop-count.capture c.loop-count.lines c.loop-count.output
-    inv.read inv.few (take c.in-Some.count c.read.new.into) c.in_err-show_piece.field-0.0 c.show_piece.new.output
+    inv.read inv.few (take c.in-Some.count c.read.new.into) c.in_err-show_lines.field-0.0 c.show_lines.new.output
     (consumed_read c.loop-count.input c.read.new.self c.read.new.into c.in-Some.count c.in-Some.ensures.within c.in-Some.ensures.bytes c.in-Some.ensures.counted c.in-Some.ensures.readable) size (c.in-Some.ensures.some ∙ inv.unfailed)
-    (c.in_err-show_piece.ensures.stop c.args.limits c.args.style c.args.output.now inv.read.came inv.read.printed))
+    (c.in_err-show_lines.ensures.stop c.args.limits c.args.style c.args.output.now inv.read.came inv.read.printed))

@@ -1,6 +1,6 @@
 use Rattle.std.proofs.Common.{◌≡◌, ◌≤◌, ◌<◌, false, length}
 use Rattle.wsn_capture.specs.CaptureLines.{count_of}
-use Rattle.wsn_show.specs.PassedLines.{bytes_ahead}
+use Rattle.wsn_capture.specs.LineSplitters.{bytes_ahead}
 use Rattle.wsn_show.proofs.ShownInputs.{HasReadOn}
 use Rattle.wsn_show.proofs.showing.show.Given as goal
 
@@ -12,8 +12,8 @@ invariant-loop-count g l = record {
   writable : l.output.failed ≡ false;
   few : count_of l.capture.lines ≤ 1000000;
   short : length l.lines < 8196;
-  size : length l.piece ≡ 4096;
+  size : length l.chunk ≡ 4096;
 }
 
 abbrev pub decreases-loop-count : goal.decreases-loop-count
-decreases-loop-count g l = bytes_ahead l.capture l.lines
+decreases-loop-count g l = bytes_ahead l.capture.lines l.lines

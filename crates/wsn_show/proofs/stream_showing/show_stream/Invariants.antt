@@ -1,5 +1,5 @@
 use Rattle.std.proofs.Common.{◌≡◌, ℕ, List, length}
-use Rattle.wsn_scan.specs.ChunkReaders.{reads_left}
+use Rattle.wsn_scan.specs.ChunkReaders.{chunks_ahead}
 use Rattle.wsn_scan.specs.Judging.{chunk_size}
 use Rattle.wsn_show.proofs.ShownStreamInputs.{HasShownInput}
 use Rattle.wsn_show.proofs.stream_showing.show_stream.Given as goal
@@ -12,4 +12,4 @@ invariant-loop-len g l = record {
 }
 
 abbrev pub decreases-loop-len : goal.decreases-loop-len
-decreases-loop-len g l = reads_left l.chunks
+decreases-loop-len g l = chunks_ahead l.chunks

@@ -2,7 +2,7 @@ use Rattle.std.proofs.Common.{◌≡◌, List, ℕ, ◌++◌, codes, ◌∙◌, 
 use Rattle.wsn_io.specs.Transfer.{IsWritten, IsPartlyWritten}
 use Rattle.wsn_io.specs.declared.stop.Stop.TheVariants as stop
 use Rattle.wsn_rules.specs.declared.compared.Compared.TheVariants.{Different}
-use Rattle.wsn_print.specs.ComparisonText.{comparison_line}
+use Rattle.wsn_print.specs.VerdictText.{comparison_line}
 use Rattle.wsn_shown_text.specs.DifferenceText.{event_line, difference_lines}
 use Rattle.wsn_shown_text.specs.DifferingText.{differ_line}
 use Rattle.wsn_print.proofs.Pieces.{first_stops, second_stops, third_stops, four_pieces}

@@ -7,7 +7,7 @@ use Rattle.wsn_capture.specs.declared.capture_lines.CaptureLines.{CaptureLines}
 use Rattle.wsn_capture.specs.LineFaults.{IsFaultAfter}
 use Rattle.wsn_capture.specs.LineEntries.{held_entry}
 use Rattle.wsn_capture.specs.SideTexts.{with_entry}
-use Rattle.wsn_capture.specs.CaptureLines.{room_left}
+use Rattle.wsn_capture.specs.CaptureLines.{sent_by}
 use Rattle.wsn_capture.proofs.AcceptedTexts.{if_this}
 use Rattle.wsn_capture.proofs.AcceptedLines.{faulty_line, exceeds_given, accepted_push, fits_given, less_before, room_by, closes_by, inputs_by, refused_by, noted_same, noted_up_to}
 use Rattle.wsn_capture.proofs.capture_lines.CaptureLines.accept.Goals as goal
@@ -50,7 +50,7 @@ returns c = record {
       let taken = c.in_ok-take_room.ensures.taken in
       let fits = c.in_ok-take_room.ensures.fits in
       let same = ap (λ (l : CaptureLines). l.before) taken ∙ less_before entry old in
-      let room : (role : Role) → room_left role (record c.take_room.new.self { before = c.add.new.self }) + length (bytes_in role (held_entry entry held)) ≡ room_left role old =
+      let room : (role : Role) → (sent_by role (record c.take_room.new.self { before = c.add.new.self })).room + length (bytes_in role (held_entry entry held)) ≡ (sent_by role old).room =
       λ role. room_by limits old entry c.take_room.new.self c.add.new.self held taken fits read.0 (omega arith) role in
       accepted_push limits old lines given has c.args.line.now (record c.take_room.new.self { before = c.add.new.self }) (held_entry entry held) read.1
       (c.add.ensures held ∙ ap (λ (b : LinesBefore). with_entry b (held_entry entry held)) same) (inputs_by old entry c.take_room.new.self c.add.new.self taken) room (fits_given limits old lines given c.args.line.now entry held has fits);

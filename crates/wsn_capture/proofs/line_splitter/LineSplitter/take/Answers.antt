@@ -5,26 +5,26 @@ use Rattle.wsn_rules.specs.Limits.{Limits}
 use Rattle.wsn_print.proofs.HeldParts.{rest_is}
 use Rattle.wsn_capture.specs.declared.capture_stop.CaptureStop.{CaptureStop}
 use Rattle.wsn_capture.specs.LineSplitters.{HasSplit, IsStopWithin}
-use Rattle.wsn_capture.proofs.PiecePrefixes.{taken_more, stop_in_rest}
+use Rattle.wsn_capture.proofs.ChunkPrefixes.{taken_more, stop_in_rest}
 use Rattle.wsn_capture.proofs.line_splitter.LineSplitter.take.Goals as goal
 
 pub returns-in_err-taken-clause-stop : goal.returns-in_err-taken-clause-stop
 returns-in_err-taken-clause-stop c =
     let out = err_from_is_err_and c.from_residual.result c.from_residual.ensures.1 in
     let is : c.from_residual.result ≡ Err c.in_err-taken.field-0.0 = out.1 ∙ ap Err out.2 in
-    subst (λ (r : Result Unit CaptureStop). IfErr r (λ stop. (limits : Limits) (came : List ℕ) → HasSplit limits c.args.self.now came → IsStopWithin limits came c.args.piece.now stop)) (sym is)
-    (λ limits came split. stop_in_rest limits came c.args.piece.now c.loop-taken.taken c.in_err-taken.field-0.0
-    (c.in_err-taken.ensures.stop limits (came ++ take c.loop-taken.taken c.args.piece.now) (c.loop-taken.invariant.split limits came split)))
+    subst (λ (r : Result Unit CaptureStop). IfErr r (λ stop. (limits : Limits) (came : List ℕ) → HasSplit limits c.args.self.now came → IsStopWithin limits came c.args.chunk.now stop)) (sym is)
+    (λ limits came split. stop_in_rest limits came c.args.chunk.now c.loop-taken.taken c.in_err-taken.field-0.0
+    (c.in_err-taken.ensures.stop limits (came ++ take c.loop-taken.taken c.args.chunk.now) (c.loop-taken.invariant.split limits came split)))
 
 pub loop-taken-preserved : goal.loop-taken-preserved
 loop-taken-preserved c =
-    let piece = c.args.piece.now in
+    let chunk = c.args.chunk.now in
     let at = c.loop-taken.taken in
     record {
-      within = omega (arith, c.in_ok-taken.ensures.within.1, ap length (rest_is at piece) ∙ length-drop at piece, c.loop-taken-test.true);
+      within = omega (arith, c.in_ok-taken.ensures.within.1, ap length (rest_is at chunk) ∙ length-drop at chunk, c.loop-taken-test.true);
       few = c.in_ok-taken.ensures.few;
       short = c.in_ok-taken.ensures.short;
-      split = λ limits came split. subst (HasSplit limits c.take_prefix.new.self) (taken_more came piece at c.in_ok-taken.field-0)
-          (c.in_ok-taken.ensures.split limits (came ++ take at piece) (c.loop-taken.invariant.split limits came split));
+      split = λ limits came split. subst (HasSplit limits c.take_prefix.new.self) (taken_more came chunk at c.in_ok-taken.field-0)
+          (c.in_ok-taken.ensures.split limits (came ++ take at chunk) (c.loop-taken.invariant.split limits came split));
       left = omega (arith, c.loop-taken.invariant.left, c.in_ok-taken.ensures.left);
     }

@@ -14,9 +14,9 @@ before_lf (b ∷ bytes) (suc n) none = (
 
 pub returns-in-Some-clause-ends : goal.returns-in-Some-clause-ends
 returns-in-Some-clause-ends c = λ ended.
-    let front = take c.min.result c.args.piece.now in
+    let front = take c.min.result c.args.chunk.now in
     let few : c.in-Some.end < length front = omega (arith, c.in-Some.ensures.0.high) in
-    let one : take (c.in-Some.end + 1) c.args.piece.now ≡ take c.in-Some.end front ++ 10 ∷ [] = first_of (search rules, grind (arith, common_steps)) in
+    let one : take (c.in-Some.end + 1) c.args.chunk.now ≡ take c.in-Some.end front ++ 10 ∷ [] = first_of (search rules, grind (arith, common_steps)) in
     let added : c.add.new.self ≡ c.args.self.now ++ take c.in-Some.end front = c.add.ensures ∙ ap (λ (bs : List ℕ). bs ++ take c.in-Some.end front) c.self.view_is in
     let size : length c.add.new.self ≡ length c.args.self.now + length (take c.in-Some.end front) = ap (λ (bs : List ℕ). length bs) added ∙ length-append c.args.self.now (take c.in-Some.end front) in
     let short : length c.add.new.self < 8196 = first_of (search rules, grind (arith, common_steps)) in
@@ -29,9 +29,9 @@ returns-in-Some-clause-ends c = λ ended.
 
 pub returns-in-None-clause-goes_on : goal.returns-in-None-clause-goes_on
 returns-in-None-clause-goes_on c = λ more.
-    let front = take c.min.result c.args.piece.now in
+    let front = take c.min.result c.args.chunk.now in
     let all : take (length front) front ≡ front = take_all (length front) front (omega arith) in
-    let same : take (length front) c.args.piece.now ≡ front = first_of (search rules, grind (arith, common_steps)) in
+    let same : take (length front) c.args.chunk.now ≡ front = first_of (search rules, grind (arith, common_steps)) in
     let short : length c.add-in-None.new.self < 8196 = first_of (search rules, grind (arith, common_steps)) in
     record {
       is = (c.add-in-None.ensures ∙ ap (λ (bs : List ℕ). bs ++ front) c.self.view_is) ∙ ap (λ (bs : List ℕ). c.args.self.now ++ bs) (sym same);
@@ -41,9 +41,9 @@ returns-in-None-clause-goes_on c = λ more.
 
 pub returns-in-None-clause-ends : goal.returns-in-None-clause-ends
 returns-in-None-clause-ends c = λ full.
-    let front = take c.min.result c.args.piece.now in
+    let front = take c.min.result c.args.chunk.now in
     let all : take (length front) front ≡ front = take_all (length front) front (omega arith) in
-    let same : take (length front) c.args.piece.now ≡ front = first_of (search rules, grind (arith, common_steps)) in
+    let same : take (length front) c.args.chunk.now ≡ front = first_of (search rules, grind (arith, common_steps)) in
     let size : length c.add-in-None.new.self ≡ 8196 = first_of (search rules, grind (arith, common_steps)) in
     record {
       bytes = front;

@@ -14,7 +14,7 @@ pub invariant_of-self-in-Err : goal.invariant_of-self-in-Err
 invariant_of-self-in-Err c = search rules
 
 pub returns-in-Ok : goal.returns-in-Ok
-returns-in-Ok c = record { left = search rules; fewer = search rules }
+returns-in-Ok c = record { left = search rules; falls = search rules }
 
 pub returns-in-Err : goal.returns-in-Err
-returns-in-Err c = record { left = search rules; fewer = search rules }
+returns-in-Err c = record { left = search rules; falls = search rules }

@@ -34,7 +34,7 @@ returns-else-ended c = record {
   short = (c.take-count.ensures.goes_on c.if-ended.false).short;
   in_line = let goes = c.take-count.ensures.goes_on c.if-ended.false in
       subst IsLine (sym goes.is) (line_join c.args.self.now.begun (take c.take-count.result.0 c.args.chunk.now) c.requires.in_line goes.in_line);
-  fewer = let goes = c.take-count.ensures.goes_on c.if-ended.false in
+  falls = let goes = c.take-count.ensures.goes_on c.if-ended.false in
       let whole : length c.take-count.new.self ≡ length (c.args.self.now.begun ++ take c.take-count.result.0 c.args.chunk.now) = ap (λ (bs : List ℕ). length bs) goes.is in
       let sizes = length-append c.args.self.now.begun (take c.take-count.result.0 c.args.chunk.now) in
       let size = length-take-le c.take-count.result.0 c.args.chunk.now c.take-count.ensures.within.1 in

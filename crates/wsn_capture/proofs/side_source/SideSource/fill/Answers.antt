@@ -8,7 +8,7 @@ pub invariant_of-self : goal.invariant_of-self
 invariant_of-self g c = search rules
 
 pub returns-in_err-self : goal.returns-in_err-self
-returns-in_err-self g c = record { left = search rules; fewer = search rules }
+returns-in_err-self g c = record { left = search rules; falls = search rules }
 
 pub finish-requires : goal.finish-requires
 finish-requires g c = record { ready = search rules; in_line = search rules }
@@ -20,7 +20,7 @@ pub invariant_of-self-else-self-eq0 : goal.invariant_of-self-else-self-eq0
 invariant_of-self-else-self-eq0 g c = search rules
 
 pub returns-then-self-eq0 : goal.returns-then-self-eq0
-returns-then-self-eq0 g c = record { left = search rules; fewer = search rules }
+returns-then-self-eq0 g c = record { left = search rules; falls = search rules }
 
 pub returns-else-self-eq0 : goal.returns-else-self-eq0
-returns-else-self-eq0 g c = record { left = search rules; fewer = search rules }
+returns-else-self-eq0 g c = record { left = search rules; falls = search rules }

@@ -7,14 +7,14 @@ returns g c = record {
   left = let old = c.args.self.now in
       let within : old.start + c.take_from.result ≤ old.end = omega (arith, c.take_from.ensures.within, length-take-le old.end old.chunk (omega arith)) in
       keeps_going old.ended (g.R.Read.remaining old.reader) _ _ _ _ c.requires.going (taken_from old.lines c.take_from.new.self old.chunk old.start old.end c.take_from.result within c.take_from.ensures.left);
-  fewer = search rules;
+  falls = search rules;
 }
 
 pub fill-requires : goal.fill-requires
 fill-requires g c = record { going = search rules; empty = search rules; ready = search rules }
 
 pub returns-then-self : goal.returns-then-self
-returns-then-self g c = record { left = search rules; fewer = search rules }
+returns-then-self g c = record { left = search rules; falls = search rules }
 
 pub shared_ref_as_front-take_from : goal.shared_ref_as_front-take_from
 shared_ref_as_front-take_from g c = search rules

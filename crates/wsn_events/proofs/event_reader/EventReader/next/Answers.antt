@@ -1,6 +1,6 @@
 use Rattle.std.proofs.Common.{◌≡◌, Ok, Err, sym, ap, ◌∙◌, subst, rules, arith}
 use Rattle.std.proofs.lemmas.Result.{err_from_is_err_and}
-use Rattle.wsn_events.specs.EventReaders.{GoesOn}
+use Rattle.wsn_events.specs.EventReaders.{ReadsNextEvent}
 use Rattle.wsn_events.specs.Turns.{GivesEvent}
 use Rattle.wsn_events.proofs.SourceCalls.{own_next, stops_next, lent_next, lent_going}
 use Rattle.wsn_events.proofs.event_reader.EventReader.next.Goals as goal
@@ -12,7 +12,7 @@ pub returns-in_err-next : goal.returns-in_err-next
 returns-in_err-next g c = record {
   next = λ role limits came given has.
       let out = err_from_is_err_and c.from_residual.result c.from_residual.ensures.1 in
-      subst (λ (r : _). GoesOn role limits c.args.input.now c.next_turn.new.input c.next_turn.new.self came given r) (sym (out.1 ∙ ap Err out.2))
+      subst (λ (r : _). ReadsNextEvent role limits c.args.input.now c.next_turn.new.input c.next_turn.new.self came given r) (sym (out.1 ∙ ap Err out.2))
       (stops_next role limits c.args.input.now c.next_turn.new.input c.next_turn.new.self came given c.next_turn.result (c.next_turn.ensures.next role limits came given has) c.in_err-next.field-0.0 c.in_err-next.was);
   falls = search rules;
   sound = λ none. absurd (subst (λ (r : _). GivesEvent r) c.in_err-next.was (c.next_turn.ensures.sound none));

@@ -2,7 +2,7 @@ use Rattle.std.proofs.Common.{◌≡◌, ℕ, ◌≤◌, false, List}
 use Rattle.wsn_wire.specs.declared.endpoint.Role.{Role}
 use Rattle.wsn_rules.specs.Limits.{Limits}
 use Rattle.wsn_rules.specs.Meaning.{MeantEvent}
-use Rattle.wsn_events.specs.EventReaders.{HasGiven, readings_left}
+use Rattle.wsn_events.specs.EventReaders.{HasGiven, events_ahead}
 use Rattle.wsn_events.proofs.SourceCalls.{HasRead}
 use Rattle.wsn_events.proofs.event_reader.EventReader.next_turn.Given as goal
 
@@ -11,8 +11,8 @@ abbrev pub invariant-loop-self : goal.invariant-loop-self
 invariant-loop-self g l = record {
   read : (role : Role) (limits : Limits) (came : List ℕ) (given : List MeantEvent) → HasGiven role limits l.fn.self came given → HasRead role limits l.fn.input l.input l.self came given;
   unfailed : l.input.failed ≡ false;
-  left : readings_left l.self ≤ readings_left l.fn.self;
+  left : events_ahead l.self ≤ events_ahead l.fn.self;
 }
 
 abbrev pub decreases-loop-self : goal.decreases-loop-self
-decreases-loop-self g l = readings_left l.self
+decreases-loop-self g l = events_ahead l.self

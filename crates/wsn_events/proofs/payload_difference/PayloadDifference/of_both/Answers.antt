@@ -1,8 +1,8 @@
 use Rattle.std.proofs.Common.{rules, ◌≡◌, ℕ, Option, None, Some, List, refl, sym, ap, ◌∙◌, subst}
 use Rattle.wsn_print.specs.DifferingPayloads.{place_between}
-use Rattle.wsn_print.specs.ShownParts.{payload_in}
 use Rattle.wsn_events.specs.PayloadExcerpts.{meant_payload, ArePartsKept}
 use Rattle.wsn_events.proofs.payload_difference.PayloadDifference.of_both.Goals as goal
+use Rattle.wsn_rules.specs.Meaning.{payload_in}
 
 pub returns-in-Some : goal.returns-in-Some
 returns-in-Some c =

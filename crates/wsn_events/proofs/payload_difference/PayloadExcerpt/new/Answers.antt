@@ -1,12 +1,12 @@
 use Rattle.std.proofs.Common.{rules, ◌≡◌, ℕ, ◌-◌, List, [], length, take, drop, ap, ◌∙◌, arith}
 use Rattle.std.proofs.lemmas.List.{length-take}
 use Rattle.wsn_print.specs.DifferingPayloads.{payload_on}
-use Rattle.wsn_print.specs.ShownParts.{payload_in}
 use Rattle.wsn_print.proofs.HeldParts.{rest_is}
 use Rattle.wsn_events.specs.PayloadExcerpts.{meant_payload}
 use Rattle.wsn_events.proofs.ExcerptViews.{appended}
 use Rattle.wsn_events.proofs.PayloadParts.{first_kept}
 use Rattle.wsn_events.proofs.payload_difference.PayloadExcerpt.new.Goals as goal
+use Rattle.wsn_rules.specs.Meaning.{payload_in}
 
 pub returns : goal.returns
 returns c =

@@ -9,28 +9,28 @@ pub returns-in_err-reason-in-Code-clause-checked : goal.returns-in_err-reason-in
 returns-in_err-reason-in-Code-clause-checked c =
     let out = err_from_is_err_and c.from_residual.result c.from_residual.ensures.1 in
     let is : c.from_residual.result ≡ Err c.in_err-reason-in-Code.field-0.0 = out.1 ∙ ap Err out.2 in
-    rw is (rw c.in-Code.is (reason_refused c.in-Code.reason c.in_err-reason-in-Code.field-0.0 c.in-Code.code c.args.piece.now c.args.last c.in_err-reason-in-Code.ensures.taken))
+    rw is (rw c.in-Code.is (reason_refused c.in-Code.reason c.in_err-reason-in-Code.field-0.0 c.in-Code.code c.args.chunk.now c.args.last c.in_err-reason-in-Code.ensures.taken))
 
 pub returns-in_ok-reason-in-Code-clause-checked : goal.returns-in_ok-reason-in-Code-clause-checked
 returns-in_ok-reason-in-Code-clause-checked c =
-    rw c.in-Code.is (reason_checked c.in-Code.reason c.in_ok-reason-in-Code.reason c.in-Code.code c.args.piece.now c.args.last c.in_ok-reason-in-Code.ensures.taken)
+    rw c.in-Code.is (reason_checked c.in-Code.reason c.in_ok-reason-in-Code.reason c.in-Code.code c.args.chunk.now c.args.last c.in_ok-reason-in-Code.ensures.taken)
 
 pub returns-in-HalfCode-clause-checked : goal.returns-in-HalfCode-clause-checked
 returns-in-HalfCode-clause-checked c =
-    rw c.in-HalfCode.is (half_code_goes_on c.in-HalfCode.high c.args.piece.now c.args.last c.feed_code-in-HalfCode.result c.requires c.feed_code-in-HalfCode.ensures.checked)
+    rw c.in-HalfCode.is (half_code_goes_on c.in-HalfCode.high c.args.chunk.now c.args.last c.feed_code-in-HalfCode.result c.requires c.feed_code-in-HalfCode.ensures.checked)
 
 pub returns-in-Empty-2-clause-checked : goal.returns-in-Empty-2-clause-checked
 returns-in-Empty-2-clause-checked c =
-    rw c.in-Empty-2.is (empty_goes_on c.args.piece.now c.args.last c.feed_code.result c.requires c.if-piece-eq1.false c.feed_code.ensures.checked)
+    rw c.in-Empty-2.is (empty_goes_on c.args.chunk.now c.args.last c.feed_code.result c.requires c.if-chunk-eq1.false c.feed_code.ensures.checked)
 
-pub bounds-piece-0 : goal.bounds-piece-0
-bounds-piece-0 c = search rules
+pub bounds-chunk-0 : goal.bounds-chunk-0
+bounds-chunk-0 c = search rules
 
-pub bounds-piece-0-in-Empty-2 : goal.bounds-piece-0-in-Empty-2
-bounds-piece-0-in-Empty-2 c = search rules
+pub bounds-chunk-0-in-Empty-2 : goal.bounds-chunk-0-in-Empty-2
+bounds-chunk-0-in-Empty-2 c = search rules
 
-pub bounds-piece-1 : goal.bounds-piece-1
-bounds-piece-1 c = search rules
+pub bounds-chunk-1 : goal.bounds-chunk-1
+bounds-chunk-1 c = search rules
 
 pub slice_bounds-feed_code-count : goal.slice_bounds-feed_code-count
 slice_bounds-feed_code-count c = search rules
@@ -44,8 +44,8 @@ slice_bounds-feed_code-end c = search rules
 pub feed_code-requires : goal.feed_code-requires
 feed_code-requires c = search rules
 
-pub bounds-piece-0-in-HalfCode : goal.bounds-piece-0-in-HalfCode
-bounds-piece-0-in-HalfCode c = search rules
+pub bounds-chunk-0-in-HalfCode : goal.bounds-chunk-0-in-HalfCode
+bounds-chunk-0-in-HalfCode c = search rules
 
 pub slice_bounds-feed_code-count-in-HalfCode : goal.slice_bounds-feed_code-count-in-HalfCode
 slice_bounds-feed_code-count-in-HalfCode c = search rules

@@ -8,7 +8,7 @@ use Rattle.wsn_rules.specs.Limits.{Limits}
 use Rattle.wsn_scan.specs.Positions.{InFrame}
 use Rattle.wsn_payload.specs.declared.event_at.EventAt.{EventAt}
 use Rattle.wsn_payload.specs.EventsAt.{end_of}
-use Rattle.wsn_payload.specs.Following.{EndsFrame, Keeps}
+use Rattle.wsn_payload.specs.Following.{EndsFrame, KeepsEventAt}
 use Rattle.wsn_payload.proofs.KeptEvents.{ends_own, ends_other}
 use Rattle.wsn_payload.proofs.event_at.EventAt.end.Goals as goal
 
@@ -17,7 +17,7 @@ abbrev after : EventAt → ℕ → EventAt
 after kept ends = record kept { own = false; next = Some ends }
 
 module _ (role : Role) (limits : Limits) (kept : EventAt) (at : ℕ) (fs : List Frame) (f : Frame) (text : List ℕ) (head : HeadInfo) (ends : ℕ) (same : head ≡ info_of (length (stream fs)) f) (ends_is : ends ≡ end_of head)
-    (lawful : IsLawful role limits (fs ++ f ∷ [])) (k : Keeps kept at fs (InFrame (info_of (length (stream fs)) f) f.payload) text) where
+    (lawful : IsLawful role limits (fs ++ f ∷ [])) (k : KeepsEventAt kept at fs (InFrame (info_of (length (stream fs)) f) f.payload) text) where
   there : ends ≡ end_of (info_of (length (stream fs)) f)
   there = ends_is ∙ ap end_of same
 

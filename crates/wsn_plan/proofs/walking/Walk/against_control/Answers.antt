@@ -1,5 +1,5 @@
 use Rattle.std.proofs.Common.{map, drop, refl}
-use Rattle.wsn_plan.specs.KeptEvents.{kept_meant}
+use Rattle.wsn_plan.specs.Gathering.{kept_meant}
 use Rattle.wsn_plan.proofs.EventsAhead.{some_left, begins_with_message, begins_with_control, message_or_not}
 use Rattle.wsn_plan.proofs.Reasons.{not_a_control, control_passes}
 use Rattle.wsn_plan.proofs.walking.Walk.against_control.Goals as goal

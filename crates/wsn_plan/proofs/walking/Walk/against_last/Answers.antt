@@ -1,7 +1,7 @@
 use Rattle.std.proofs.Common.{◌≡◌, ℕ, ◌-◌, length, map, drop, refl, sym, ap, ◌∙◌, true≢false, rules, arith}
 use Rattle.std.proofs.lemmas.Grind.{common_steps}
 use Rattle.wsn_rules.specs.declared.step.Step.TheVariants.{Last}
-use Rattle.wsn_plan.specs.KeptEvents.{kept_meant}
+use Rattle.wsn_plan.specs.Gathering.{kept_meant}
 use Rattle.wsn_plan.proofs.EventsAhead.{first_is_first, text_is, some_left, begins_with_message, begins_with_control, message_or_not}
 use Rattle.wsn_plan.proofs.Reasons.{no_message_left, not_a_message, last_wrong_form, last_passes}
 use Rattle.wsn_plan.proofs.walking.Walk.against_last.Goals as goal

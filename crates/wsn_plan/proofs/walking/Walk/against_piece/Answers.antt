@@ -1,6 +1,6 @@
 use Rattle.std.proofs.Common.{◌<◌, ◌≤◌, ◌+◌, map, drop, refl, sym, ◌∙◌, true≢false, arith}
 use Rattle.wsn_rules.specs.declared.step.Step.TheVariants.{Piece}
-use Rattle.wsn_plan.specs.KeptEvents.{kept_meant}
+use Rattle.wsn_plan.specs.Gathering.{kept_meant}
 use Rattle.wsn_plan.proofs.EventsAhead.{first_is_first, text_is, some_left}
 use Rattle.wsn_plan.proofs.Reasons.{within_or_not, no_message_left, piece_too_long, one_too_many, piece_wrong_form, piece_passes}
 use Rattle.wsn_plan.proofs.walking.Walk.against_piece.Goals as goal

@@ -1,5 +1,5 @@
 use Rattle.std.proofs.Common.{map, subst}
-use Rattle.wsn_plan.specs.KeptEvents.{kept_meant}
+use Rattle.wsn_plan.specs.Gathering.{kept_meant}
 use Rattle.wsn_plan.specs.Walking.{IsApplicable}
 use Rattle.wsn_plan.proofs.EventsAhead.{placed_control}
 use Rattle.wsn_plan.proofs.walking.Walk.take.Goals as goal

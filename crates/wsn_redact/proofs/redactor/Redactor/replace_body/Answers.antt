@@ -2,7 +2,7 @@ use Rattle.std.proofs.Common.{◌≡◌, ℕ, ◌-◌, List, [], ◌++◌, lengt
 use Rattle.std.specs.Prelude.{IsOk, ◌↔◌}
 use borrow.Rule.Slice.PartMut.{mid_of, post_of}
 use Rattle.std.proofs.lemmas.List.{drop_all}
-use Rattle.wsn_scan.proofs.FedPieces.{share_is}
+use Rattle.wsn_scan.proofs.FedChunks.{share_is}
 use Rattle.wsn_text.specs.Utf8.{BeginsText}
 use Rattle.wsn_text.specs.Validated.{HasValidated}
 use Rattle.wsn_redact.specs.StandIns.{stood, due_after}

@@ -2,7 +2,7 @@ use Rattle.std.proofs.Common.{ℕ, ◌++◌, List, take, drop, refl, sym, subst,
 use Rattle.std.proofs.lemmas.List.{take-append-le}
 use Rattle.wsn_io.specs.Transfer.{IsConsumed}
 use Rattle.wsn_io.proofs.Received.{consumed_read}
-use Rattle.wsn_scan.proofs.FedPieces.{bytes_below}
+use Rattle.wsn_scan.proofs.FedChunks.{bytes_below}
 use Rattle.wsn_scan.proofs.ChunksSoFar.{IsRead, read_failed, input_ended, consumed_came, chunk_came, falls, limit_passed}
 use Rattle.wsn_scan.proofs.chunk_reader.ChunkReader.next.Goals as goal
 

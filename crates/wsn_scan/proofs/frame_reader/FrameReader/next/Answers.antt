@@ -6,10 +6,9 @@ use Rattle.wsn_rules.specs.declared.verdict.Verdict.{Verdict}
 use Rattle.wsn_io.specs.declared.stop.Stop.{Stop}
 use Rattle.wsn_scan.specs.Positions.{Position}
 use Rattle.wsn_scan.specs.FrameReaders.{HasTaken}
-use Rattle.wsn_scan.specs.ReadParts.{ReadsOn}
-use Rattle.wsn_scan.specs.ReaderSteps.{IsFilled}
+use Rattle.wsn_scan.specs.ReadParts.{ReadsOn, IsFilled}
 use Rattle.wsn_scan.specs.Scans.{room_of}
-use Rattle.wsn_scan.specs.ChunkReaders.{reads_left}
+use Rattle.wsn_scan.specs.ChunkReaders.{chunks_ahead}
 use Rattle.wsn_scan.specs.declared.chunk_reader.ChunkReader.{ChunkReader}
 use Rattle.wsn_scan.specs.declared.scan.Scan.{Scan}
 use Rattle.wsn_scan.proofs.ReaderCalls.{begins, answers, refused_done, fills, ends, halts, reading_of, used_by}
@@ -77,7 +76,7 @@ returns-in-Some-clause-falls g c = search rules
 pub loop-self-smaller : goal.loop-self-smaller
 loop-self-smaller g c =
     let was : c.fill.result ≡ Ok None = c.in_ok-verdict-in-More.was ∙ ap (λ (v : Option Verdict). Ok v) c.in_default.is in
-    subst (λ (chunks : ChunkReader). reads_left c.fill.new.self.chunks < reads_left chunks) c.step.ensures.chunks (c.fill.ensures.falls was)
+    subst (λ (chunks : ChunkReader). chunks_ahead c.fill.new.self.chunks < chunks_ahead chunks) c.step.ensures.chunks (c.fill.ensures.falls was)
 
 pub loop-self-preserved : goal.loop-self-preserved
 loop-self-preserved g c =

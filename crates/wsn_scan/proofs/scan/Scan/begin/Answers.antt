@@ -23,42 +23,42 @@ pub returns-then-not-takes-clause-none : goal.returns-then-not-takes-clause-none
 returns-then-not-takes-clause-none c =
     let start = c.args.start in
     let end = start + c.min-count.result in
-    let within : end ≤ length c.args.piece.now = omega (arith, c.requires.within, c.min-count.ensures) in
-    (refl, masked_back c.args.head.now.key start end c.args.piece.now c.unmask.new.bytes (omega arith) within c.unmask.ensures c.unmask-then-not-takes.new.bytes c.unmask-then-not-takes.ensures)
+    let within : end ≤ length c.args.chunk.now = omega (arith, c.requires.within, c.min-count.ensures) in
+    (refl, masked_back c.args.head.now.key start end c.args.chunk.now c.unmask.new.bytes (omega arith) within c.unmask.ensures c.unmask-then-not-takes.new.bytes c.unmask-then-not-takes.ensures)
 
 pub returns-then-not-takes-clause-cut : goal.returns-then-not-takes-clause-cut
 returns-then-not-takes-clause-cut c empty role limits group bytes is_open is_head =
     let head = c.args.head.now in
     let start = c.args.start in
     let end = start + c.min-count.result in
-    let piece = c.args.piece.now in
-    let within : end ≤ length piece = omega (arith, c.requires.within, c.min-count.ensures) in
+    let chunk = c.args.chunk.now in
+    let within : end ≤ length chunk = omega (arith, c.requires.within, c.min-count.ensures) in
     let checked = c.new-check.ensures group is_open (goes_on role limits group head bytes is_head) (begins role limits group head bytes is_head) in
-    let fed_is = payload_after head.key start end piece c.unmask.new.bytes (omega arith) within c.unmask.ensures in
-    let size = ap (λ (bs : List ℕ). length bs) fed_is ∙ length-unmasked_by head.key 0 (mid_of start (end - start) piece) ∙ mid_len start end piece within in
+    let fed_is = payload_after head.key start end chunk c.unmask.new.bytes (omega arith) within c.unmask.ensures in
+    let size = ap (λ (bs : List ℕ). length bs) fed_is ∙ length-unmasked_by head.key 0 (mid_of start (end - start) chunk) ∙ mid_len start end chunk within in
     let no_more : end - start ≡ 0 = omega (arith, c.min-count.ensures, empty) in
     let row = c.takes.ensures.cut (search rules) (size ∙ no_more) group (first_byte head.first.fin head.first.op) checked (first_byte_fields head.first.fin head.first.op).fin_is in
     cut_at_start role limits group head bytes is_head c.new-check.result checked empty row.0 row.1
 
 pub returns-clause-taken : goal.returns-clause-taken
-returns-clause-taken c role limits bytes rest fs in_piece has_consumed none some is_head =
+returns-clause-taken c role limits bytes rest fs in_chunk has_consumed none some is_head =
     let head = c.args.head.now in
     let start = c.args.start in
     let count = c.min-count.result in
     let end = start + count in
-    let piece = c.args.piece.now in
+    let chunk = c.args.chunk.now in
     let group = unfinished fs in
     let first = first_byte head.first.fin head.first.op in
-    let wire = mid_of start (end - start) piece in
-    let came = take end piece in
-    let within : end ≤ length piece = omega (arith, c.requires.within, c.min-count.ensures) in
-    let size : length wire ≡ count = mid_len start end piece within ∙ omega arith in
-    let parts : came ≡ take start piece ++ wire = head_and_payload start end piece (omega arith) in
-    let in_came : IsBytes came = bytes_take end piece in_piece in
-    let in_wire : IsBytes wire = IsBytes-right (take start piece) wire (subst IsBytes parts in_came) in
+    let wire = mid_of start (end - start) chunk in
+    let came = take end chunk in
+    let within : end ≤ length chunk = omega (arith, c.requires.within, c.min-count.ensures) in
+    let size : length wire ≡ count = mid_len start end chunk within ∙ omega arith in
+    let parts : came ≡ take start chunk ++ wire = head_and_payload start end chunk (omega arith) in
+    let in_came : IsBytes came = bytes_take end chunk in_chunk in
+    let in_wire : IsBytes wire = IsBytes-right (take start chunk) wire (subst IsBytes parts in_came) in
     let is_open : IsOpenMessage c.args.message.now group = subst (λ (m : Option OpenMessage). IsOpenMessage m group) (sym c.requires.open) has_consumed.message in
-    let checked = c.new-check.ensures group is_open (goes_on role limits group head (rest ++ take start piece) is_head) (begins role limits group head (rest ++ take start piece) is_head) in
-    let fed_is = payload_after head.key start end piece c.unmask.new.bytes (omega arith) within c.unmask.ensures in
+    let checked = c.new-check.ensures group is_open (goes_on role limits group head (rest ++ take start chunk) is_head) (begins role limits group head (rest ++ take start chunk) is_head) in
+    let fed_is = payload_after head.key start end chunk c.unmask.new.bytes (omega arith) within c.unmask.ensures in
     let fed_size = ap (λ (bs : List ℕ). length bs) fed_is ∙ length-unmasked_by head.key 0 wire ∙ size in
     let yes : c.takes.result ≡ true = search rules in
     let fed : IsChecked group first head.len [] (unmasked_by head.key 0 wire) (Ok c.takes.new.check) =
@@ -68,10 +68,10 @@ returns-clause-taken c role limits bytes rest fs in_piece has_consumed none some
     let no_more : count ≡ head.len = omega (arith, c.min-count.ensures, empty) in
     let last : nat_eq count head.len ≡ true = search (rules, no_more) in
     c.takes.ensures.whole yes last (omega (arith, fed_size, c.min-count.ensures, empty)) group first checked (first_byte_fields head.first.fin head.first.op).fin_is in
-    let whole : rest ++ came ≡ (rest ++ take start piece) ++ wire = ap (λ (bs : List ℕ). rest ++ bs) parts ∙ sym (append_assoc rest (take start piece) wire) in
-    let holds = holds_begun role limits group head c.new-check.result c.takes.new.check (rest ++ take start piece) wire (rest ++ came) whole in_wire is_head checked (omega (arith, size, c.min-count.ensures)) fed quiet in
-    let added = c.add_part.ensures.taken role limits bytes rest came wire [] (unmasked_by head.key 0 wire) fs has_consumed none in_came (length-take-le end piece within) holds (sym size) (omega (arith, size, c.min-count.ensures)) refl in
-    let shown = drop_mid start count piece c.unmask.new.bytes head.key within c.unmask.ensures in (
+    let whole : rest ++ came ≡ (rest ++ take start chunk) ++ wire = ap (λ (bs : List ℕ). rest ++ bs) parts ∙ sym (append_assoc rest (take start chunk) wire) in
+    let holds = holds_begun role limits group head c.new-check.result c.takes.new.check (rest ++ take start chunk) wire (rest ++ came) whole in_wire is_head checked (omega (arith, size, c.min-count.ensures)) fed quiet in
+    let added = c.add_part.ensures.taken role limits bytes rest came wire [] (unmasked_by head.key 0 wire) fs has_consumed none in_came (length-take-le end chunk within) holds (sym size) (omega (arith, size, c.min-count.ensures)) refl in
+    let shown = drop_mid start count chunk c.unmask.new.bytes head.key within c.unmask.ensures in (
       record {
         frames = added.frames;
         since = added.since;
@@ -80,7 +80,7 @@ returns-clause-taken c role limits bytes rest fs in_piece has_consumed none some
         found = record {
           before = [];
           is_at = (refl, refl);
-          goes_on = begun_part fs c.add_part.new.part (unmasked_by head.key 0 wire) _ added.frames added.position (ap (λ (n : ℕ). drop n (take end (put_mid start (end - start) piece c.unmask.new.bytes))) c.add_part.ensures.start ∙ shown) added.found;
+          goes_on = begun_part fs c.add_part.new.part (unmasked_by head.key 0 wire) _ added.frames added.position (ap (λ (n : ℕ). drop n (take end (put_mid start (end - start) chunk c.unmask.new.bytes))) c.add_part.ensures.start ∙ shown) added.found;
         };
       },
       (
@@ -89,8 +89,8 @@ returns-clause-taken c role limits bytes rest fs in_piece has_consumed none some
       ),
     )
 
-pub overflow_sub-piece : goal.overflow_sub-piece
-overflow_sub-piece c = search rules
+pub overflow_sub-chunk : goal.overflow_sub-chunk
+overflow_sub-chunk c = search rules
 
 pub overflow_add-end : goal.overflow_add-end
 overflow_add-end c = search rules
@@ -128,8 +128,8 @@ slice_bounds-unmask-end-then-not-takes c = search rules
 pub unmask-requires-then-not-takes : goal.unmask-requires-then-not-takes
 unmask-requires-then-not-takes c = search rules
 
-pub shape_of-piece-then-not-takes : goal.shape_of-piece-then-not-takes
-shape_of-piece-then-not-takes c = search rules
+pub shape_of-chunk-then-not-takes : goal.shape_of-chunk-then-not-takes
+shape_of-chunk-then-not-takes c = search rules
 
 pub add_part-requires-clause-fits : goal.add_part-requires-clause-fits
 add_part-requires-clause-fits c = search rules
@@ -137,8 +137,8 @@ add_part-requires-clause-fits c = search rules
 pub add_part-requires-clause-open : goal.add_part-requires-clause-open
 add_part-requires-clause-open c = search rules
 
-pub shape_of-piece : goal.shape_of-piece
-shape_of-piece c = search rules
+pub shape_of-chunk : goal.shape_of-chunk
+shape_of-chunk c = search rules
 
 pub returns-clause-start : goal.returns-clause-start
 returns-clause-start c = search rules
@@ -147,5 +147,5 @@ pub returns-clause-part : goal.returns-clause-part
 returns-clause-part c =
     let start = c.args.start in
     let end = start + c.min-count.result in
-    let kept = kept_after_frame c.args.head.now.key start end c.args.piece.now c.unmask.new.bytes (omega arith) (omega (arith, c.requires.within, c.min-count.ensures)) c.unmask.ensures in
+    let kept = kept_after_frame c.args.head.now.key start end c.args.chunk.now c.unmask.new.bytes (omega arith) (omega (arith, c.requires.within, c.min-count.ensures)) c.unmask.ensures in
     ((search rules, kept, search rules), (search rules, grind (arith, common_steps), search rules), search rules)

@@ -16,31 +16,31 @@ use Rattle.wsn_scan.specs.Scans.{HasConsumed}
 use Rattle.wsn_scan.proofs.scan.Scan.begin_slow.Goals as goal
 
 pub returns-then-head-eq0-clause-taken : goal.returns-then-head-eq0-clause-taken
-returns-then-head-eq0-clause-taken c role limits bytes rest fs in_piece has_consumed none some is_head =
+returns-then-head-eq0-clause-taken c role limits bytes rest fs in_chunk has_consumed none some is_head =
     let head = c.args.head.now in
     let start = c.args.start in
-    let piece = c.args.piece.now in
+    let chunk = c.args.chunk.now in
     let group = unfinished fs in
-    let last = take start piece in
+    let last = take start chunk in
     let same : c.begin.new.self ≡ c.args.self.now = c.in_default.ensures.none.0 in
     let room = ap (λ (s : Scan). s.room) same in
     let consumed = subst (λ (s : Scan). HasConsumed role limits s bytes fs rest) (sym same) has_consumed in
     let is_evident = c.in_default.ensures.cut c.if-head-eq0.true role limits group (rest ++ last) has_consumed.message is_head in
-    let there = refuses role limits c.begin.new.self bytes rest last fs BetweenFrames start TextCut consumed none (length-take-le start piece c.requires.within) (omega (arith, c.requires, room)) (bytes_take start piece in_piece) some is_evident
+    let there = refuses role limits c.begin.new.self bytes rest last fs BetweenFrames start TextCut consumed none (length-take-le start chunk c.requires.within) (omega (arith, c.requires, room)) (bytes_take start chunk in_chunk) some is_evident
     (inr (inl (refl, none, cut_begins_none role limits fs head (rest ++ last) TextCut is_head is_evident.is_evident))) (none_taken fs (bytes ++ last) BetweenFrames refl) in
     rw (c.refuse.ensures.reported.0, c.refuse.ensures.reported.1, c.refuse.ensures.after) (record { frames = fs; since = rest ++ last; position = BetweenFrames; has_scanned = there; found = (refl, refl) }, tt)
 
 pub returns-clause-taken : goal.returns-clause-taken
-returns-clause-taken c role limits bytes rest fs in_piece has_consumed none some is_head =
+returns-clause-taken c role limits bytes rest fs in_chunk has_consumed none some is_head =
     let head = c.args.head.now in
     let start = c.args.start in
-    let piece = c.args.piece.now in
+    let chunk = c.args.chunk.now in
     let group = unfinished fs in
-    let last = take start piece in
+    let last = take start chunk in
     let checked = c.new-check.ensures group has_consumed.message (goes_on role limits group head (rest ++ last) is_head) (begins role limits group head (rest ++ last) is_head) in
     let holds = starts role limits group head (rest ++ last) is_head c.new-check.result checked (omega (arith, c.if-head-eq0.false)) in
     let consumed = subst (λ (s : Scan). HasConsumed role limits s bytes fs rest) (sym c.in_default.ensures.none.0) has_consumed in
-    let added = c.add_part.ensures.taken role limits bytes rest last [] [] [] fs consumed none (bytes_take start piece in_piece) (length-take-le start piece c.requires.within) holds refl (omega arith) (unmasked_nothing head.key) in (
+    let added = c.add_part.ensures.taken role limits bytes rest last [] [] [] fs consumed none (bytes_take start chunk in_chunk) (length-take-le start chunk c.requires.within) holds refl (omega arith) (unmasked_nothing head.key) in (
       record {
         frames = added.frames;
         since = added.since;
@@ -49,7 +49,7 @@ returns-clause-taken c role limits bytes rest fs in_piece has_consumed none some
         found = record {
           before = [];
           is_at = (refl, refl);
-          goes_on = begun_part fs c.add_part.new.part [] _ added.frames added.position (ap (λ (n : ℕ). drop n (take start c.begin.new.piece)) c.add_part.ensures.start ∙ none_shown start c.begin.new.piece) added.found;
+          goes_on = begun_part fs c.add_part.new.part [] _ added.frames added.position (ap (λ (n : ℕ). drop n (take start c.begin.new.chunk)) c.add_part.ensures.start ∙ none_shown start c.begin.new.chunk) added.found;
         };
       },
       (λ more. some, λ is. inr (refl, c.add_part.ensures.start)),

@@ -2,19 +2,19 @@ use Rattle.std.proofs.Common.{◌≡◌, ◌∙◌, ◌+◌, ◌-◌, ◌<◌, �
 use borrow.Rule.Slice.PartMut.{mid_of, put_mid}
 use Rattle.wsn_wire.specs.Frame.{IsBytes}
 use Rattle.wsn_scan.specs.Feeding.{heads_in}
-use Rattle.wsn_scan.proofs.FedPieces.{IsFedTo, bytes_below, bytes_after, share_is, takes_none, fed_further}
+use Rattle.wsn_scan.proofs.FedChunks.{IsFedTo, bytes_below, bytes_after, share_is, takes_none, fed_further}
 use Rattle.wsn_scan.proofs.FoundHeads.{takes_by, takes_on, takes_some, runs_on, none_refused}
 use Rattle.wsn_scan.proofs.EventHeads.{events_taken}
 use Rattle.wsn_scan.proofs.scan.Scan.feed.Goals as goal
 
 pub loop-at-init : goal.loop-at-init
 loop-at-init c = record {
-  in_bytes = bytes_below c.args.piece.now (λ i. let below = c.type_inv.piece i in omega (arith, below));
+  in_bytes = bytes_below c.args.chunk.now (λ i. let below = c.type_inv.chunk i in omega (arith, below));
   within = omega arith;
   size = refl;
   kept = refl;
   room = omega arith;
-  consumes = ([], takes_none c.args.self.now c.args.piece.now);
+  consumes = ([], takes_none c.args.self.now c.args.chunk.now);
 }
 
 pub returns-in-Refused : goal.returns-in-Refused
@@ -23,14 +23,14 @@ returns-in-Refused c =
     let call = c.next-taken in
     let taken = call.result.0 in
     let known = c.loop-at.invariant in
-    let share = mid_of at (length c.loop-at.piece - at) c.loop-at.piece in
-    let is : share ≡ drop at c.args.piece.now = share_is at c.loop-at.piece ∙ known.kept in
+    let share = mid_of at (length c.loop-at.chunk - at) c.loop-at.chunk in
+    let is : share ≡ drop at c.args.chunk.now = share_is at c.loop-at.chunk ∙ known.kept in
     record {
       count = at + taken;
-      within = omega (arith, length-drop at c.args.piece.now, ap (λ (bs : List ℕ). length bs) is, call.ensures.within, known.within);
+      within = omega (arith, length-drop at c.args.chunk.now, ap (λ (bs : List ℕ). length bs) is, call.ensures.within, known.within);
       room = omega (arith, call.ensures.room, known.room);
       heads = known.consumes.0 ++ heads_in call.result.1 call.new.part;
-      consumes = takes_on c.args.self.now c.loop-at.self call.new.self c.args.piece.now share call.new.piece at taken call.result.1 call.new.part known.consumes.0 known.in_bytes is known.consumes.1 call.ensures.taken;
+      consumes = takes_on c.args.self.now c.loop-at.self call.new.self c.args.chunk.now share call.new.chunk at taken call.result.1 call.new.part known.consumes.0 known.in_bytes is known.consumes.1 call.ensures.taken;
       all = λ none. absurd (none_refused call.new.self (call.ensures.reported.1 c.in-Refused.is) (sym c.refusal.ensures ∙ none));
       answered = c.refusal.ensures;
     }
@@ -38,42 +38,42 @@ returns-in-Refused c =
 pub loop-at-smaller : goal.loop-at-smaller
 loop-at-smaller c =
     let at = c.loop-at.at in
-    let piece = c.args.piece.now in
-    let here = c.loop-at.piece in
+    let chunk = c.args.chunk.now in
+    let here = c.loop-at.chunk in
     let known = c.loop-at.invariant in
     let call = c.next-taken in
     let taken = call.result.0 in
     let share = mid_of at (length here - at) here in
-    let is : share ≡ drop at piece = share_is at here ∙ known.kept in
-    let size : length share ≡ length (drop at piece) = ap (λ (bs : List ℕ). length bs) is in
-    let some : 0 < length share = omega (arith, length-drop at piece, size, c.loop-at-test.true, known.size) in
-    let running = runs_on c.args.self.now c.loop-at.self piece at known.consumes.0 c.requires.begun known.consumes.1 in
-    let in_share : IsBytes share = subst IsBytes (sym is) (bytes_after at piece known.in_bytes) in
-    let one = takes_some c.loop-at.self call.new.self share call.new.piece taken call.result.1 call.new.part call.ensures.taken in_share running c.in_default.not-Refused some in
-    omega (arith, length-drop at piece, size, one, c.loop-at-test.true, known.size)
+    let is : share ≡ drop at chunk = share_is at here ∙ known.kept in
+    let size : length share ≡ length (drop at chunk) = ap (λ (bs : List ℕ). length bs) is in
+    let some : 0 < length share = omega (arith, length-drop at chunk, size, c.loop-at-test.true, known.size) in
+    let running = runs_on c.args.self.now c.loop-at.self chunk at known.consumes.0 c.requires.begun known.consumes.1 in
+    let in_share : IsBytes share = subst IsBytes (sym is) (bytes_after at chunk known.in_bytes) in
+    let one = takes_some c.loop-at.self call.new.self share call.new.chunk taken call.result.1 call.new.part call.ensures.taken in_share running c.in_default.not-Refused some in
+    omega (arith, length-drop at chunk, size, one, c.loop-at-test.true, known.size)
 
 pub loop-at-preserved : goal.loop-at-preserved
 loop-at-preserved c =
     let at = c.loop-at.at in
-    let piece = c.args.piece.now in
-    let here = c.loop-at.piece in
+    let chunk = c.args.chunk.now in
+    let here = c.loop-at.chunk in
     let known = c.loop-at.invariant in
     let call = c.next-taken in
     let taken = call.result.0 in
     let mid = call.new.self in
     let share = mid_of at (length here - at) here in
-    let is : share ≡ drop at piece = share_is at here ∙ known.kept in
-    let running = runs_on c.args.self.now c.loop-at.self piece at known.consumes.0 c.requires.begun known.consumes.1 in
+    let is : share ≡ drop at chunk = share_is at here ∙ known.kept in
+    let running = runs_on c.args.self.now c.loop-at.self chunk at known.consumes.0 c.requires.begun known.consumes.1 in
     let heads = heads_in call.result.1 call.new.part in
-    let in_share : IsBytes share = subst IsBytes (sym is) (bytes_after at piece known.in_bytes) in
-    let first = takes_by c.loop-at.self mid share call.new.piece taken call.result.1 call.new.part call.ensures.taken in_share in
-    let fed : IsFedTo c.args.self.now c.loop-at.self piece here at = record { in_bytes = known.in_bytes; within = known.within; size = known.size; kept = known.kept; room = known.room; consumes = known.consumes } in
-    let there = put_mid at (length here - at) here call.new.piece in
-    let next = fed_further c.args.self.now c.loop-at.self mid piece here call.new.piece at taken fed call.ensures.within call.auto.piece call.ensures.kept call.ensures.room (λ in_bytes. (heads, first)) in
+    let in_share : IsBytes share = subst IsBytes (sym is) (bytes_after at chunk known.in_bytes) in
+    let first = takes_by c.loop-at.self mid share call.new.chunk taken call.result.1 call.new.part call.ensures.taken in_share in
+    let fed : IsFedTo c.args.self.now c.loop-at.self chunk here at = record { in_bytes = known.in_bytes; within = known.within; size = known.size; kept = known.kept; room = known.room; consumes = known.consumes } in
+    let there = put_mid at (length here - at) here call.new.chunk in
+    let next = fed_further c.args.self.now c.loop-at.self mid chunk here call.new.chunk at taken fed call.ensures.within call.auto.chunk call.ensures.kept call.ensures.room (λ in_bytes. (heads, first)) in
     let events = c.take_events-at in
     let left = mid_of (at + taken) (length there - (at + taken)) there in
-    let more = events_taken mid events.new.self left events.new.piece events.result events.ensures.taken events.ensures.none (runs_on c.loop-at.self mid share taken heads running first) in
-    let all = fed_further c.args.self.now mid events.new.self piece there events.new.piece (at + taken) events.result next events.ensures.within events.auto.piece events.ensures.kept events.ensures.room (λ in_bytes. more) in
+    let more = events_taken mid events.new.self left events.new.chunk events.result events.ensures.taken events.ensures.none (runs_on c.loop-at.self mid share taken heads running first) in
+    let all = fed_further c.args.self.now mid events.new.self chunk there events.new.chunk (at + taken) events.result next events.ensures.within events.auto.chunk events.ensures.kept events.ensures.room (λ in_bytes. more) in
     record {
       in_bytes = all.in_bytes;
       within = all.within;

@@ -4,16 +4,16 @@ use Rattle.wsn_rules.specs.declared.head_info.HeadInfo.{HeadInfo}
 use Rattle.wsn_scan.specs.Feeding.{ConsumesPrefix}
 use Rattle.wsn_scan.proofs.scan.Scan.feed.Given as goal
 
--- The scan has consumed the piece so far, and the rest of the piece is unchanged.
+-- The scan has consumed the chunk so far, and the rest of the chunk is unchanged.
 abbrev pub invariant-loop-at : goal.invariant-loop-at
 invariant-loop-at l = record {
-  in_bytes : IsBytes l.fn.piece;
-  within : l.at ≤ length l.fn.piece;
-  size : length l.piece ≡ length l.fn.piece;
-  kept : drop l.at l.piece ≡ drop l.at l.fn.piece;
+  in_bytes : IsBytes l.fn.chunk;
+  within : l.at ≤ length l.fn.chunk;
+  size : length l.chunk ≡ length l.fn.chunk;
+  kept : drop l.at l.chunk ≡ drop l.at l.fn.chunk;
   room : l.self.room + l.at ≡ l.fn.self.room;
-  consumes : (more : List HeadInfo) × ConsumesPrefix l.fn.self l.self l.fn.piece l.at more;
+  consumes : (more : List HeadInfo) × ConsumesPrefix l.fn.self l.self l.fn.chunk l.at more;
 }
 
 abbrev pub decreases-loop-at : goal.decreases-loop-at
-decreases-loop-at l = length l.initial.piece - l.at
+decreases-loop-at l = length l.initial.chunk - l.at

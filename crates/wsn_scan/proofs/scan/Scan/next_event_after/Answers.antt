@@ -12,9 +12,9 @@ use Rattle.wsn_scan.proofs.EventRuns.{IsPastEvent, after_frames, takes_event}
 use Rattle.wsn_scan.proofs.scan.Scan.next_event_after.Goals as goal
 
 pub returns-clause-taken : goal.returns-clause-taken
-returns-clause-taken c in_piece =
+returns-clause-taken c in_chunk =
     let self = c.args.self.now in
-    let piece = c.args.piece.now in
+    let chunk = c.args.chunk.now in
     let frame = c.in_ok-frame.frame in
     let found = c.in_ok-frame.ensures in
     let idle = c.is_idle.ensures c.if-not-is_idle.false in
@@ -27,16 +27,16 @@ returns-clause-taken c in_piece =
       used = refl;
       counts = c.with-self.ensures;
     } in
-    let takes = takes_event self next piece c.take_event_after.new.piece frame idle past found.within.1 in_piece (found.taken in_piece) in
-    subst (λ (head : HeadInfo). ConsumesPrefix self (record self { room = self.room - frame.size; used = c.taken-self.result; counts = c.with-self.result }) piece frame.size (head ∷ [])) (sym c.info-head.ensures)
-    (subst (λ (used : ℕ). ConsumesPrefix self (record self { room = self.room - frame.size; used = used; counts = c.with-self.result }) piece frame.size (info_found self.used frame ∷ [])) (sym c.taken-self.ensures)
-    (event_head self next piece c.take_event_after.new.piece frame idle takes))
+    let takes = takes_event self next chunk c.take_event_after.new.chunk frame idle past found.within.1 in_chunk (found.taken in_chunk) in
+    subst (λ (head : HeadInfo). ConsumesPrefix self (record self { room = self.room - frame.size; used = c.taken-self.result; counts = c.with-self.result }) chunk frame.size (head ∷ [])) (sym c.info-head.ensures)
+    (subst (λ (used : ℕ). ConsumesPrefix self (record self { room = self.room - frame.size; used = used; counts = c.with-self.result }) chunk frame.size (info_found self.used frame ∷ [])) (sym c.taken-self.ensures)
+    (event_head self next chunk c.take_event_after.new.chunk frame idle takes))
 
 pub returns-clause-part : goal.returns-clause-part
 returns-clause-part c =
     let self = c.args.self.now in
-    let piece = c.args.piece.now in
-    let after = c.take_event_after.new.piece in
+    let chunk = c.args.chunk.now in
+    let after = c.take_event_after.new.chunk in
     let frame = c.in_ok-frame.frame in
     let found = c.in_ok-frame.ensures in
     let idle = c.is_idle.ensures c.if-not-is_idle.false in
@@ -49,9 +49,9 @@ returns-clause-part c =
       used = refl;
       counts = c.with-self.ensures;
     } in
-    subst (λ (head : HeadInfo). AdvancesFrom self.stage self (record self { room = self.room - frame.size; used = c.taken-self.result; counts = c.with-self.result }) piece after frame.size taken.Part (whole_part head frame.size)) (sym c.info-head.ensures)
-    (subst (λ (used : ℕ). AdvancesFrom self.stage self (record self { room = self.room - frame.size; used = used; counts = c.with-self.result }) piece after frame.size taken.Part (whole_part (info_found self.used frame) frame.size)) (sym c.taken-self.ensures)
-    (event_part self next piece after frame idle (λ in_piece. takes_event self next piece after frame idle past found.within.1 in_piece (found.taken in_piece)) found.within.0 (omega (arith, found.within, c.take_event_after.auto.piece))))
+    subst (λ (head : HeadInfo). AdvancesFrom self.stage self (record self { room = self.room - frame.size; used = c.taken-self.result; counts = c.with-self.result }) chunk after frame.size taken.Part (whole_part head frame.size)) (sym c.info-head.ensures)
+    (subst (λ (used : ℕ). AdvancesFrom self.stage self (record self { room = self.room - frame.size; used = used; counts = c.with-self.result }) chunk after frame.size taken.Part (whole_part (info_found self.used frame) frame.size)) (sym c.taken-self.ensures)
+    (event_part self next chunk after frame idle (λ in_chunk. takes_event self next chunk after frame idle past found.within.1 in_chunk (found.taken in_chunk)) found.within.0 (omega (arith, found.within, c.take_event_after.auto.chunk))))
 
 pub returns-clause-first : goal.returns-clause-first
 returns-clause-first c = (

@@ -16,7 +16,7 @@ pub returns-in-Between-clause-taken : goal.returns-in-Between-clause-taken
 returns-in-Between-clause-taken c role limits bytes rest fs at in_bytes has_scanned =
     let there = subst (λ (stage : Stage). HasScannedAt role limits c.args.self.now stage bytes fs rest at) c.in-Between.is has_scanned in
     let scanned = subst (λ (bs : List ℕ). HasScanned role limits c.args.self.now bs fs rest at) (sym (append-nil bytes)) has_scanned in
-    let none : length c.args.piece.now ≡ 0 = search (rules, c.is_empty.ensures, c.if-is_empty.true) in
+    let none : length c.args.chunk.now ≡ 0 = search (rules, c.is_empty.ensures, c.if-is_empty.true) in
     (record { frames = fs; since = rest; position = at; has_scanned = scanned; found = (refl, refl, there.is_at.0) }, sym none)
 
 pub returns-in-Between-2-clause-taken : goal.returns-in-Between-2-clause-taken
@@ -24,9 +24,9 @@ returns-in-Between-2-clause-taken c role limits bytes rest fs at in_bytes has_sc
     let there = subst (λ (stage : Stage). HasScannedAt role limits c.args.self.now stage bytes fs rest at) c.in-Between-2.is has_scanned in
     let nothing : c.new.result.items ≡ [] = c.new.ensures in
     let same : rest ≡ c.new.result.items = there.is_at.1 ∙ sym nothing in
-    let some : 0 < length c.args.piece.now = search (rules, c.is_empty.ensures, c.if-is_empty.false) in
-    from_between role limits c.next_head.new.self (bytes ++ take c.next_head.result.0 c.args.piece.now) c.next_head.result.1 c.next_head.new.part fs at
-    (drop c.next_head.new.part.start (take c.next_head.result.0 c.next_head.new.piece)) there.is_at.2
+    let some : 0 < length c.args.chunk.now = search (rules, c.is_empty.ensures, c.if-is_empty.false) in
+    from_between role limits c.next_head.new.self (bytes ++ take c.next_head.result.0 c.args.chunk.now) c.next_head.result.1 c.next_head.new.part fs at
+    (drop c.next_head.new.part.start (take c.next_head.result.0 c.next_head.new.chunk)) there.is_at.2
     (c.next_head.ensures.taken role limits bytes fs in_bytes (subst (λ (bs : List ℕ). HasConsumed role limits c.args.self.now bytes fs bs) same there.has_consumed) there.is_at.0
     (subst (λ (bs : List ℕ). IsHeadSoFar role limits (unfinished fs) bs) (sym nothing) (nothing_so_far role limits (unfinished fs))) (omega (arith, some)))
 
@@ -36,8 +36,8 @@ returns-in-Head-clause-taken c role limits bytes rest fs at in_bytes has_scanned
     let begun = c.replace-begun.result.items in
     let same : rest ≡ begun = there.is_at.1.0 ∙ ap (λ v. v.items) (sym c.replace-begun.ensures.value) in
     let some : 0 < length begun = some_length begun (subst (λ (bs : List ℕ). bs ≢ []) same there.is_at.1.1) in
-    from_between role limits c.next_head-in-Head.new.self (bytes ++ take c.next_head-in-Head.result.0 c.args.piece.now) c.next_head-in-Head.result.1 c.next_head-in-Head.new.part fs at
-    (drop c.next_head-in-Head.new.part.start (take c.next_head-in-Head.result.0 c.next_head-in-Head.new.piece)) there.is_at.2
+    from_between role limits c.next_head-in-Head.new.self (bytes ++ take c.next_head-in-Head.result.0 c.args.chunk.now) c.next_head-in-Head.result.1 c.next_head-in-Head.new.part fs at
+    (drop c.next_head-in-Head.new.part.start (take c.next_head-in-Head.result.0 c.next_head-in-Head.new.chunk)) there.is_at.2
     (c.next_head-in-Head.ensures.taken role limits bytes fs in_bytes
     (same_scan role limits c.args.self.now _ bytes begun fs refl refl refl refl (subst (λ (bs : List ℕ). HasConsumed role limits c.args.self.now bytes fs bs) same there.has_consumed)) there.is_at.0
     (subst (λ (bs : List ℕ). IsHeadSoFar role limits (unfinished fs) bs) same there.is_at.1.2) (omega (arith, some)))
@@ -100,13 +100,13 @@ pub returns-in-Between-2-clause-refused : goal.returns-in-Between-2-clause-refus
 returns-in-Between-2-clause-refused c is role limits bytes rest fs at has_scanned =
     let there = subst (λ (stage : Stage). HasScannedAt role limits c.args.self.now stage bytes fs rest at) c.in-Between-2.is has_scanned in
     let n = c.next_head.result.0 in
-    ap (λ (bs : List ℕ). take n bs) (c.next_head.ensures.untouched (λ part. let both : taken.Refused ≡ taken.Part = sym is ∙ part in cc)) ∙ same_between at (take n c.args.piece.now) there.is_at.2
+    ap (λ (bs : List ℕ). take n bs) (c.next_head.ensures.untouched (λ part. let both : taken.Refused ≡ taken.Part = sym is ∙ part in cc)) ∙ same_between at (take n c.args.chunk.now) there.is_at.2
 
 pub returns-in-Head-clause-refused : goal.returns-in-Head-clause-refused
 returns-in-Head-clause-refused c is role limits bytes rest fs at has_scanned =
     let there = subst (λ (stage : Stage). HasScannedAt role limits c.args.self.now stage bytes fs rest at) c.in-Head.is has_scanned in
     let n = c.next_head-in-Head.result.0 in
-    ap (λ (bs : List ℕ). take n bs) (c.next_head-in-Head.ensures.untouched (λ part. let both : taken.Refused ≡ taken.Part = sym is ∙ part in cc)) ∙ same_between at (take n c.args.piece.now) there.is_at.2
+    ap (λ (bs : List ℕ). take n bs) (c.next_head-in-Head.ensures.untouched (λ part. let both : taken.Refused ≡ taken.Part = sym is ∙ part in cc)) ∙ same_between at (take n c.args.chunk.now) there.is_at.2
 
 pub returns-in-Payload-clause-refused : goal.returns-in-Payload-clause-refused
 returns-in-Payload-clause-refused c is role limits bytes rest fs at has_scanned =

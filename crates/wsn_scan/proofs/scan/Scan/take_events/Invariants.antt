@@ -4,16 +4,16 @@ use Rattle.wsn_scan.specs.EventFrames.{TakesEvents, IsIdle}
 use Rattle.wsn_scan.proofs.EventRuns.{after_frames}
 use Rattle.wsn_scan.proofs.scan.Scan.take_events.Given as goal
 
--- The frames so far are consumed, with their events' normal form in their place, and the rest of the piece is unchanged.
+-- The frames so far are consumed, with their events' normal form in their place, and the rest of the chunk is unchanged.
 abbrev pub invariant-loop-frame : goal.invariant-loop-frame
 invariant-loop-frame l = record {
-  in_bytes : IsBytes l.fn.piece;
+  in_bytes : IsBytes l.fn.chunk;
   idle : IsIdle l.fn.self;
-  within : l.at ≤ length l.fn.piece;
-  size : length l.piece ≡ length l.fn.piece;
-  kept : drop l.at l.piece ≡ drop l.at l.fn.piece;
-  takes : TakesEvents l.fn.self (after_frames l.fn.self l.at l.counts) l.fn.piece l.piece l.at;
+  within : l.at ≤ length l.fn.chunk;
+  size : length l.chunk ≡ length l.fn.chunk;
+  kept : drop l.at l.chunk ≡ drop l.at l.fn.chunk;
+  takes : TakesEvents l.fn.self (after_frames l.fn.self l.at l.counts) l.fn.chunk l.chunk l.at;
 }
 
 abbrev pub decreases-loop-frame : goal.decreases-loop-frame
-decreases-loop-frame l = length l.initial.piece - l.at
+decreases-loop-frame l = length l.initial.chunk - l.at

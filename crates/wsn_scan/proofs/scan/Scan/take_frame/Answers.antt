@@ -9,13 +9,13 @@ use Rattle.wsn_scan.proofs.scan.Scan.take_frame.Goals as goal
 pub returns-in-None-clause-taken : goal.returns-in-None-clause-taken
 returns-in-None-clause-taken c =
     let between : c.args.self.now.stage ≡ stages.Between = c.is_between.ensures (search rules) in
-    subst (λ (stage : Stage). IfSome c.take_frame_after.result (λ count. AdvancesFrom stage c.args.self.now c.take_frame_after.new.self c.args.piece.now c.take_frame_after.new.piece count taken.Part c.take_frame_after.new.part))
+    subst (λ (stage : Stage). IfSome c.take_frame_after.result (λ count. AdvancesFrom stage c.args.self.now c.take_frame_after.new.self c.args.chunk.now c.take_frame_after.new.chunk count taken.Part c.take_frame_after.new.part))
     (sym between) c.take_frame_after.ensures.taken
 
 pub returns-in_default-clause-taken : goal.returns-in_default-clause-taken
 returns-in_default-clause-taken c =
     let between : c.args.self.now.stage ≡ stages.Between = c.is_between.ensures (search rules) in
-    subst (λ (stage : Stage). IfSome c.take_frame_within.result (λ count. AdvancesFrom stage c.args.self.now c.take_frame_within.new.self c.args.piece.now c.take_frame_within.new.piece count taken.Part c.take_frame_within.new.part))
+    subst (λ (stage : Stage). IfSome c.take_frame_within.result (λ count. AdvancesFrom stage c.args.self.now c.take_frame_within.new.self c.args.chunk.now c.take_frame_within.new.chunk count taken.Part c.take_frame_within.new.part))
     (sym between) c.take_frame_within.ensures.taken
 
 pub returns-then-not-is_between-clause-none : goal.returns-then-not-is_between-clause-none

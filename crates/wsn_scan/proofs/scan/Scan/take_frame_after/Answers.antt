@@ -12,16 +12,16 @@ use Rattle.wsn_scan.proofs.scan.Scan.take_frame_after.Goals as goal
 pub returns-clause-taken : goal.returns-clause-taken
 returns-clause-taken c =
     if_some c.begin.result
-    (λ count begun role limits bytes rest fs at in_piece has_scanned.
+    (λ count begun role limits bytes rest fs at in_chunk has_scanned.
     let head = c.in_ok-start.head in
-    let front = take c.in_ok-start.start c.args.piece.now in
+    let front = take c.in_ok-start.start c.args.chunk.now in
     let group = unfinished fs in
     let has_consumed = has_scanned.has_consumed in
     let is_open = subst (λ (m : Option OpenMessage). IsOpenMessage m group) (sym c.requires.open) has_consumed.message in
     let of_role = subst (λ (r : Role). IsHead r c.args.self.now.context.limits group head front) has_consumed.sender (c.in_ok-start.ensures.2 group is_open) in
     let of_limits = subst (λ (b : Limits). IsHead role b group head front) has_consumed.under of_role in
     let is_head = subst (λ (bs : List ℕ). IsHead role limits group head bs) (sym (ap (λ (bs : List ℕ). bs ++ front) has_scanned.is_at.1)) of_limits in
-    from_between role limits c.begin.new.self (bytes ++ take count c.args.piece.now) taken.Part c.begin.new.part fs at (drop c.begin.new.part.start (take count c.begin.new.piece)) has_scanned.is_at.2 (begun role limits bytes rest fs in_piece has_consumed has_scanned.is_at.0 c.in_ok-start.ensures.0 is_head))
+    from_between role limits c.begin.new.self (bytes ++ take count c.args.chunk.now) taken.Part c.begin.new.part fs at (drop c.begin.new.part.start (take count c.begin.new.chunk)) has_scanned.is_at.2 (begun role limits bytes rest fs in_chunk has_consumed has_scanned.is_at.0 c.in_ok-start.ensures.0 is_head))
     c.begin.ensures.taken
 
 pub returns-in_err-start-clause-taken : goal.returns-in_err-start-clause-taken

@@ -20,26 +20,26 @@ use Rattle.wsn_rules.proofs.PlanTheory.MessageFrames.{bytes_take}
 use Rattle.wsn_scan.proofs.scan.events.take_event_after.Goals as goal
 
 pub returns-clause-taken : goal.returns-clause-taken
-returns-clause-taken c in_piece =
+returns-clause-taken c in_chunk =
     let head = c.in_ok-start.head in
     let role = c.args.context.now.role in
     let limits = c.args.context.now.limits in
     let start = c.in_ok-start.start in
     let end = start + head.len in
-    let piece = c.args.piece.now in
+    let chunk = c.args.chunk.now in
     let found = c.in_ok-start.ensures in
     let plain = c.is_plain.ensures c.if-not-is_plain.false in
-    let front = take start piece in
-    let wire = mid_of start (end - start) piece in
-    let came = take end piece in
-    let within : end ≤ length piece = omega (arith, found.1, c.if-head-room.false) in
+    let front = take start chunk in
+    let wire = mid_of start (end - start) chunk in
+    let came = take end chunk in
+    let within : end ≤ length chunk = omega (arith, found.1, c.if-head-room.false) in
     let ordered : start ≤ end = omega arith in
-    let size : length wire ≡ head.len = mid_len start end piece within ∙ omega arith in
-    let parts : came ≡ front ++ wire = head_and_payload start end piece ordered in
-    let in_came : IsBytes (front ++ wire) = subst IsBytes parts (bytes_take end piece in_piece) in
+    let size : length wire ≡ head.len = mid_len start end chunk within ∙ omega arith in
+    let parts : came ≡ front ++ wire = head_and_payload start end chunk ordered in
+    let in_came : IsBytes (front ++ wire) = subst IsBytes parts (bytes_take end chunk in_chunk) in
     let in_wire : IsBytes wire = IsBytes-right front wire in_came in
-    let fed = mid_of start (end - start) (put_mid start (end - start) piece c.unmask.new.bytes) in
-    let fed_is : fed ≡ unmasked_by head.key 0 wire = payload_after head.key start end piece c.unmask.new.bytes ordered within c.unmask.ensures in (
+    let fed = mid_of start (end - start) (put_mid start (end - start) chunk c.unmask.new.bytes) in
+    let fed_is : fed ≡ unmasked_by head.key 0 wire = payload_after head.key start end chunk c.unmask.new.bytes ordered within c.unmask.ensures in (
       plain.1,
       λ fs range lawful no_close none.
           let group = unfinished fs in
@@ -51,52 +51,52 @@ returns-clause-taken c in_piece =
           subst (λ (bs : List ℕ). IsChecked group first head.len [] bs (Ok valid.1)) fed_is
           (subst (λ (n : ℕ). IsChecked group first n [] fed (Ok valid.1)) total valid.3) in
           let holds = holds_at_once role limits group head valid.0 valid.1 front wire (front ++ wire) refl in_wire is_head valid.2 (omega (arith, c.if-head-eq0.false)) size all in
-          ends_event role limits fs head valid.1 front wire range lawful none is_head holds size in_came plain.0 plain.2 piece _ end parts
-          (written_after head.key start end piece c.unmask.new.bytes ordered within c.unmask.ensures c.clear_key.new.head c.clear_key.ensures c.clear_key.auto.head),
+          ends_event role limits fs head valid.1 front wire range lawful none is_head holds size in_came plain.0 plain.2 chunk _ end parts
+          (written_after head.key start end chunk c.unmask.new.bytes ordered within c.unmask.ensures c.clear_key.new.head c.clear_key.ensures c.clear_key.auto.head),
     )
 
 pub returns-clause-kept : goal.returns-clause-kept
 returns-clause-kept c =
     let start = c.in_ok-start.start in
     let end = start + c.in_ok-start.head.len in
-    let within : end ≤ length c.args.piece.now = omega (arith, c.in_ok-start.ensures.1, c.if-head-room.false) in
-    kept_before c.in_ok-start.head.key start end c.args.piece.now c.unmask.new.bytes (omega arith) within c.unmask.ensures c.clear_key.new.head c.clear_key.auto.head
+    let within : end ≤ length c.args.chunk.now = omega (arith, c.in_ok-start.ensures.1, c.if-head-room.false) in
+    kept_before c.in_ok-start.head.key start end c.args.chunk.now c.unmask.new.bytes (omega arith) within c.unmask.ensures c.clear_key.new.head c.clear_key.auto.head
 
 pub clear_key-requires : goal.clear_key-requires
 clear_key-requires c =
     let head = c.in_ok-start.head in
     let start = c.in_ok-start.start in
     let end = start + head.len in
-    let piece = c.args.piece.now in
-    let within : end ≤ length piece = omega (arith, c.in_ok-start.ensures.1, c.if-head-room.false) in
+    let chunk = c.args.chunk.now in
+    let within : end ≤ length chunk = omega (arith, c.in_ok-start.ensures.1, c.if-head-room.false) in
     let is_head = c.in_ok-start.ensures.2 [] (subst (λ (m : Option OpenMessage). IsOpenMessage m []) (sym c.requires.none_open) refl) in
-    key_room head.key start end piece c.unmask.new.bytes (omega arith) within c.unmask.ensures (key_fits c.args.context.now.role c.args.context.now.limits [] head (take start piece) is_head)
+    key_room head.key start end chunk c.unmask.new.bytes (omega arith) within c.unmask.ensures (key_fits c.args.context.now.role c.args.context.now.limits [] head (take start chunk) is_head)
 
 pub returns-then-not-is_valid-clause-none : goal.returns-then-not-is_valid-clause-none
 returns-then-not-is_valid-clause-none c =
     let start = c.in_ok-start.start in
     let end = start + c.in_ok-start.head.len in
-    masked_back c.in_ok-start.head.key start end c.args.piece.now c.unmask.new.bytes (omega arith) (omega (arith, c.in_ok-start.ensures.1, c.if-head-room.false)) c.unmask.ensures c.unmask-then-not-is_valid.new.bytes c.unmask-then-not-is_valid.ensures
+    masked_back c.in_ok-start.head.key start end c.args.chunk.now c.unmask.new.bytes (omega arith) (omega (arith, c.in_ok-start.ensures.1, c.if-head-room.false)) c.unmask.ensures c.unmask-then-not-is_valid.new.bytes c.unmask-then-not-is_valid.ensures
 
 pub take_empty-requires : goal.take_empty-requires
 take_empty-requires c =
     let head = c.in_ok-start.head in
     let start = c.in_ok-start.start in
-    key_fits c.args.context.now.role c.args.context.now.limits [] head (take start c.args.piece.now)
+    key_fits c.args.context.now.role c.args.context.now.limits [] head (take start c.args.chunk.now)
     (c.in_ok-start.ensures.2 [] (subst (λ (m : Option OpenMessage). IsOpenMessage m []) (sym c.requires.none_open) refl))
 
 pub returns-then-head-eq0-clause-taken : goal.returns-then-head-eq0-clause-taken
-returns-then-head-eq0-clause-taken c in_piece =
+returns-then-head-eq0-clause-taken c in_chunk =
     let role = c.args.context.now.role in
     let limits = c.args.context.now.limits in
     let head = c.in_ok-start.head in
     let start = c.in_ok-start.start in
-    let piece = c.args.piece.now in
+    let chunk = c.args.chunk.now in
     let found = c.in_ok-start.ensures in
     let e = c.in_ok-frame.ensures in
     let bytes = c.take_empty.new.bytes in
-    subst (λ (frame : EventFrame). IsEventFrame role limits piece (bytes ++ drop start piece) frame) (sym e.taken)
-    (empty_event role limits head piece bytes start c.if-head-eq0.true found.1 e.cleared c.take_empty.auto.bytes in_piece
+    subst (λ (frame : EventFrame). IsEventFrame role limits chunk (bytes ++ drop start chunk) frame) (sym e.taken)
+    (empty_event role limits head chunk bytes start c.if-head-eq0.true found.1 e.cleared c.take_empty.auto.bytes in_chunk
     (λ group none. found.2 group (subst (λ (m : Option OpenMessage). IsOpenMessage m group) (sym c.requires.none_open) none)) e.plain.0 e.plain.1 e.plain.2)
 
 pub returns-clause-first : goal.returns-clause-first
@@ -104,7 +104,7 @@ returns-clause-first c =
     let head = c.in_ok-start.head in
     let start = c.in_ok-start.start in
     let is_head = c.in_ok-start.ensures.2 [] (subst (λ (m : Option OpenMessage). IsOpenMessage m []) (sym c.requires.none_open) refl) in
-    first_of c.args.context.now.role c.args.context.now.limits head c.args.piece.now start c.in_ok-start.ensures.0 is_head (c.is_plain.ensures c.if-not-is_plain.false).0
+    first_of c.args.context.now.role c.args.context.now.limits head c.args.chunk.now start c.in_ok-start.ensures.0 is_head (c.is_plain.ensures c.if-not-is_plain.false).0
 
 pub returns-then-head-eq0-clause-first : goal.returns-then-head-eq0-clause-first
 returns-then-head-eq0-clause-first c =
@@ -112,8 +112,8 @@ returns-then-head-eq0-clause-first c =
     let start = c.in_ok-start.start in
     let e = c.in_ok-frame.ensures in
     let is_head = c.in_ok-start.ensures.2 [] (subst (λ (m : Option OpenMessage). IsOpenMessage m []) (sym c.requires.none_open) refl) in
-    subst (λ (frame : EventFrame). take 1 c.args.piece.now ≡ first_byte true frame.op ∷ []) (sym e.taken)
-    (first_of c.args.context.now.role c.args.context.now.limits head c.args.piece.now start c.in_ok-start.ensures.0 is_head e.plain.0)
+    subst (λ (frame : EventFrame). take 1 c.args.chunk.now ≡ first_byte true frame.op ∷ []) (sym e.taken)
+    (first_of c.args.context.now.role c.args.context.now.limits head c.args.chunk.now start c.in_ok-start.ensures.0 is_head e.plain.0)
 
 pub returns-in_err-frame-clause-first : goal.returns-in_err-frame-clause-first
 returns-in_err-frame-clause-first c = search rules
@@ -124,27 +124,27 @@ returns-in_err-start-clause-first c = search rules
 pub returns-then-head-eq0-clause-within : goal.returns-then-head-eq0-clause-within
 returns-then-head-eq0-clause-within c =
     let start = c.in_ok-start.start in
-    let piece = c.args.piece.now in
+    let chunk = c.args.chunk.now in
     let found = c.in_ok-start.ensures in
-    let size : length (take start piece) ≡ start = length-take-le start piece found.1 in
+    let size : length (take start chunk) ≡ start = length-take-le start chunk found.1 in
     let some = found.0 in
-    subst (λ (frame : EventFrame). (0 < frame.size) × (frame.size ≤ length piece) × (frame.len ≤ frame.size)) (sym c.in_ok-frame.ensures.taken)
+    subst (λ (frame : EventFrame). (0 < frame.size) × (frame.size ≤ length chunk) × (frame.len ≤ frame.size)) (sym c.in_ok-frame.ensures.taken)
     (omega (arith, size, some), omega (arith, size, found.1), omega arith)
 
 pub returns-then-head-eq0-clause-kept : goal.returns-then-head-eq0-clause-kept
 returns-then-head-eq0-clause-kept c =
     let start = c.in_ok-start.start in
-    let piece = c.args.piece.now in
+    let chunk = c.args.chunk.now in
     let bytes = c.take_empty.new.bytes in
     let e = c.in_ok-frame.ensures in
-    subst (λ (frame : EventFrame). drop frame.size (bytes ++ drop start piece) ≡ drop frame.size piece) (sym e.taken)
-    (kept_after_head c.args.context.now.role c.args.context.now.limits c.in_ok-start.head piece bytes start c.if-head-eq0.true c.in_ok-start.ensures.1 e.cleared c.take_empty.auto.bytes)
+    subst (λ (frame : EventFrame). drop frame.size (bytes ++ drop start chunk) ≡ drop frame.size chunk) (sym e.taken)
+    (kept_after_head c.args.context.now.role c.args.context.now.limits c.in_ok-start.head chunk bytes start c.if-head-eq0.true c.in_ok-start.ensures.1 e.cleared c.take_empty.auto.bytes)
 
 pub returns-in_err-frame-clause-none : goal.returns-in_err-frame-clause-none
 returns-in_err-frame-clause-none c =
     let start = c.in_ok-start.start in
-    let piece = c.args.piece.now in
-    let same : c.take_empty.new.bytes ++ drop start piece ≡ piece = ap (λ (bs : List ℕ). bs ++ drop start piece) c.in_err-frame.ensures.none ∙ take-append-drop start piece in
+    let chunk = c.args.chunk.now in
+    let same : c.take_empty.new.bytes ++ drop start chunk ≡ chunk = ap (λ (bs : List ℕ). bs ++ drop start chunk) c.in_err-frame.ensures.none ∙ take-append-drop start chunk in
     search rules
 
 pub returns-in_err-frame-clause-taken : goal.returns-in_err-frame-clause-taken
@@ -225,14 +225,14 @@ slice_bounds-unmask-end-then-not-is_valid c = search rules
 pub unmask-requires-then-not-is_valid : goal.unmask-requires-then-not-is_valid
 unmask-requires-then-not-is_valid c = search rules
 
-pub shape_of-piece : goal.shape_of-piece
-shape_of-piece c = search rules
+pub shape_of-chunk : goal.shape_of-chunk
+shape_of-chunk c = search rules
 
 pub returns-clause-within : goal.returns-clause-within
 returns-clause-within c = search rules
 
-pub shape_of-piece-then-not-is_valid : goal.shape_of-piece-then-not-is_valid
-shape_of-piece-then-not-is_valid c = search rules
+pub shape_of-chunk-then-not-is_valid : goal.shape_of-chunk-then-not-is_valid
+shape_of-chunk-then-not-is_valid c = search rules
 
 pub whole_head_after-requires : goal.whole_head_after-requires
 whole_head_after-requires c = c.requires.first

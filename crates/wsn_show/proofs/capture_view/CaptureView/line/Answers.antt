@@ -8,9 +8,8 @@ use Rattle.wsn_capture.specs.LineEntries.{held_entry, FitsInLine}
 use Rattle.wsn_capture.specs.CaptureLines.{HasAccepted, HasNotedCloses, HasNotedUpTo, count_of}
 use Rattle.wsn_capture.proofs.AcceptedTexts.{taken_given, if_this}
 use Rattle.wsn_show.specs.declared.end_notes.EndNotes.{EndNotes}
-use Rattle.wsn_show.specs.EndNotes.{HasNotedEnd}
+use Rattle.wsn_show.specs.EndNotes.{HasNotedEnd, HasNotedTimes}
 use Rattle.wsn_show.specs.declared.last_times.LastTimes.{LastTimes}
-use Rattle.wsn_show.specs.LastTimes.{HasNotedTimes}
 use Rattle.wsn_show.specs.CaptureViews.{AreViewed, CanShow, IsAcceptedText, ShowsText}
 use Rattle.wsn_show.proofs.AcceptedLines.{line_accepted, can_show, line_short, line_shown, counted}
 use Rattle.wsn_show.proofs.capture_view.CaptureView.line.Goals as goal

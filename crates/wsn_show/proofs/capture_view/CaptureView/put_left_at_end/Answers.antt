@@ -3,11 +3,11 @@ use Rattle.std.proofs.Common.{◌≡◌, [], ◌++◌, ap, true, false, inl, inr
 use Rattle.wsn_wire.specs.declared.endpoint.Role.{Role}
 use Rattle.wsn_io.specs.Transfer.{IsWrittenUpToFailure}
 use Rattle.wsn_rules.specs.Sides.{has_ended, sent}
-use Rattle.wsn_print.specs.ShownParts.{Position}
-use Rattle.wsn_print.specs.ShownParts.Position.{AtEnd}
-use Rattle.wsn_show.specs.LastTimes.{last_time}
+use Rattle.wsn_print.specs.ShownParts.{EntryPosition}
+use Rattle.wsn_print.specs.ShownParts.EntryPosition.{AtEnd}
+use Rattle.wsn_show.specs.EndNotes.{last_time}
 use Rattle.wsn_show.specs.Styles.{styled_items}
-use Rattle.wsn_show.specs.StreamViews.{HasViewed}
+use Rattle.wsn_show.specs.ShownSoFar.{HasViewed}
 use Rattle.wsn_show.proofs.capture_view.CaptureView.put_left_at_end.Goals as goal
 
 pub returns-then-has_ended : goal.returns-then-has_ended
@@ -30,7 +30,7 @@ returns-in-Client g c limits style lines entries has =
     record {
       left = record { time = last_time c.args.role c.args.self.now.last_times; items = left.0 };
       is_left = record { time = has.times c.args.role; items = inr (going, left.1) };
-      printed = λ before text earlier. subst (λ (p : Position). IsWrittenUpToFailure before c.put_left_over.new.output (text ++ styled_items style c.args.role p left.0)) at (left.2 before text earlier);
+      printed = λ before text earlier. subst (λ (p : EntryPosition). IsWrittenUpToFailure before c.put_left_over.new.output (text ++ styled_items style c.args.role p left.0)) at (left.2 before text earlier);
     }
 
 pub returns-in-Server : goal.returns-in-Server
@@ -43,5 +43,5 @@ returns-in-Server g c limits style lines entries has =
     record {
       left = record { time = last_time c.args.role c.args.self.now.last_times; items = left.0 };
       is_left = record { time = has.times c.args.role; items = inr (going, left.1) };
-      printed = λ before text earlier. subst (λ (p : Position). IsWrittenUpToFailure before c.put_left_over-in-Server.new.output (text ++ styled_items style c.args.role p left.0)) at (left.2 before text earlier);
+      printed = λ before text earlier. subst (λ (p : EntryPosition). IsWrittenUpToFailure before c.put_left_over-in-Server.new.output (text ++ styled_items style c.args.role p left.0)) at (left.2 before text earlier);
     }

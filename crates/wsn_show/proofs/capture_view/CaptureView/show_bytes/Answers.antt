@@ -5,7 +5,7 @@ use Rattle.wsn_rules.specs.Entries.{bytes_prefix}
 use Rattle.wsn_rules.specs.Entries.Entry.{Bytes}
 use Rattle.wsn_rules.specs.Sides.{sent}
 use Rattle.wsn_capture.specs.CaptureLines.{HasAccepted, HasNotedCloses}
-use Rattle.wsn_print.specs.ShownParts.{Position}
+use Rattle.wsn_print.specs.ShownParts.{EntryPosition}
 use Rattle.wsn_capture.proofs.AcceptedLines.{judged_push}
 use Rattle.wsn_show.specs.CaptureViews.{IsAcceptedText, CanShow, ShowsText}
 use Rattle.wsn_show.proofs.ShownEntries.{Takes, shows_client, shows_server, room_for_client, room_for_server}
@@ -29,7 +29,7 @@ returns-in-Client-clause-shows g c digits hex limits style given entry viewed ac
     let is = c.in-Client.is in
     let bytes = c.args.bytes.now in
     let here = subst (λ (r : Role). IsAcceptedText limits given (bytes_prefix r ++ digits) entry) is accepted in
-    let takes = subst (λ (p : Position). Takes Client limits style c.take.new.self (sent Client given) bytes p c.args.output.now c.take.new.output) c.origin_of-origin.ensures
+    let takes = subst (λ (p : EntryPosition). Takes Client limits style c.take.new.self (sent Client given) bytes p c.args.output.now c.take.new.output) c.origin_of-origin.ensures
     (let printed = c.take.ensures.printed Client limits style (sent Client given) viewed.client in record {
       viewed = c.take.ensures.viewed Client limits style (sent Client given) viewed.client;
       shown = printed.0;
@@ -45,7 +45,7 @@ returns-in-Server-clause-shows g c digits hex limits style given entry viewed ac
     let is = c.in-Server.is in
     let bytes = c.args.bytes.now in
     let here = subst (λ (r : Role). IsAcceptedText limits given (bytes_prefix r ++ digits) entry) is accepted in
-    let takes = subst (λ (p : Position). Takes Server limits style c.take-in-Server.new.self (sent Server given) bytes p c.args.output.now c.take-in-Server.new.output) c.origin_of-origin.ensures
+    let takes = subst (λ (p : EntryPosition). Takes Server limits style c.take-in-Server.new.self (sent Server given) bytes p c.args.output.now c.take-in-Server.new.output) c.origin_of-origin.ensures
     (let printed = c.take-in-Server.ensures.printed Server limits style (sent Server given) viewed.server in record {
       viewed = c.take-in-Server.ensures.viewed Server limits style (sent Server given) viewed.server;
       shown = printed.0;

@@ -1,5 +1,5 @@
 use Rattle.std.proofs.Common.{◌≡◌, ℕ, ◌+◌, ◌≤◌, List, ◌++◌, length, take, drop}
-use Rattle.wsn_rules.specs.PlacedByte.{PlacedByte, placed}
+use Rattle.wsn_rules.specs.BadCharacter.{PlacedByte, placed}
 use Rattle.wsn_show.specs.LastPayloads.{HasLastPayload}
 use Rattle.wsn_show.proofs.last_payload.LastPayload.add.Given as goal
 

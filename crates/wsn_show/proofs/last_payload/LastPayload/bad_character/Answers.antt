@@ -1,8 +1,7 @@
 use Rattle.std.proofs.Common.{rules, ◌≡◌, ℕ, ◌+◌, ◌-◌, ◌≤◌, List, length, drop, sym, ap, ◌∙◌, arith}
 use Rattle.std.specs.Str.Lossy.{utf8_valid_len}
 use Rattle.std.proofs.lemmas.List.{length-map}
-use Rattle.wsn_rules.specs.BadCharacter.{first_offset, bytes_of}
-use Rattle.wsn_rules.specs.PlacedByte.{PlacedByte}
+use Rattle.wsn_rules.specs.BadCharacter.{first_offset, bytes_of, PlacedByte}
 use Rattle.wsn_rules.proofs.LastElements.{bytes_of_last}
 use Rattle.wsn_show.specs.LastPayloads.{placed_bytes}
 use Rattle.wsn_show.proofs.LastPayloads.{character_is}

@@ -2,14 +2,13 @@ use Rattle.std.proofs.Common.{rules, ◌≡◌, ℕ, ◌+◌, ◌-◌, ◌<◌, 
 use Rattle.std.specs.Prelude.{is_some}
 use Rattle.std.proofs.lemmas.List.{length-map}
 use Rattle.wsn_wire.specs.declared.refusal.Reason.TheVariants.{TextBad}
-use Rattle.wsn_rules.specs.BadCharacter.{payload_offset, last_of, open_payload, message_payload, earlier_end, bad_character}
+use Rattle.wsn_rules.specs.BadCharacter.{payload_offset, last_of, open_payload, message_payload, earlier_end, bad_character, PlacedByte, placed}
 use Rattle.wsn_rules.specs.Group.{unfinished, payload_of}
-use Rattle.wsn_rules.specs.PlacedByte.{PlacedByte, placed}
 use Rattle.wsn_rules.proofs.OpenPayloads.{payload_so_far}
 use Rattle.wsn_text.specs.Utf8.{IsFirstBad}
 use Rattle.wsn_scan.specs.Positions.{Position, BetweenFrames, InFrame}
 use Rattle.wsn_show.specs.LastPayloads.{HasLastPayload, GoesWrongAt, character_at, character_held}
-use Rattle.wsn_show.specs.StreamParts.{Keeps}
+use Rattle.wsn_show.specs.StreamParts.{KeepsStream}
 use Rattle.wsn_show.proofs.KeptParts.{part_of_data}
 use Rattle.wsn_show.proofs.LastPayloads.{message_goes_on}
 use Rattle.wsn_show.proofs.stream_parts.StreamParts.character_in_frame.Goals as goal
@@ -20,7 +19,7 @@ none_and_some head result none is not_none = let both : false ≡ true = sym (ap
 pub returns-clause-character : goal.returns-clause-character
 returns-clause-character c fs at rest wrong keeps = by at wrong keeps
   where
-    by : (at : Position) → GoesWrongAt TextBad fs at rest c.args.bytes.now → Keeps c.args.self.now fs at rest → Some (character_held c.bad_character.result) ≡ character_at TextBad fs at c.args.bytes.now
+    by : (at : Position) → GoesWrongAt TextBad fs at rest c.args.bytes.now → KeepsStream c.args.self.now fs at rest → Some (character_held c.bad_character.result) ≡ character_at TextBad fs at c.args.bytes.now
     by BetweenFrames wrong keeps = none_and_some c.args.self.now.head c.is_none.result keeps.frame.head c.is_none.ensures c.if-is_none.false
     by (InFrame head payload) wrong keeps =
         let bytes = c.args.bytes.now in

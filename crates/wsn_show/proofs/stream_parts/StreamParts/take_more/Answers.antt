@@ -1,6 +1,6 @@
 use Rattle.std.proofs.Common.{◌++◌, subst, arith, length-append}
 use Rattle.wsn_scan.specs.Positions.{Position}
-use Rattle.wsn_show.specs.StreamParts.{Keeps}
+use Rattle.wsn_show.specs.StreamParts.{KeepsStream}
 use Rattle.wsn_show.proofs.TakenParts.{ends, within}
 use Rattle.wsn_show.proofs.stream_parts.StreamParts.take_more.Goals as goal
 
@@ -10,7 +10,7 @@ returns-then-part g c role limits fs frames position rest before share since siz
     let small = t.small in
     let in_all = c.add_payload.ensures fs before rest share size (omega (arith, small, size)) t.few_bytes kept in
     let e = ends role limits fs rest before part c.args.payload.now share frames position since t c.if-part.true in
-    let there = subst (λ (p : Position). Keeps c.add_payload.new.self fs p (rest ++ share)) e.position_is in_all in
+    let there = subst (λ (p : Position). KeepsStream c.add_payload.new.self fs p (rest ++ share)) e.position_is in_all in
     let whole = e.size in
     e.shows c.end.new.self c.args.context.now c.args.output.now c.put_end.new.output
     (c.end.ensures fs e.frame (rest ++ share) e.is.head_is (omega (arith, whole, length-append rest share)) e.small t.few_frames there)

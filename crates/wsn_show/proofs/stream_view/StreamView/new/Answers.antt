@@ -1,6 +1,6 @@
 use Rattle.std.proofs.Common.{[], refl, arith, rules}
 use Rattle.wsn_rules.specs.Limits.{InRange}
-use Rattle.wsn_show.proofs.ShownPieces.{nothing_shown}
+use Rattle.wsn_show.proofs.ShownChunks.{nothing_shown}
 use Rattle.wsn_show.proofs.stream_view.StreamView.new.Goals as goal
 
 pub invariant_of-result : goal.invariant_of-result

@@ -8,8 +8,8 @@ use Rattle.wsn_scan.specs.Scans.{refusal_in, refusal_judged}
 use Rattle.wsn_show.specs.declared.entry_context.EntryContext.{EntryContext}
 use Rattle.wsn_show.specs.StreamParts.{items_left}
 use Rattle.wsn_show.specs.ShownItems.{Prints}
-use Rattle.wsn_show.specs.StreamViews.{Viewed, HasViewed}
-use Rattle.wsn_show.proofs.ShownPieces.{frames_of}
+use Rattle.wsn_show.specs.ShownSoFar.{Viewed, HasViewed}
+use Rattle.wsn_show.proofs.ShownChunks.{frames_of}
 use Rattle.wsn_show.proofs.StreamsShown.{leaves_unread, leaves_cut, leaves_accepted, leaves_tail, tail_held}
 use Rattle.wsn_show.proofs.ViewedStreams.{written_on}
 use Rattle.wsn_show.proofs.stream_view.StreamView.put_left_over.Goals as goal

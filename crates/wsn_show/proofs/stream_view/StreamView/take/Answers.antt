@@ -1,5 +1,5 @@
 use Rattle.std.proofs.Common.{◌≤◌, ◌++◌, length, sym, subst, refl}
-use Rattle.wsn_show.specs.StreamViews.{Viewed, HasViewed}
+use Rattle.wsn_show.specs.ShownSoFar.{Viewed, HasViewed}
 use Rattle.wsn_show.proofs.ViewedStreams.{own_shown, own_showing, small, viewed_more, shows_more}
 use Rattle.wsn_show.proofs.stream_view.StreamView.take.Goals as goal
 

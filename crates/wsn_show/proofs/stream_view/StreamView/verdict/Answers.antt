@@ -1,5 +1,5 @@
 use Rattle.std.proofs.Common.{sym, subst}
-use Rattle.wsn_show.specs.StreamViews.{Viewed, HasViewed}
+use Rattle.wsn_show.specs.ShownSoFar.{Viewed, HasViewed}
 use Rattle.wsn_show.proofs.StreamsShown.{judged}
 use Rattle.wsn_show.proofs.stream_view.StreamView.verdict.Goals as goal
 

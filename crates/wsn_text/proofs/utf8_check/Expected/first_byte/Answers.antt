@@ -1,6 +1,6 @@
 use Rattle.std.proofs.Common.{ℕ, ◌↔◌, List, ◌∷◌, inr, sym, subst, arith}
 use Rattle.wsn_text.specs.Utf8.{IsText}
-use Rattle.wsn_text.specs.Rest.{Follows}
+use Rattle.wsn_text.specs.Validated.{Follows}
 use Rattle.wsn_text.specs.Expected.{awaited}
 use Rattle.wsn_text.specs.declared.utf8_check.Expected.{Expected}
 use Rattle.wsn_text.proofs.Rests.{after_ascii, after_two, after_E0, after_E1_to_EC, after_ED, after_F0, after_F1_to_F3, after_F4, after_none}

@@ -4,16 +4,16 @@ use Rattle.wsn_text.proofs.Taking.{taken_of, ok_of, first_bad_of, after_bad_of}
 use Rattle.wsn_text.proofs.utf8_check.Utf8.feed.Goals as goal
 
 pub returns-clause-taken : goal.returns-clause-taken
-returns-clause-taken c = taken_of c.args.self.now c.take_piece.new.self c.args.piece.now c.take_piece.result c.take_piece.ensures.steps
+returns-clause-taken c = taken_of c.args.self.now c.take_chunk.new.self c.args.chunk.now c.take_chunk.result c.take_chunk.ensures.steps
 
 pub returns-clause-ok : goal.returns-clause-ok
-returns-clause-ok c = ok_of c.args.self.now c.take_piece.new.self c.args.piece.now c.take_piece.result c.take_piece.ensures.steps
+returns-clause-ok c = ok_of c.args.self.now c.take_chunk.new.self c.args.chunk.now c.take_chunk.result c.take_chunk.ensures.steps
 
 pub returns-clause-first_bad : goal.returns-clause-first_bad
-returns-clause-first_bad c = first_bad_of c.args.self.now c.take_piece.new.self c.args.piece.now c.take_piece.result c.take_piece.ensures.steps
+returns-clause-first_bad c = first_bad_of c.args.self.now c.take_chunk.new.self c.args.chunk.now c.take_chunk.result c.take_chunk.ensures.steps
 
 pub returns-clause-after_bad : goal.returns-clause-after_bad
-returns-clause-after_bad c = after_bad_of c.args.self.now c.take_piece.new.self c.args.piece.now c.take_piece.result c.take_piece.ensures.steps
+returns-clause-after_bad c = after_bad_of c.args.self.now c.take_chunk.new.self c.args.chunk.now c.take_chunk.result c.take_chunk.ensures.steps
 
 pub returns-then-is_bad-clause-ok : goal.returns-then-is_bad-clause-ok
 returns-then-is_bad-clause-ok c = grind (arith, common_steps)
@@ -43,5 +43,5 @@ returns-then-is_bad-clause-first_bad c = search rules
 pub returns-clause-within : goal.returns-clause-within
 returns-clause-within c = search rules
 
-pub take_piece-requires : goal.take_piece-requires
-take_piece-requires c = search rules
+pub take_chunk-requires : goal.take_chunk-requires
+take_chunk-requires c = search rules

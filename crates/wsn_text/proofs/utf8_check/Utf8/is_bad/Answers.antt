@@ -1,5 +1,5 @@
 use Rattle.std.proofs.Common.{ℕ, List, subst, Option}
-use Rattle.wsn_text.specs.Rest.{Follows}
+use Rattle.wsn_text.specs.Validated.{Follows}
 use Rattle.wsn_text.specs.Utf8.{Range}
 use Rattle.wsn_text.proofs.States.{follows_good}
 use Rattle.wsn_text.proofs.utf8_check.Utf8.is_bad.Goals as goal

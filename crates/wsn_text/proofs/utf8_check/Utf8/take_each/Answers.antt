@@ -1,6 +1,6 @@
 use Rattle.std.proofs.Common.{ℕ, ◌↔◌, List, ◌∷◌, get_or, Option, refl, subst, arith}
 use Rattle.wsn_text.specs.Utf8.{Range}
-use Rattle.wsn_text.specs.Rest.{Follows}
+use Rattle.wsn_text.specs.Validated.{Follows}
 use Rattle.wsn_text.specs.Expected.{awaited}
 use Rattle.wsn_text.proofs.Taking.{breaks_at}
 use Rattle.wsn_text.proofs.utf8_check.Utf8.take_each.Goals as goal

@@ -1,5 +1,5 @@
 use Rattle.std.proofs.Common.{ℕ, List}
-use Rattle.wsn_text.specs.Rest.{Follows}
+use Rattle.wsn_text.specs.Validated.{Follows}
 use Rattle.wsn_text.proofs.Taking.{TakesFirst}
 use Rattle.wsn_text.proofs.utf8_check.Utf8.take_each.Given as goal
 

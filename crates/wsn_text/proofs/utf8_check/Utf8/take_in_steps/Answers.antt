@@ -23,7 +23,7 @@ returns c = record {
   -- The unfinished character is completed, and the other bytes follow.
   steps =
       let shifted : Shifted c.take_rest.result c.map_err.result (length c.split_at.result.0.now) = search rules in
-      answers_after c.args.self.now c.take_each.new.self c.take_rest.new.self c.split_at.result.0.now c.split_at.result.1.now c.args.piece.now c.take_rest.result c.map_err.result c.split_at.ensures.by_index.0
+      answers_after c.args.self.now c.take_each.new.self c.take_rest.new.self c.split_at.result.0.now c.split_at.result.1.now c.args.chunk.now c.take_rest.result c.map_err.result c.split_at.ensures.by_index.0
       c.in_ok-take_each.ensures.steps shifted c.take_rest.ensures.steps;
   within = search rules;
   good = search rules;
@@ -35,7 +35,7 @@ returns-in_err-take_each c = record {
   steps =
       let out = err_from_is_err_and c.from_residual.result c.from_residual.ensures.1 in
       let is : c.from_residual.result ≡ Err c.in_err-take_each.field-0.0 = out.1 ∙ ap Err out.2 in
-      answers_before c.args.self.now c.take_each.new.self c.split_at.result.0.now c.split_at.result.1.now c.args.piece.now c.from_residual.result c.in_err-take_each.field-0.0 c.split_at.ensures.by_index.0 is c.in_err-take_each.ensures.steps;
+      answers_before c.args.self.now c.take_each.new.self c.split_at.result.0.now c.split_at.result.1.now c.args.chunk.now c.from_residual.result c.in_err-take_each.field-0.0 c.split_at.ensures.by_index.0 is c.in_err-take_each.ensures.steps;
   within = search rules;
   good = search rules;
 }

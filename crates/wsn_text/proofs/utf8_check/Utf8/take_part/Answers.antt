@@ -1,14 +1,13 @@
 use Rattle.std.proofs.Common.{◌≡◌, ℕ, ◌↔◌, List, [], ◌∷◌, ◌++◌, Option, Some, length, sym, ◌∙◌, subst, ap, append-nil, eqb-true, arith, rules}
 use Rattle.std.proofs.lemmas.List.{drop_all}
-use Rattle.wsn_text.specs.Piece.{Validates}
+use Rattle.wsn_text.specs.Validated.{Validates, Follows}
 use Rattle.wsn_text.specs.Utf8.{Range, IsText}
-use Rattle.wsn_text.specs.Rest.{Follows}
 use Rattle.wsn_text.proofs.Rests.{text-nil}
 use Rattle.wsn_text.proofs.Taking.{Shifted, answers_after, takes_end}
 use Rattle.wsn_text.proofs.utf8_check.Utf8.take_part.Goals as goal
 
-pub overflow_sub-piece : goal.overflow_sub-piece
-overflow_sub-piece c = search rules
+pub overflow_sub-chunk : goal.overflow_sub-chunk
+overflow_sub-chunk c = search rules
 
 pub split_at-requires : goal.split_at-requires
 split_at-requires c = search rules
@@ -33,7 +32,7 @@ returns c = record {
       let front = c.split_at.result.0.now in
       let same = subst (λ (state : Option (List Range)). (more : List ℕ) → IsText (first ∷ more) ↔ Follows state more) c.self.view_is c.first_byte.ensures in
       let shifted : Shifted c.take_each.result c.map_err.result (length front) = search rules in
-      answers_after old (Some []) c.take_each.new.self front c.split_at.result.1.now c.args.piece.now c.take_each.result c.map_err.result c.split_at.ensures.by_index.0
+      answers_after old (Some []) c.take_each.new.self front c.split_at.result.1.now c.args.chunk.now c.take_each.result c.map_err.result c.split_at.ensures.by_index.0
       (takes_end old first front same (c.is_text_after.ensures c.if-not-is_text_after.false)) shifted c.take_each.ensures.steps;
   within = search rules;
   good = search rules;
@@ -49,7 +48,7 @@ returns-then-is_empty c = record {
       let same = subst (λ (state : Option (List Range)). (more : List ℕ) → IsText (first ∷ more) ↔ Follows state more) c.self.view_is c.first_byte.ensures in
       let none : length back ≡ 0 = eqb-true _ _ (sym c.if-is_empty.ensures) in
       let nothing : back ≡ [] = drop_all 0 back (omega (arith, none)) in
-      let all : c.args.piece.now ≡ front = c.split_at.ensures.by_index.0 ∙ ap (λ (end : List ℕ). front ++ end) nothing ∙ append-nil front in
+      let all : c.args.chunk.now ≡ front = c.split_at.ensures.by_index.0 ∙ ap (λ (end : List ℕ). front ++ end) nothing ∙ append-nil front in
       subst (Validates c.args.self.now (Some [])) (sym all) (takes_end c.args.self.now first front same (c.is_text_after.ensures c.if-not-is_text_after.false));
   good = search rules;
 }
