@@ -78,11 +78,12 @@ pub fn run_same_on_sides_on(
     texts: (Chopped, Chopped),
     mut writer: Narrow,
 ) -> CommandRun {
+    let (first, second) = texts;
     let mut err = Vec::new(alloc);
     let ran = run_same_on_sides(
         alloc,
-        &mut Input::new(SideReader::new(texts.0, Role::Server)),
-        &mut Input::new(SideReader::new(texts.1, Role::Server)),
+        &mut Input::new(SideReader::new(first, Role::Server)),
+        &mut Input::new(SideReader::new(second, Role::Server)),
         text_of(limits),
         &mut Output::new(&mut writer),
         &mut Output::new(&mut err),
@@ -99,14 +100,15 @@ pub fn run_same_on<A: Allocator + Copy>(
     heap: A,
     alloc: Global,
     limits: Limits,
-    mut readers: (Chopped, Chopped),
+    readers: (Chopped, Chopped),
     mut writer: Narrow,
 ) -> CommandRun {
+    let (mut first, mut second) = readers;
     let mut err = Vec::new(alloc);
     let ran = run_same(
         heap,
-        &mut Input::new(&mut readers.0),
-        &mut Input::new(&mut readers.1),
+        &mut Input::new(&mut first),
+        &mut Input::new(&mut second),
         text_of(limits),
         &mut Output::new(&mut writer),
         &mut Output::new(&mut err),

@@ -100,27 +100,33 @@ impl<'a> SentStream<'a> {
 }
 
 /// The answer of `plan_of`, which allocates from this heap.
-pub fn planned<A: Allocator + Copy>(
-    heap: A,
-    mut stream: SentStream,
-) -> Result<PlanAnswer<A>, Stop> {
-    let mut input = Input::new(&mut stream.reader);
-    plan_of(heap, &mut input, stream.role, stream.limits)
+pub fn planned<A: Allocator + Copy>(heap: A, stream: SentStream) -> Result<PlanAnswer<A>, Stop> {
+    let SentStream {
+        role,
+        limits,
+        mut reader,
+    } = stream;
+    plan_of(heap, &mut Input::new(&mut reader), role, limits)
 }
 
 /// The answer of a recut by this plan, which writes to this writer and allocates from this heap.
 pub fn recut_by<A: Allocator + Copy, W: Write>(
     heap: A,
-    mut stream: SentStream,
+    stream: SentStream,
     plan: &Plan<A>,
     writer: &mut W,
 ) -> Result<RecutAnswer, Stop> {
+    let SentStream {
+        role,
+        limits,
+        mut reader,
+    } = stream;
     recut(
         heap,
-        &mut Input::new(&mut stream.reader),
+        &mut Input::new(&mut reader),
         &mut Output::new(writer),
-        stream.role,
-        stream.limits,
+        role,
+        limits,
         plan,
     )
 }
@@ -148,18 +154,23 @@ pub struct Sizes {
 /// The answer of a recut in frames of one size, which writes to this writer and allocates from this heap.
 pub fn recut_uniformly<A: Allocator + Copy, W: Write>(
     heap: A,
-    mut stream: SentStream,
+    stream: SentStream,
     sizes: Sizes,
     writer: &mut W,
 ) -> Result<RecutAnswer, Stop> {
+    let SentStream {
+        role,
+        limits,
+        mut reader,
+    } = stream;
     recut_uniform(
         heap,
-        &mut Input::new(&mut stream.reader),
+        &mut Input::new(&mut reader),
         &mut Output::new(writer),
-        stream.role,
-        stream.limits,
+        role,
+        limits,
         sizes.size.max(1),
         sizes.weave,
-        key_of(stream.role),
+        key_of(role),
     )
 }
