@@ -50,15 +50,19 @@ pub record IsComparedOver (comparison : Comparison) (first second text said : Li
   pub status : exit ≡ comparison_status answer
   pub diagnosed : IsStopDiagnosed answer (output_of [] false) (output_of said saying_failed)
 
--- the comparison that is asked for, with this view of events that differ
-abbrev pub comparison_asked : Asked → Option ℕ → Comparison
-comparison_asked asked view =
-    record { role = asked.role; limits = asked.limits; without = asked.without; format = asked.style.format; view = view }
+-- The comparison that is asked for, with this view of events that differ.
+pub record IsComparisonAsked (asked : Asked) (wanted : Option ℕ) (comparison : Comparison) : Type 0 where
+  pub role : comparison.role ≡ asked.role
+  pub limits : comparison.limits ≡ asked.limits
+  pub without : comparison.without ≡ asked.without
+  pub format : comparison.format ≡ asked.style.format
+  pub view : comparison.view ≡ wanted
 
 -- The call gives what the comparison of these bytes prints that is asked for.
 abbrev pub GivesComparison : Asked → Option ℕ → List ℕ → List ℕ → Call → Type 0
-GivesComparison asked view first second done = (text said : List ℕ) × (exit : ℕ)
-    × IsComparedOver (comparison_asked asked view) first second text said exit × Gives done text said exit
+GivesComparison asked view first second done = (comparison : Comparison) × IsComparisonAsked asked view comparison
+    × (text : List ℕ) × (said : List ℕ) × (exit : ℕ) × IsComparedOver comparison first second text said exit
+    × Gives done text said exit
 
 -- The call does for its options what the program does: the command's run that they ask for. Options out of range are
 -- told.

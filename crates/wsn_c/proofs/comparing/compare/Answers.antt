@@ -1,16 +1,17 @@
-use Rattle.std.proofs.Common.{rules, ap}
+use Rattle.std.proofs.Common.{rules, refl, ap}
 use Rattle.wsn_command.specs.declared.answered.Ran.{Ran}
-use Rattle.wsn_c.specs.Calls.{comparison_asked}
 use Rattle.wsn_c.proofs.MemoryRuns.{compares_over}
 use Rattle.wsn_c.proofs.comparing.compare.Goals as goal
 
 pub returns : goal.returns
 returns c =
     let done = c.run_same-ran.ensures.done in (
+      _,
+      record { role = refl; limits = refl; without = refl; format = refl; view = refl },
       c.into_writer.result,
       c.into_writer-2.result,
       c.run_same-ran.result.status,
-      compares_over (comparison_asked c.args.asked.now c.args.view) c.args.first.now c.args.second.now c.into_writer.result
+      compares_over _ c.args.first.now c.args.second.now c.into_writer.result
           c.into_writer-2.result done.0 c.run_same-ran.result.status
           c.lent.result c.run_same-ran.new.first c.lent-2.result c.run_same-ran.new.second
           c.new-printed.result c.run_same-ran.new.output c.new-said.result c.run_same-ran.new.errors
