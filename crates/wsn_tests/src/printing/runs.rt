@@ -104,15 +104,9 @@ fn expect_comment(rt: &impl Abort, alloc: Global, text: &str) {
     comment
         .extend_from_slice(text.as_bytes())
         .expect(rt, "memory");
-    assert_eq!(rt;
-        put_comment_as(
-            &mut Output::new(&mut object),
-            Format::Json,
-            7,
-            comment.as_slice()
-        ),
-        Ok(())
-    );
+    let mut output = Output::new(&mut object);
+    let put = put_comment_as(&mut output, Format::Json, 7, comment.as_slice());
+    assert_eq!(rt; put, Ok(()));
     let front = b"{\"type\":\"comment\",\"line\":7,\"text\":\"";
     let expected = written(alloc, front, text, true, b"\"}\n").expect(rt, "memory");
     assert_eq!(rt; object.as_slice(), expected.as_slice(), "{text}");
@@ -145,10 +139,32 @@ fn ends(is_cut: bool) -> (&'static [u8], &'static [u8]) {
     }
 }
 
-/// Fails unless a line ends with a text, as it is quoted, between these two others.
-fn expect_quoted(rt: &impl Abort, alloc: Global, line: &[u8], text: &str, around: (&[u8], &[u8])) {
-    let expected = written(alloc, around.0, text, true, around.1).expect(rt, "memory");
-    assert!(rt; line.ends_with(expected.as_slice()), "{text}");
+/// An item with a text, what is shown of the text, and what comes before that in the item's line and in its object.
+#[derive(Clone, Copy)]
+struct Quoted<'a> {
+    item: ShownItem<'a>,
+    shown: &'a str,
+    is_cut: bool,
+    /// Nothing is shown: a dash is in the line.
+    is_dash: bool,
+    before: (&'a [u8], &'a [u8]),
+}
+
+/// Fails unless an item is written as it should be, in words and as an object.
+fn expect_quoted(rt: &impl Abort, alloc: Global, view: ViewLimit, quoted: &Quoted) {
+    let (line_end, object_end) = ends(quoted.is_cut);
+    for (format, before, end) in [
+        (Format::Text, quoted.before.0, line_end),
+        (Format::Json, quoted.before.1, object_end),
+    ] {
+        let mut line = Vec::new(alloc);
+        let put = put_entry(&mut Output::new(&mut line), format, view, &FRONT, &quoted.item);
+        assert_eq!(rt; put, Ok(()));
+        let shown = quoted.shown;
+        let expected = written(alloc, before, shown, true, end).expect(rt, "memory");
+        let is_dash = quoted.is_dash && matches!(format, Format::Text);
+        assert!(rt; is_dash || line.as_slice().ends_with(expected.as_slice()), "{shown}");
+    }
 }
 
 /// Fails unless at most this many bytes of a message's text are written as they should be, in words and as an object.
@@ -156,58 +172,14 @@ fn expect_view(rt: &impl Abort, alloc: Global, text: &str, most: u16) {
     let view = ViewLimit::new(most).expect(rt, "a view of at most 4096 bytes");
     let bytes = text.as_bytes();
     let shown = whole(bytes.get(..usize::from(most)).unwrap_or(bytes));
-    let event = ShownEvent {
-        op: Op::Text,
-        bytes: bytes.len() as u64,
-        frames: 1,
-        held: bytes,
+    let quoted = Quoted {
+        item: ShownItem::Event(event_of(bytes)),
+        shown,
+        is_cut: shown.len() < bytes.len(),
+        is_dash: most == 0 && !bytes.is_empty(),
+        before: (b" 1 \"", b",\"text\":\""),
     };
-    let is_cut = shown.len() < bytes.len();
-    let front = EntryFront {
-        role: Role::Server,
-        origin: Origin::Stream,
-        offset: 0,
-    };
-    let item = ShownItem::Event(event);
-    let mut line = Vec::new(alloc);
-    assert_eq!(rt;
-        put_entry(
-            &mut Output::new(&mut line),
-            Format::Text,
-            view,
-            &front,
-            &item
-        ),
-        Ok(())
-    );
-    let end: &[u8] = if is_cut { b"\" ..\n" } else { b"\"\n" };
-    let expected = written(alloc, b" 1 \"", shown, true, end).expect(rt, "memory");
-    let is_dash = most == 0 && !bytes.is_empty();
-    assert!(rt;
-        is_dash || line.as_slice().ends_with(expected.as_slice()),
-        "{text} {most}"
-    );
-    let mut object = Vec::new(alloc);
-    assert_eq!(rt;
-        put_entry(
-            &mut Output::new(&mut object),
-            Format::Json,
-            view,
-            &front,
-            &item
-        ),
-        Ok(())
-    );
-    let end: &[u8] = if is_cut {
-        b"\",\"truncated\":true}\n"
-    } else {
-        b"\"}\n"
-    };
-    let expected = written(alloc, b",\"text\":\"", shown, true, end).expect(rt, "memory");
-    assert!(rt;
-        object.as_slice().ends_with(expected.as_slice()),
-        "{text} {most}"
-    );
+    expect_quoted(rt, alloc, view, &quoted);
 }
 
 /// Fails unless the first bytes of a message's text are written as they should be while no more have come, in words and
@@ -216,59 +188,14 @@ fn expect_unfinished(rt: &impl Abort, alloc: Global, text: &str, count: usize) {
     let view = ViewLimit::new(4_096).expect(rt, "a view of at most 4096 bytes");
     let bytes = text.as_bytes().get(..count).expect(rt, "enough bytes");
     let shown = whole(bytes);
-    let event = ShownEvent {
-        op: Op::Text,
-        bytes: bytes.len() as u64,
-        frames: 1,
-        held: bytes,
+    let quoted = Quoted {
+        item: ShownItem::Unfinished(event_of(bytes), Some(7)),
+        shown,
+        is_cut: shown.len() < bytes.len(),
+        is_dash: false,
+        before: (b" lacks 7 \"", b",\"lacks\":7,\"text\":\""),
     };
-    let is_cut = shown.len() < bytes.len();
-    let front = EntryFront {
-        role: Role::Server,
-        origin: Origin::Stream,
-        offset: 0,
-    };
-    let item = ShownItem::Unfinished(event, Some(7));
-    let mut line = Vec::new(alloc);
-    assert_eq!(rt;
-        put_entry(
-            &mut Output::new(&mut line),
-            Format::Text,
-            view,
-            &front,
-            &item
-        ),
-        Ok(())
-    );
-    let end: &[u8] = if is_cut { b"\" ..\n" } else { b"\"\n" };
-    let expected = written(alloc, b" lacks 7 \"", shown, true, end).expect(rt, "memory");
-    assert!(rt;
-        line.as_slice().ends_with(expected.as_slice()),
-        "{text} {count}"
-    );
-    let mut object = Vec::new(alloc);
-    assert_eq!(rt;
-        put_entry(
-            &mut Output::new(&mut object),
-            Format::Json,
-            view,
-            &front,
-            &item
-        ),
-        Ok(())
-    );
-    let end: &[u8] = if is_cut {
-        b"\",\"truncated\":true}\n"
-    } else {
-        b"\"}\n"
-    };
-    let expected = written(alloc, b",\"lacks\":7,\"text\":\"", shown, true, end).expect(
-        rt, "memory",
-    );
-    assert!(rt;
-        object.as_slice().ends_with(expected.as_slice()),
-        "{text} {count}"
-    );
+    expect_quoted(rt, alloc, view, &quoted);
 }
 
 /// A text of `before` letters, a character, and 40 letters less.
