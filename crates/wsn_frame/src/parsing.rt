@@ -84,11 +84,20 @@ pub fn whole_head_after(byte: u8, chunk: &[u8], context: &FrameContext) -> Optio
     ensures { IfSome result
         (λ found. IsHeadPrefix context.now.role context.now.limits context.now.message chunk.now found.0 found.1) }
 {
-    // (with eight length bytes it is left out, so that the compiler leaves out all that is for them)
-    if chunk.len() < HEAD_MAX || matches!(LenForm::at(chunk[1]), LenForm::Eight) {
+    if chunk.len() < HEAD_MAX {
         return None;
     }
-    match parse_after(byte, &chunk[1..], context) {
+    let Ok(first) = first_byte(byte, context) else {
+        return None;
+    };
+    let Ok(encoded) = wsn_wire::second(first, context.role, chunk[1]) else {
+        return None;
+    };
+    // (with eight length bytes it is left out, so that the compiler leaves out all that is for them)
+    if matches!(encoded, LenForm::Eight) {
+        return None;
+    }
+    match parse_after_two(first, encoded, &chunk[2..], context) {
         Parsed::Whole(size, head) => Some((size, head)),
         Parsed::Incomplete | Parsed::Refused(_, _) => None,
     }
