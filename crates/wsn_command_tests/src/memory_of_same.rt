@@ -113,7 +113,13 @@ impl Differing {
     /// The result of the command, with memory from this heap.
     fn run_on<A: Allocator + Copy>(&self, heap: A, alloc: Global) -> CommandRun {
         let (first, second) = (self.first_reader(), self.second_reader());
-        run_same_on(heap, alloc, self.limits, (first, second), Narrow::wide(alloc))
+        run_same_on(
+            heap,
+            alloc,
+            self.limits,
+            (first, second),
+            Narrow::wide(alloc),
+        )
     }
 
     /// Whether a heap of `blocks` blocks has enough memory. Fails unless the answer is then the difference, and

@@ -93,7 +93,13 @@ fn a_side_is_recut_by_size(rt: HostRuntime) {
         line: "",
     };
     expect_on_side(&rt, alloc, &job, text, recut);
-    expect_on_side(&rt, alloc, &job, FAULTY, Expected::stop(b"", "line 4: bad-form"));
+    expect_on_side(
+        &rt,
+        alloc,
+        &job,
+        FAULTY,
+        Expected::stop(b"", "line 4: bad-form"),
+    );
 }
 
 #[test]
@@ -106,7 +112,13 @@ fn what_was_printed_before_a_faulty_line_stays(rt: HostRuntime) {
     let heads = b"0 fin ping - 0\n2 fin text - 2\n";
     expect_on_side(&rt, alloc, &frames, FAULTY, Expected::stop(heads, line));
     let normal = Job::Normal(Role::Server, greatest());
-    expect_on_side(&rt, alloc, &normal, FAULTY, Expected::stop(b"\x89\x00", line));
+    expect_on_side(
+        &rt,
+        alloc,
+        &normal,
+        FAULTY,
+        Expected::stop(b"\x89\x00", line),
+    );
     let plan = Job::Plan(Role::Server, greatest());
     expect_on_side(&rt, alloc, &plan, FAULTY, Expected::stop(b"", line));
 }
@@ -126,7 +138,13 @@ fn bad_form_bad_hex_and_after_end_are_reported(rt: HostRuntime) {
     let alloc = rt.alloc();
     let judge = Job::Judge(Role::Server, greatest(), Format::Text);
     for (text, line) in FAULTS.iter() {
-        expect_on_side(&rt, alloc, &judge, text.as_bytes(), Expected::stop(b"", line));
+        expect_on_side(
+            &rt,
+            alloc,
+            &judge,
+            text.as_bytes(),
+            Expected::stop(b"", line),
+        );
     }
 }
 

@@ -270,7 +270,11 @@ fn recut_reports_out_of_memory(rt: HostRuntime) {
         for blocks in 0..recut_memory::BLOCKS {
             if let Some(is_served) = is_recut_served(&rt, rt.alloc(), row, blocks) {
                 served = is_served;
-                expect_of(&rt, !served || blocks > 0 || row.bytes.is_empty(), &row.name);
+                expect_of(
+                    &rt,
+                    !served || blocks > 0 || row.bytes.is_empty(),
+                    &row.name,
+                );
             }
         }
         expect_of(&rt, served, &row.name);

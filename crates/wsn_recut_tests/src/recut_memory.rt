@@ -1,9 +1,7 @@
 //! Plans and recuts where each allocation fails in turn: the answer is `out of memory`, nothing is written, and a
 //! plan is unchanged.
 
-use crate::expecting::{
-    expect_bytes_of, expect_equal_of, expect_line_of, expect_of, push_event,
-};
+use crate::expecting::{expect_bytes_of, expect_equal_of, expect_line_of, expect_of, push_event};
 use crate::recut_faults::{FAULTS, STOPS};
 use crate::recuts::{FITS, RecutRow, recut_of};
 use crate::sized_recuts::SIZED_RECUTS;

@@ -6,9 +6,7 @@ use std::io::Write;
 use std::process::Abort;
 use wsn_doubles::engines::{SentStream, Sizes, recut_by, recut_uniformly};
 use wsn_doubles::readers::{Chopped, READS};
-use wsn_doubles::vectors::{
-    ANY_LENGTHS, GREATEST, Settings, filled, limits_from, stream_named,
-};
+use wsn_doubles::vectors::{ANY_LENGTHS, GREATEST, Settings, filled, limits_from, stream_named};
 use wsn_plan::{PlanFault, RecutAnswer, read_plan};
 use wsn_scan::Stop;
 use wsn_wire::Role;

@@ -30,8 +30,9 @@ fn a_ping_and_hello_are_planned(rt: HostRuntime) {
     push_event(&rt, &mut events, Event::Message(Kind::Text, hello));
     for (size, weave, text) in PLANS {
         let size = size.max(1);
-        let plan = uniform(alloc, events.as_slice(), Role::Server, size, weave, None)
-            .expect(&rt, "memory");
+        let plan = uniform(alloc, events.as_slice(), Role::Server, size, weave, None).expect(
+            &rt, "memory",
+        );
         let written = plan_written(&rt, alloc, &plan);
         expect_bytes_of(&rt, written.as_slice(), text.as_bytes(), &(size, weave));
     }

@@ -52,7 +52,9 @@ const VECTORS: &str = "\
 fn conformance_vectors_have_their_verdicts(rt: HostRuntime) {
     for line in VECTORS.lines() {
         let (names, verdict) = line.split_once(" => ").expect(&rt, "names and a verdict");
-        let (_, name) = names.split_once(' ').expect(&rt, "a short name and another");
+        let (_, name) = names
+            .split_once(' ')
+            .expect(&rt, "a short name and another");
         let stream = stream_named(rt.alloc(), name).expect(&rt, "a vector of this name");
         expect_line_of(&rt, stream.verdict, verdict, &line);
     }

@@ -37,7 +37,11 @@ fn expect_chunks(rt: &impl Abort, alloc: Global, stream: &Stream, size: usize) {
     let scanned = scanned(rt, alloc, stream, size);
     let of = (stream.name, size);
     expect_line_of(rt, scanned.verdict.as_str(), stream.verdict, &of);
-    expect_of(rt, scanned.frames.as_slice() == stream.frames.as_bytes(), &of);
+    expect_of(
+        rt,
+        scanned.frames.as_slice() == stream.frames.as_bytes(),
+        &of,
+    );
     if let Some(payload) = &stream.payload {
         expect_of(rt, scanned.payload.as_slice() == payload.as_slice(), &of);
     }
@@ -67,7 +71,11 @@ fn expect_its_own_normal_form(rt: &impl Abort, alloc: Global, stream: &Stream) {
         let reader = Chopped::new(normal, at_most);
         let answer = Engine::Normalise.run(alloc, stream, reader, &mut out);
         let is_accepted = matches!(&answer, Ok(Verdict::Accepted(_)));
-        expect_of(rt, is_accepted && out.as_slice() == normal, &(stream.name, at_most));
+        expect_of(
+            rt,
+            is_accepted && out.as_slice() == normal,
+            &(stream.name, at_most),
+        );
     }
 }
 

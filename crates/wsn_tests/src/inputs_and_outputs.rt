@@ -117,6 +117,10 @@ fn an_output_tries_nothing_again(rt: HostRuntime) {
         let mut writer = Called::new(Narrow::new(rt.alloc(), usize::MAX, 0, full));
         let mut output = Output::new(&mut writer);
         expect_put(&rt, &mut output, b"ab", false, true);
-        expect_of(&rt, writer.calls == 1 && writer.inner.taken.is_empty(), &full);
+        expect_of(
+            &rt,
+            writer.calls == 1 && writer.inner.taken.is_empty(),
+            &full,
+        );
     }
 }

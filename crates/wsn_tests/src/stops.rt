@@ -134,7 +134,12 @@ impl Due {
         let due = prefix_of(rt, output, self.after(broken.prefix.len()));
         for at_most in READS {
             let written = broken.written(rt, alloc, at_most, "read failed");
-            expect_bytes_of(rt, written.as_slice(), due, &(self.name, self.engine, at_most));
+            expect_bytes_of(
+                rt,
+                written.as_slice(),
+                due,
+                &(self.name, self.engine, at_most),
+            );
         }
     }
 }

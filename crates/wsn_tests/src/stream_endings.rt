@@ -170,7 +170,9 @@ fn lines_of_pings(rt: &impl Abort, alloc: Global) -> Vec<u8> {
     for ping in 0..500u32 {
         let place = 2 * ping;
         let line = format!(in alloc; "{place} fin ping - 0\n").expect(rt, "memory");
-        lines.extend_from_slice(line.as_bytes()).expect(rt, "memory");
+        lines
+            .extend_from_slice(line.as_bytes())
+            .expect(rt, "memory");
     }
     lines
 }

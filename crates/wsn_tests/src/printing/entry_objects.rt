@@ -139,11 +139,7 @@ fn bad_character() -> ShownItem<'static> {
         bytes: b"\xe9 ",
         earlier: b"",
     };
-    ShownItem::Refused(
-        refusal,
-        whole(b"{\"name\":\"Ren\xe9 "),
-        Some(character),
-    )
+    ShownItem::Refused(refusal, whole(b"{\"name\":\"Ren\xe9 "), Some(character))
 }
 
 #[test]

@@ -158,12 +158,21 @@ fn expect_quoted(rt: &impl Abort, alloc: Global, view: ViewLimit, quoted: &Quote
         (Format::Json, quoted.before.1, object_end),
     ] {
         let mut line = Vec::new(alloc);
-        let put = put_entry(&mut Output::new(&mut line), format, view, &FRONT, &quoted.item);
+        let put = put_entry(
+            &mut Output::new(&mut line),
+            format,
+            view,
+            &FRONT,
+            &quoted.item,
+        );
         assert_eq!(rt; put, Ok(()));
         let shown = quoted.shown;
         let expected = written(alloc, before, shown, true, end).expect(rt, "memory");
         let is_dash = quoted.is_dash && matches!(format, Format::Text);
-        assert!(rt; is_dash || line.as_slice().ends_with(expected.as_slice()), "{shown}");
+        assert!(rt;
+            is_dash || line.as_slice().ends_with(expected.as_slice()),
+            "{shown}"
+        );
     }
 }
 
