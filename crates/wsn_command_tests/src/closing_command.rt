@@ -64,7 +64,7 @@ impl<'a> Given<'a> {
 }
 
 /// Fails unless this is the result of the command, both with no memory and with memory.
-fn expect_closing(rt: &impl Abort, alloc: Global, given: Given, expected: Expected) {
+fn expect_closing(rt: &impl Abort, alloc: Global, given: &Given<'_>, expected: Expected) {
     let heap = heap_of(alloc, 0).expect(rt, "memory");
     expect_closing_on(rt, &heap, alloc, given, expected);
     expect_closing_on(rt, alloc, alloc, given, expected);
@@ -75,7 +75,7 @@ fn expect_closing_on<A: Allocator + Copy>(
     rt: &impl Abort,
     heap: A,
     alloc: Global,
-    given: Given,
+    given: &Given<'_>,
     expected: Expected,
 ) {
     let job = Job::Closing(given.limits, Format::Text);
@@ -90,7 +90,7 @@ fn expect_closing_on<A: Allocator + Copy>(
 }
 
 /// Fails unless the command writes only this line, on standard error.
-fn expect_stop(rt: &impl Abort, alloc: Global, given: Given, words: &str) {
+fn expect_stop(rt: &impl Abort, alloc: Global, given: &Given<'_>, words: &str) {
     let expected = Expected {
         status: 2,
         out: "",
@@ -110,7 +110,7 @@ fn outcomes_are_printed(rt: HostRuntime) {
         };
         for at_most in READS {
             let given = Given::whole(row.text.as_bytes(), at_most);
-            expect_closing(&rt, alloc, given, expected);
+            expect_closing(&rt, alloc, &given, expected);
         }
     }
 }
@@ -121,7 +121,7 @@ fn bad_hex_bad_form_and_after_end_are_reported(rt: HostRuntime) {
     for (text, words, _fault) in faulty() {
         for at_most in READS {
             let given = Given::whole(text.as_bytes(), at_most);
-            expect_stop(&rt, alloc, given, words);
+            expect_stop(&rt, alloc, &given, words);
         }
     }
 }
@@ -132,7 +132,7 @@ fn input_limit_is_reported(rt: HostRuntime) {
         limits: limits_of(&rt, 1),
         ..Given::whole(b"C 81\nS 81\nS 00\n", 4_096)
     };
-    expect_stop(&rt, rt.alloc(), given, "line 3: input-limit");
+    expect_stop(&rt, rt.alloc(), &given, "line 3: input-limit");
 }
 
 #[test]
@@ -140,7 +140,7 @@ fn too_long_is_reported(rt: HostRuntime) {
     let alloc = rt.alloc();
     let long = filled(alloc, b"#\n#", b'#', 8_194).expect(&rt, "memory");
     let given = Given::whole(long.as_slice(), 4_096);
-    expect_stop(&rt, alloc, given, "line 2: too-long");
+    expect_stop(&rt, alloc, &given, "line 2: too-long");
 }
 
 #[test]
@@ -148,7 +148,7 @@ fn too_many_lines_is_reported(rt: HostRuntime) {
     let alloc = rt.alloc();
     let many = filled(alloc, b"", b'\n', 1_000_001).expect(&rt, "memory");
     let given = Given::whole(many.as_slice(), usize::MAX);
-    expect_stop(&rt, alloc, given, "line 1000001: too-many-lines");
+    expect_stop(&rt, alloc, &given, "line 1000001: too-many-lines");
 }
 
 #[test]
@@ -207,7 +207,7 @@ fn expect_reported_after(rt: &impl Abort, alloc: Global, text: &str, count: usiz
             fails: Some((count, kind)),
             ..Given::whole(text.as_bytes(), 3)
         };
-        expect_stop(rt, alloc, given, words);
+        expect_stop(rt, alloc, &given, words);
     }
 }
 

@@ -33,8 +33,19 @@ impl Engine {
         mut reader: R,
         writer: &mut W,
     ) -> Result<Verdict, Stop> {
+        self.run_on(heap, stream, &mut reader, writer)
+    }
+
+    /// The same of a reader that is lent.
+    pub fn run_on<A: Allocator + Copy, R: Read, W: Write>(
+        self,
+        heap: A,
+        stream: &Stream,
+        reader: &mut R,
+        writer: &mut W,
+    ) -> Result<Verdict, Stop> {
         let (role, limits) = (stream.role, stream.limits);
-        let mut input = Input::new(&mut reader);
+        let mut input = Input::new(reader);
         let mut output = Output::new(writer);
         match self {
             Engine::Judge => judge(&mut input, role, limits),

@@ -118,7 +118,7 @@ fn normalise_reads_no_more_after_a_failed_write(rt: HostRuntime) {
     let stream = of_several_blocks(&rt, alloc);
     let mut left = stream.bytes.as_slice();
     let mut writer = Narrow::new(alloc, usize::MAX, 0, Full::Fails);
-    let answer = Engine::Normalise.run(alloc, &stream, &mut left, &mut writer);
+    let answer = Engine::Normalise.run_on(alloc, &stream, &mut left, &mut writer);
     expect_of(&rt, matches!(&answer, Err(Stop::Write)), &"a failed write");
     let came = stream.bytes.len().saturating_sub(left.len());
     expect_of(&rt, came == 4_096, &("bytes that came", came));

@@ -143,7 +143,7 @@ impl Unending {
     fn expect_written(&self, rt: &impl Abort, alloc: Global, engine: Engine, written: &[u8]) {
         let mut reader = Endless::new(self.first, self.again);
         let mut out = Vec::new(alloc);
-        let answer = engine.run(alloc, &self.stream, &mut reader, &mut out);
+        let answer = engine.run_on(alloc, &self.stream, &mut reader, &mut out);
         expect_of(rt, matches!(&answer, Err(Stop::InputLimit)), &engine);
         let most = self.stream.limits.input().saturating_add(1);
         expect_of(rt, reader.given as u64 <= most, &(engine, reader.given));
