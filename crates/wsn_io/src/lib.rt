@@ -6,7 +6,7 @@
 //! that a program on a live pipe reports each result at once. [`FirstBytes`] keeps the first bytes that a reader
 //! returns. Nothing here allocates.
 //!
-//! `specs/Transfer.antt` defines what was received and written, `specs/StopResults.antt` what a call that may stop
+//! `specs/Transfer.antt` defines what was received and written, `specs/Stops.antt` what a call that may stop
 //! returns.
 #![tactic(auto)]
 
