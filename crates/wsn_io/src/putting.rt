@@ -6,6 +6,7 @@ use crate::stop::Stop;
 use std::io::Write;
 
 /// Writes a line's bytes, which include its LF. `Stop::Write` if the writer fails: a prefix of the line was written.
+#[inline(always)]
 #[tactic(none)]
 pub fn put_line<W: Write>(to: &mut Output<W>, line: &[u8]) -> Result<(), Stop>
     requires { to.old.failed ≡ false }
