@@ -238,7 +238,7 @@ fn push_space(line: &mut Line<ENTRY_MAX>, format: Format)
 
 /// The end of an entry.
 #[inline(always)]
-fn end_of(format: Format) -> &'static str
+pub(crate) fn end_of(format: Format) -> &'static str
     ensures text { result.now ≡ end_in format }
     ensures short { length result.now ≤ 2 }
 {

@@ -164,7 +164,7 @@ fn put_view_and_end<W: Write>(
     put_end_of(to, format)
 }
 
-/// Writes the end of an entry: in each format a constant of its own, which is quicker than one chosen before.
+/// Writes the end of an entry: each format's by itself, so that no function is called for a byte or two.
 #[inline(always)]
 fn put_end_of<W: Write>(to: &mut Output<W>, format: Format) -> Result<(), Stop>
     requires { to.old.failed ≡ false }
