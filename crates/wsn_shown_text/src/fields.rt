@@ -13,7 +13,7 @@ use wsn_print::{
 use wsn_rules::{HeadInfo, Refusal};
 
 /// The space for an entry's front without a time and for its fields in bytes, with five numbers of twenty digits.
-pub(crate) const ENTRY_MAX: usize = 224;
+pub(crate) const ENTRY_MAX: usize = 240;
 
 /// Appends the offset and the fields of a complete event.
 #[inline(always)]
@@ -40,7 +40,7 @@ pub(crate) fn push_unfinished(
     event: &ShownEvent<'_>,
     lacks: Option<u64>,
 )
-    requires { length line.old + 148 ≤ ENTRY_MAX }
+    requires { length line.old + 160 ≤ ENTRY_MAX }
     ensures { line.new ≡ line.old ++ offset_in format offset
         ++ members_in format (unfinished_members (op_word event.now.op) event.now.bytes event.now.frames lacks)
         ++ space_in format }
@@ -55,10 +55,10 @@ pub(crate) fn push_unfinished(
 /// Appends the word, the payload bytes and the frames of an event.
 #[inline(always)]
 fn push_counts(line: &mut Line<ENTRY_MAX>, format: Format, word: &str, bytes: u64, frames: u64)
-    requires room { length line.old + 76 ≤ ENTRY_MAX }
+    requires room { length line.old + 80 ≤ ENTRY_MAX }
     requires short { length word.now ≤ 6 }
     ensures text { line.new ≡ line.old ++ members_in format (event_members word.now bytes frames) }
-    ensures len { length line.new ≤ length line.old + 76 }
+    ensures len { length line.new ≤ length line.old + 80 }
 {
     push_word(line, format, "event", word);
     push_number(line, format, "bytes", bytes);
@@ -67,7 +67,7 @@ fn push_counts(line: &mut Line<ENTRY_MAX>, format: Format, word: &str, bytes: u6
 
 /// Appends the offset and the fields of a part of a head.
 pub(crate) fn push_unfinished_head(line: &mut Line<ENTRY_MAX>, format: Format, offset: u64)
-    requires { length line.old + 148 ≤ ENTRY_MAX }
+    requires { length line.old + 160 ≤ ENTRY_MAX }
     ensures { line.new ≡ line.old ++ offset_in format offset
         ++ members_in format (unfinished_members (codes "head") 0 0 None) ++ space_in format }
 {

@@ -14,7 +14,7 @@ use wsn_print::{EntryFront, Format, Front, Line, Origin, push_number_field, push
 use wsn_wire::Role;
 
 /// The space for what is in front of an offset in bytes, without a time, and with a number of twenty digits.
-pub(crate) const FRONT_MAX: usize = 76;
+pub(crate) const FRONT_MAX: usize = 80;
 
 /// Appends what is in front of an entry's offset to an empty line, unless it has a time.
 #[inline(always)]

@@ -14,7 +14,7 @@ ghost use Rattle.wsn_shown_text.specs.ShownItems.{IsItem, evidence_in, rest_in};
 
 use crate::characters::{put_character_fields, put_character_line};
 use crate::fields::{
-    ENTRY_MAX, push_event, push_frame, push_refused, push_remainder, push_unfinished,
+    ENTRY_MAX, end_of, push_event, push_frame, push_refused, push_remainder, push_unfinished,
     push_unfinished_head, remainder_word,
 };
 use crate::fronts::{push_front, put_front, put_timed_front};
@@ -91,7 +91,7 @@ fn kind_of(item: &ShownItem<'_>) -> &'static str
 /// Appends the offset and the fields of an item.
 #[inline(always)]
 fn push_item(line: &mut Line<ENTRY_MAX>, format: Format, offset: u64, item: &ShownItem<'_>)
-    requires { length line.old + 148 ≤ ENTRY_MAX }
+    requires { length line.old + 160 ≤ ENTRY_MAX }
     ensures { (view : ℕ) (shown : Item) → IsItem view offset item.now shown → (role : Role) → (position : EntryPosition) →
         (fields : List ℕ) × (line.new ≡ line.old ++ fields)
         × (front_in format (item_type shown) role position ++ (fields ++ rest_in format view role position shown)
@@ -161,19 +161,7 @@ fn put_view_and_end<W: Write>(
         IsWrittenOrStops to.old to.new (seen_in format view (view_in shown.now) ++ end_in format) result }
 {
     put_shown(to, format, view, shown)?;
-    put_end_of(to, format)
-}
-
-/// Writes the end of an entry: each format's by itself, so that no function is called for a byte or two.
-#[inline(always)]
-fn put_end_of<W: Write>(to: &mut Output<W>, format: Format) -> Result<(), Stop>
-    requires { to.old.failed ≡ false }
-    ensures { IsWrittenOrStops to.old to.new (end_in format) result }
-{
-    match format {
-        Format::Text => put_line(to, b"\n"),
-        Format::Json => put_line(to, b"}\n"),
-    }
+    put_line(to, end_of(format).as_bytes())
 }
 
 /// Writes a view.
