@@ -24,7 +24,7 @@ use Rattle.wsn_shown_text.specs.ShownText.{item_line, end_view, member_text}
 use Rattle.wsn_shown_text.specs.CharacterText.{item_lines, character_lines, character_fields}
 use Rattle.wsn_shown_text.specs.ShownObjects.{end_fields, member_field, object_front, reason_field}
 use Rattle.wsn_shown_text.specs.EntryFormats.{item_entry, end_entry, open_entry, front_in, offset_in, member_in, members_in, space_in, seen_in, end_in}
-use Rattle.wsn_shown_text.specs.ShownItems.{evidence_in, rest_in}
+use Rattle.wsn_shown_text.specs.ShownItems.{evidence_in}
 use Rattle.wsn_shown_text.specs.Views.{PayloadView, view_of_bytes, view_of_end}
 
 -- ---- an event that is represented
@@ -96,7 +96,7 @@ seen_entry format n role position item fields view are one =
 pub remainder_entry : (format : Format) (n : ℕ) (role : Role) (position : EntryPosition) (which : Remainder) (offset : ℕ) (all : List ℕ)
     → front_in format (item_type (item_of_remainder which offset all)) role position
     ++ ((offset_in format offset ++ members_in format (Mark (remainder_word which) ∷ Number (codes "bytes") (length all) ∷ []) ++ space_in format)
-    ++ rest_in format n role position (item_of_remainder which offset all))
+    ++ (seen_in format n (view_of_bytes n all) ++ end_in format))
     ≡ item_entry format n role position (item_of_remainder which offset all)
 remainder_entry format n role position remainders.Unread offset all =
     seen_entry format n role position (item_of_remainder remainders.Unread offset all) (Mark (codes "unread") ∷ Number (codes "bytes") (length all) ∷ []) (view_of_bytes n all) refl refl

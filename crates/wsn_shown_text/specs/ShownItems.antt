@@ -1,16 +1,17 @@
 -- Items as they are held to be printed.
-use Rattle.std.specs.Prelude.{◌≡◌, ℕ, ◌/◌, false, Option, List, [], ◌++◌, codes}
+use Rattle.std.specs.Prelude.{◌≡◌, ℕ, ◌/◌, Option, List, [], ◌++◌, codes}
 use Rattle.wsn_wire.specs.declared.endpoint.Role.{Role}
 use Rattle.wsn_rules.specs.BadCharacter.{BadCharacter}
 use Rattle.wsn_rules.specs.Meaning.{MeantEvent}
 use Rattle.wsn_rules.specs.ShownStream.{Item}
-use Rattle.wsn_rules.specs.ShownStream.Item.{Event, Head, Unfinished, UnfinishedHead, RefusedFrame, Unread, Tail}
+use Rattle.wsn_rules.specs.ShownStream.Item.{Event, Head, Unfinished, UnfinishedHead, RefusedFrame}
 use Rattle.wsn_print.specs.declared.format.Format.{Format, TheVariants.{Text, Json}}
 use Rattle.wsn_print.specs.ShownParts.{EntryPosition, time_at, Represents, HasText, HasTextPayload, IsFrontOf, IsEndOf, character_in, item_of_remainder}
 use Rattle.wsn_shown_text.specs.declared.items.ShownItem.{ShownItem}
 use Rattle.wsn_shown_text.specs.declared.items.ShownItem.TheVariants as shown
-use Rattle.wsn_shown_text.specs.Views.{PayloadView, view_of_bytes, view_of_end, view_of_event, view_of_unfinished}
-use Rattle.wsn_shown_text.specs.Views.Shown.{Hex}
+use Rattle.wsn_shown_text.specs.declared.items.Rest.{Rest}
+use Rattle.wsn_shown_text.specs.declared.items.Rest.TheVariants as rest
+use Rattle.wsn_shown_text.specs.Views.{view_of_end, shown_in, view_in, IsReadable}
 use Rattle.wsn_shown_text.specs.ShownText.{end_view}
 use Rattle.wsn_shown_text.specs.CharacterText.{character_lines, character_fields}
 use Rattle.wsn_shown_text.specs.ShownObjects.{end_fields}
@@ -38,17 +39,10 @@ evidence_in Text n role position evidence character =
 evidence_in Json n role position evidence character =
     end_fields (view_of_end n evidence) ++ character_fields n evidence character ++ codes "}\n"
 
--- A view, and the end.
-abbrev pub view_and_end : Format → ℕ → PayloadView → List ℕ
-view_and_end format n view = seen_in format n view ++ end_in format
-
--- What follows the fields of an item, with views of at most n bytes. A frame's fields include the end.
-abbrev pub rest_in : Format → ℕ → Role → EntryPosition → Item → List ℕ
-rest_in format n role position (Event offset event frames) = view_and_end format n (view_of_event n event)
-rest_in format n role position (Head info) = []
-rest_in format n role position (Unfinished offset event frames lacks) = view_and_end format n (view_of_unfinished n event)
-rest_in format n role position (UnfinishedHead offset) = view_and_end format n (record { shown = Hex []; more = false })
-rest_in format n role position (RefusedFrame offset refusal evidence character) =
-    evidence_in format n role position evidence character
-rest_in format n role position (Unread offset bytes) = view_and_end format n (view_of_bytes n bytes)
-rest_in format n role position (Tail offset bytes) = view_and_end format n (view_of_bytes n bytes)
+-- For views of n bytes, this is held of what is written.
+abbrev pub IsRest : Format → ℕ → Role → EntryPosition → Rest → List ℕ → Type 0
+IsRest format n role position rest.Nothing text = text ≡ []
+IsRest format n role position (rest.Seen view) text =
+    (text ≡ seen_in format n (view_in view) ++ end_in format) × IsReadable (shown_in view.shown)
+IsRest format n role position (rest.Evidence evidence character) text = (all : List ℕ) × IsEndOf (n / 2) all evidence
+    × (text ≡ evidence_in format n role position all (character_in character))

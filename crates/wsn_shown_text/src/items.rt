@@ -10,7 +10,7 @@ ghost use Rattle.wsn_shown_text.specs.Views.{view_in, shown_in, IsReadable};
 ghost use Rattle.wsn_shown_text.specs.Views.Shown.{Hex};
 ghost use Rattle.wsn_shown_text.specs.Members.{item_type};
 ghost use Rattle.wsn_shown_text.specs.EntryFormats.{item_entry, open_entry, front_in, seen_in, end_in};
-ghost use Rattle.wsn_shown_text.specs.ShownItems.{IsItem, evidence_in, rest_in};
+ghost use Rattle.wsn_shown_text.specs.ShownItems.{IsItem, IsRest, evidence_in};
 
 use crate::characters::{put_character_fields, put_character_line};
 use crate::fields::{
@@ -48,6 +48,17 @@ pub enum ShownItem<'a> {
     Remainder(Remainder, HeldBytes<'a>),
 }
 
+/// What is written of an item after its fields.
+#[derive(Clone, Copy)]
+pub(crate) enum Rest<'a> {
+    /// Nothing: the fields include the end.
+    Nothing,
+    /// A view.
+    Seen(View<'a>),
+    /// The evidence for a refusal, and the bad character if there is one.
+    Evidence(HeldBytes<'a>, Option<ShownCharacter<'a>>),
+}
+
 /// Writes an item of an endpoint's stream in a format: an entry, such as `C - 0 text 5 1 "Hello"` or
 /// `S - 7 refused 11 text-bad 1007 4772fc`, and in lines another for the bad character of a text that is refused for one.
 /// A frame's own `place` isn't printed, but the front's offset. `Stop::Write` if the writer fails: a prefix of the text was
@@ -67,10 +78,10 @@ pub fn put_entry<W: Write>(
     let kind = kind_of(item);
     let mut line = Line::new();
     push_front(&mut line, format, kind, front);
-    push_item(&mut line, format, front.offset, item);
+    let rest = push_item(&mut line, format, view, front.offset, item);
     put_timed_front(to, format, kind, front)?;
     put_line(to, line.bytes())?;
-    put_rest(to, format, view, front, item)
+    put_rest(to, format, view, front, &rest)
 }
 
 /// The type of an item.
@@ -88,53 +99,45 @@ fn kind_of(item: &ShownItem<'_>) -> &'static str
     }
 }
 
-/// Appends the offset and the fields of an item.
+/// Appends the offset and the fields of an item, and returns what is to be written then.
 #[inline(always)]
-fn push_item(line: &mut Line<ENTRY_MAX>, format: Format, offset: u64, item: &ShownItem<'_>)
-    requires { length line.old + 160 ≤ ENTRY_MAX }
-    ensures { (view : ℕ) (shown : Item) → IsItem view offset item.now shown → (role : Role) → (position : EntryPosition) →
-        (fields : List ℕ) × (line.new ≡ line.old ++ fields)
-        × (front_in format (item_type shown) role position ++ (fields ++ rest_in format view role position shown)
-        ≡ item_entry format view role position shown) }
-{
-    match item {
-        ShownItem::Event(event) => push_event(line, format, offset, event),
-        ShownItem::Frame(head) => push_frame(line, format, offset, head),
-        ShownItem::Unfinished(event, lacks) => push_unfinished(line, format, offset, event, *lacks),
-        ShownItem::UnfinishedHead => push_unfinished_head(line, format, offset),
-        ShownItem::Refused(refusal, _, _) => push_refused(line, format, offset, refusal),
-        ShownItem::Remainder(which, bytes) => {
-            push_remainder(line, format, offset, *which, bytes.bytes)
-        }
-    }
-}
-
-/// Writes what follows the fields of an item.
-#[inline(always)]
-fn put_rest<W: Write>(
-    to: &mut Output<W>,
+fn push_item<'a>(
+    line: &mut Line<ENTRY_MAX>,
     format: Format,
     view: ViewLimit,
-    front: &EntryFront<'_>,
-    item: &ShownItem<'_>,
-) -> Result<(), Stop>
-    requires { to.old.failed ≡ false }
-    ensures { (shown : Item) → IsItem view front.now.offset item.now shown → IsWrittenOrStops to.old to.new
-        (rest_in format view front.now.role (position_of front.now.origin) shown) result }
+    offset: u64,
+    item: &ShownItem<'a>,
+) -> Rest<'a>
+    requires { length line.old + 160 ≤ ENTRY_MAX }
+    ensures { (shown : Item) → IsItem view offset item.now shown → (role : Role) → (position : EntryPosition) →
+        (fields : List ℕ) × (rest : List ℕ) × (line.new ≡ line.old ++ fields)
+        × IsRest format view role position result rest
+        × (front_in format (item_type shown) role position ++ (fields ++ rest) ≡ item_entry format view role position shown) }
 {
     match item {
-        ShownItem::Event(event) => put_view_and_end(to, format, view, &view_of_event(view, event)),
-        ShownItem::Frame(_) => Ok(()),
-        ShownItem::Unfinished(event, _) => {
-            put_view_and_end(to, format, view, &view_of_unfinished(view, event))
+        ShownItem::Event(event) => {
+            push_event(line, format, offset, event);
+            Rest::Seen(view_of_event(view, event))
         }
-        ShownItem::UnfinishedHead => put_view_and_end(to, format, view, &no_bytes()),
-        ShownItem::Refused(_, evidence, character) => match format {
-            Format::Text => put_evidence_text(to, view, front, evidence, character),
-            Format::Json => put_evidence_fields(to, view, evidence, character),
-        },
-        ShownItem::Remainder(_, bytes) => {
-            put_view_and_end(to, format, view, &view_of_bytes(view, bytes))
+        ShownItem::Frame(head) => {
+            push_frame(line, format, offset, head);
+            Rest::Nothing
+        }
+        ShownItem::Unfinished(event, lacks) => {
+            push_unfinished(line, format, offset, event, *lacks);
+            Rest::Seen(view_of_unfinished(view, event))
+        }
+        ShownItem::UnfinishedHead => {
+            push_unfinished_head(line, format, offset);
+            Rest::Seen(no_bytes())
+        }
+        ShownItem::Refused(refusal, evidence, character) => {
+            push_refused(line, format, offset, refusal);
+            Rest::Evidence(*evidence, *character)
+        }
+        ShownItem::Remainder(which, bytes) => {
+            push_remainder(line, format, offset, *which, bytes.bytes);
+            Rest::Seen(view_of_bytes(view, bytes))
         }
     }
 }
@@ -146,6 +149,30 @@ fn no_bytes() -> View<'static>
     View {
         shown: Shown::Hex(b""),
         more: false,
+    }
+}
+
+/// Writes what follows the fields of an item.
+#[inline(always)]
+fn put_rest<W: Write>(
+    to: &mut Output<W>,
+    format: Format,
+    view: ViewLimit,
+    front: &EntryFront<'_>,
+    rest: &Rest<'_>,
+) -> Result<(), Stop>
+    requires { to.old.failed ≡ false }
+    ensures { (text : List ℕ) →
+        IsRest format view front.now.role (position_of front.now.origin) rest.now text →
+        IsWrittenOrStops to.old to.new text result }
+{
+    match rest {
+        Rest::Nothing => Ok(()),
+        Rest::Seen(shown) => put_view_and_end(to, format, view, shown),
+        Rest::Evidence(evidence, character) => match format {
+            Format::Text => put_evidence_text(to, view, front, evidence, character),
+            Format::Json => put_evidence_fields(to, view, evidence, character),
+        },
     }
 }
 

@@ -1,4 +1,4 @@
-use Rattle.std.proofs.Common.{◌++◌, codes, refl}
+use Rattle.std.proofs.Common.{List, ◌++◌, codes, refl}
 use Rattle.wsn_rules.specs.ShownStream.Item.{Event}
 use Rattle.wsn_shown_text.specs.ShownObjects.{open_object}
 use Rattle.wsn_print.specs.ShownParts.EntryPosition.{InStream}

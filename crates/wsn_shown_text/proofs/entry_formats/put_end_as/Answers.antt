@@ -1,4 +1,4 @@
-use Rattle.std.proofs.Common.{ℕ, List, ◌++◌, codes, ap, ◌∙◌, subst}
+use Rattle.std.proofs.Common.{◌≡◌, ℕ, List, ◌++◌, codes, ap, ◌∙◌, subst}
 use Rattle.wsn_io.specs.Stops.{IsWrittenOrStops}
 use Rattle.wsn_print.specs.ShownParts.{position_of}
 use Rattle.wsn_shown_text.specs.Members.Member.{Mark}

@@ -4,7 +4,6 @@ use Rattle.wsn_io.specs.declared.stop.Stop.TheVariants as stop
 use Rattle.wsn_print.specs.ShownParts.{time_at, position_of}
 use Rattle.wsn_shown_text.specs.Members.{item_type}
 use Rattle.wsn_shown_text.specs.EntryFormats.{item_entry, front_in, if_timed, if_untimed}
-use Rattle.wsn_shown_text.specs.ShownItems.{rest_in}
 use Rattle.wsn_print.proofs.Pieces.{first_stops, second_stops, three_pieces}
 use Rattle.wsn_shown_text.proofs.items.put_entry.Goals as goal
 
@@ -20,11 +19,10 @@ returns-in_err-put_timed_front g c = λ shown is.
     let time = time_at at in
     let start = front_in c.args.format (item_type shown) front.role at in
     let entry = item_entry c.args.format c.args.view front.role at shown in
-    let parts = c.push_item.ensures c.args.view shown is front.role at in
-    let rest = rest_in c.args.format c.args.view front.role at shown in
+    let parts = c.push_item-rest.ensures shown is front.role at in
     let kind = ap (λ (k : List ℕ). if_timed time (front_in c.args.format k front.role at)) (c.kind_of-kind.ensures.word c.args.view front.offset shown is) in
-    first_stops c.args.to.now c.put_timed_front.new.to (if_timed time start) ((if_untimed time start ++ parts.0) ++ rest) entry c.in_err-put_timed_front.field-0.0 c.from_residual.result
-    (whole time start parts.0 rest entry parts.2) (subst (λ (t : List ℕ). (c.in_err-put_timed_front.field-0.0 ≡ stop.Write) × IsPartlyWritten c.args.to.now c.put_timed_front.new.to t) kind c.in_err-put_timed_front.ensures) c.from_residual.ensures.1
+    first_stops c.args.to.now c.put_timed_front.new.to (if_timed time start) ((if_untimed time start ++ parts.0) ++ parts.1) entry c.in_err-put_timed_front.field-0.0 c.from_residual.result
+    (whole time start parts.0 parts.1 entry parts.4) (subst (λ (t : List ℕ). (c.in_err-put_timed_front.field-0.0 ≡ stop.Write) × IsPartlyWritten c.args.to.now c.put_timed_front.new.to t) kind c.in_err-put_timed_front.ensures) c.from_residual.ensures.1
 
 pub returns-in_err-put_line : goal.returns-in_err-put_line
 returns-in_err-put_line g c = λ shown is.
@@ -33,13 +31,12 @@ returns-in_err-put_line g c = λ shown is.
     let time = time_at at in
     let start = front_in c.args.format (item_type shown) front.role at in
     let entry = item_entry c.args.format c.args.view front.role at shown in
-    let parts = c.push_item.ensures c.args.view shown is front.role at in
-    let rest = rest_in c.args.format c.args.view front.role at shown in
+    let parts = c.push_item-rest.ensures shown is front.role at in
     let word = c.kind_of-kind.ensures.word c.args.view front.offset shown is in
     let kind = ap (λ (k : List ℕ). if_timed time (front_in c.args.format k front.role at)) word in
-    let line = c.bytes.ensures ∙ parts.1 ∙ ap (λ (bs : List ℕ). bs ++ parts.0) (c.push_front.ensures.text ∙ ap (λ (k : List ℕ). if_untimed time (front_in c.args.format k front.role at)) word) in
-    second_stops c.args.to.now c.put_timed_front.new.to c.put_line.new.to (if_timed time start) (if_untimed time start ++ parts.0) rest entry c.in_err-put_line.field-0.0 c.from_residual-in_err-put_line.result
-    (whole time start parts.0 rest entry parts.2) (subst (IsWritten c.args.to.now c.put_timed_front.new.to) kind c.in_ok-put_timed_front.ensures)
+    let line = c.bytes.ensures ∙ parts.2 ∙ ap (λ (bs : List ℕ). bs ++ parts.0) (c.push_front.ensures.text ∙ ap (λ (k : List ℕ). if_untimed time (front_in c.args.format k front.role at)) word) in
+    second_stops c.args.to.now c.put_timed_front.new.to c.put_line.new.to (if_timed time start) (if_untimed time start ++ parts.0) parts.1 entry c.in_err-put_line.field-0.0 c.from_residual-in_err-put_line.result
+    (whole time start parts.0 parts.1 entry parts.4) (subst (IsWritten c.args.to.now c.put_timed_front.new.to) kind c.in_ok-put_timed_front.ensures)
     (subst (λ (t : List ℕ). (c.in_err-put_line.field-0.0 ≡ stop.Write) × IsPartlyWritten c.put_timed_front.new.to c.put_line.new.to t) line c.in_err-put_line.ensures) c.from_residual-in_err-put_line.ensures.1
 
 pub returns : goal.returns
@@ -49,12 +46,11 @@ returns g c = λ shown is.
     let time = time_at at in
     let start = front_in c.args.format (item_type shown) front.role at in
     let entry = item_entry c.args.format c.args.view front.role at shown in
-    let parts = c.push_item.ensures c.args.view shown is front.role at in
-    let rest = rest_in c.args.format c.args.view front.role at shown in
+    let parts = c.push_item-rest.ensures shown is front.role at in
     let word = c.kind_of-kind.ensures.word c.args.view front.offset shown is in
     let kind = ap (λ (k : List ℕ). if_timed time (front_in c.args.format k front.role at)) word in
-    let line = c.bytes.ensures ∙ parts.1 ∙ ap (λ (bs : List ℕ). bs ++ parts.0) (c.push_front.ensures.text ∙ ap (λ (k : List ℕ). if_untimed time (front_in c.args.format k front.role at)) word) in
-    three_pieces c.args.to.now c.put_timed_front.new.to c.put_line.new.to c.put_rest.new.to (if_timed time start) (if_untimed time start ++ parts.0) rest entry c.put_rest.result
-    (whole time start parts.0 rest entry parts.2) (subst (IsWritten c.args.to.now c.put_timed_front.new.to) kind c.in_ok-put_timed_front.ensures)
+    let line = c.bytes.ensures ∙ parts.2 ∙ ap (λ (bs : List ℕ). bs ++ parts.0) (c.push_front.ensures.text ∙ ap (λ (k : List ℕ). if_untimed time (front_in c.args.format k front.role at)) word) in
+    three_pieces c.args.to.now c.put_timed_front.new.to c.put_line.new.to c.put_rest.new.to (if_timed time start) (if_untimed time start ++ parts.0) parts.1 entry c.put_rest.result
+    (whole time start parts.0 parts.1 entry parts.4) (subst (IsWritten c.args.to.now c.put_timed_front.new.to) kind c.in_ok-put_timed_front.ensures)
     (subst (IsWritten c.put_timed_front.new.to c.put_line.new.to) line c.in_ok-put_line.ensures)
-    (c.put_rest.ensures shown is)
+    (c.put_rest.ensures parts.1 parts.3)

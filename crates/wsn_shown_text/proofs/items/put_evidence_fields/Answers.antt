@@ -1,4 +1,4 @@
-use Rattle.std.proofs.Common.{◌++◌, codes, sym, append_assoc}
+use Rattle.std.proofs.Common.{ℕ, List, ◌++◌, codes, sym, append_assoc}
 use Rattle.wsn_print.specs.declared.format.Format.TheVariants as formats
 use Rattle.wsn_print.specs.ShownParts.{character_in}
 use Rattle.wsn_shown_text.specs.Views.{view_of_end}

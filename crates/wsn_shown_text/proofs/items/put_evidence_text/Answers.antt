@@ -1,4 +1,4 @@
-use Rattle.std.proofs.Common.{Option, Some, ◌++◌, codes, sym, subst, append_assoc, append-nil}
+use Rattle.std.proofs.Common.{◌≡◌, ℕ, Option, None, Some, List, [], ◌++◌, codes, sym, ap, ◌∙◌, subst, append_assoc, append-nil}
 use Rattle.wsn_io.specs.Transfer.{IsWritten}
 use Rattle.wsn_io.specs.Stops.{IsWrittenOrStops}
 use Rattle.wsn_io.proofs.PutTexts.{put_both}
