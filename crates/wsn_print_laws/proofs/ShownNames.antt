@@ -13,8 +13,8 @@ use Rattle.wsn_shown_text.specs.CharacterText.{text_before, leaves_out, shown_by
 use Rattle.wsn_print.specs.ShownParts.{EntryPosition}
 use Rattle.wsn_shown_text.specs.Views.{Shown, PayloadView, view_of_bytes, view_of_event, view_of_unfinished}
 use Rattle.wsn_shown_text.specs.Views.Shown.{Text, Ascii, Hex, Code, NoCode}
-use Rattle.wsn_shown_text.specs.Members.{event_word, event_size, offset_of, item_type}
-use Rattle.wsn_shown_text.specs.ShownObjects.{side_word, item_object}
+use Rattle.wsn_shown_text.specs.ShownText.{event_word, event_size, offset_of}
+use Rattle.wsn_shown_text.specs.ShownObjects.{side_word, item_type, item_object}
 use Rattle.wsn_print.specs.ShownParts.EntryPosition.{InLine, AtEnd, InStream}
 use Rattle.wsn_print_laws.specs.JsonText.{Value, Null, True, Number, String, Object, Members, End, Member, IsNew, HasDistinctNames, AreDistinct, IsObjectLine}
 use Rattle.wsn_print_laws.specs.ShownItems.{IsPositionInRange, IsItemInRange}

@@ -8,8 +8,7 @@ use Rattle.wsn_rules.specs.ShownStream.Item.{Event, Head, Unfinished, Unfinished
 use Rattle.wsn_rules.specs.ShownCapture.{IsSeconds}
 use Rattle.wsn_print.specs.ShownParts.{EntryPosition}
 use Rattle.wsn_print.specs.ShownParts.EntryPosition.{InLine, AtEnd, InStream}
-use Rattle.wsn_shown_text.specs.Members.{event_word, event_size}
-use Rattle.wsn_shown_text.specs.ShownText.{event_view, unfinished_view, end_view, hex_view}
+use Rattle.wsn_shown_text.specs.ShownText.{event_word, event_size, event_view, unfinished_view, end_view, hex_view}
 use Rattle.wsn_shown_text.specs.CharacterText.{character_view}
 use Rattle.wsn_print_laws.specs.Answers.{IsInU64, IsHeadInRange}
 

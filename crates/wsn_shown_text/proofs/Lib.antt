@@ -5,6 +5,6 @@ pub mod VisibleTexts
 pub mod TextFronts
 pub mod VisibleLines
 pub mod CommentLines
-pub mod Entries
+pub mod ObjectPieces
 pub mod PlacedItems
 pub mod DifferingParts

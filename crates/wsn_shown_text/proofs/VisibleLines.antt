@@ -1,5 +1,5 @@
 -- Nothing of a line of `show` is hidden but the LF at its end.
-use Rattle.std.proofs.Common.{◌≡◌, ℕ, zero, suc, ◌+◌, ◌*◌, ◌-◌, ◌/◌, ◌%◌, ◌<◌, Bool, true, false, nat_lt, ◌==◌, ◌&&◌, if◌then◌else◌, Option, None, Some, List, [], ◌∷◌, ◌++◌, length, take, drop, codes, decimal, refl, inl, inr, arith}
+use Rattle.std.proofs.Common.{◌≡◌, ℕ, zero, suc, ◌+◌, ◌*◌, ◌-◌, ◌/◌, ◌%◌, ◌<◌, Bool, true, false, nat_lt, ◌==◌, ◌&&◌, if◌then◌else◌, Option, None, Some, List, [], ◌∷◌, ◌++◌, length, take, drop, codes, decimal, refl, sym, inl, inr, append_assoc, arith}
 use Rattle.std.specs.Prelude.{flat_map, ⊤}
 use Rattle.std.specs.Fmt.{digits, digits_onto, digit_glyph}
 use Rattle.std.specs.List.{AllByRecursion}
@@ -28,8 +28,7 @@ use Rattle.wsn_rules.specs.ShownStream.Item.{Event, Head, Unfinished, Unfinished
 use Rattle.wsn_print.specs.Fields.{number_text, refusal_text, fin_word, op_word, key_text, form_text}
 use Rattle.wsn_print.specs.HeadText.{head_fields}
 use Rattle.wsn_print.specs.EscapedText.{is_from, quoted_character, quoted, comment_line, comment_text}
-use Rattle.wsn_shown_text.specs.ShownText.{hex_text, end_view, reason_text, shown_text, seen_text, view_text, member_text, role_letter, time_text, front_text, item_line, end_line}
-use Rattle.wsn_shown_text.specs.Members.{Member, event_word, event_size, offset_of, members, end_members}
+use Rattle.wsn_shown_text.specs.ShownText.{hex_text, end_view, reason_text, shown_text, seen_text, view_text, event_word, event_size, event_text, role_letter, time_text, front_text, offset_of, item_text, item_line, end_line}
 use Rattle.wsn_shown_text.specs.Views.{Shown, PayloadView, is_printable, view_of_text, view_of_bytes, view_of_close, view_of_event, view_of_unfinished}
 use Rattle.wsn_shown_text.specs.Views.Shown.{Text, Ascii, Hex, Code, NoCode}
 use Rattle.wsn_print.specs.ShownParts.{HasTextReason}
@@ -134,7 +133,7 @@ seconds None visible = word (codes "-") refl
 seconds (Some text) visible = record { is = visible }
 
 front : (role : Role) (time : Option (List ℕ)) (offset : ℕ) → IfSome time IsAllVisible → Seen (front_text role time offset)
-front role time offset visible = letter role ⊕ space ⊕ seconds time visible ⊕ (space ⊕ number offset)
+front role time offset visible = letter role ⊕ space ⊕ seconds time visible ⊕ space ⊕ number offset ⊕ space
 
 verdict : (refusal : Refusal) → Seen (refusal_text refusal)
 verdict refusal =
@@ -223,6 +222,9 @@ unfinished_seen n (Control op body) fits = take_bytes (n / 2) body fits
 
 -- ---- lines
 
+fields : (event : MeantEvent) (frames : ℕ) → Seen (event_text event frames)
+fields event frames = seen_word event ⊕ space ⊕ number (event_size event) ⊕ space ⊕ number frames
+
 last_or_not : (fin : Bool) → Seen (fin_word fin)
 last_or_not true = word (codes "fin") refl
 last_or_not false = word (codes "more") refl
@@ -241,46 +243,24 @@ head info fits =
     last_or_not info.fin ⊕ space ⊕ word (op_word info.op) (opcode_word info.op) ⊕ space ⊕ key_seen info.key fits ⊕ space ⊕ number info.len
     ⊕ form_seen info.form
 
-abbrev AllSeen : List Member → Type 0
-AllSeen [] = ⊤
-AllSeen (m ∷ members) = Seen (member_text m) × AllSeen members
-
-all_seen : (members : List Member) → AllSeen members → Seen (flat_map member_text members)
-all_seen [] each = word [] refl
-all_seen (m ∷ members) each = each.0 ⊕ all_seen members each.1
-
-item : (n : ℕ) (item : Item) → IsBytes (bytes_in item) → ShowsTextReason item → AllSeen (members n item)
-item n (Event offset event frames) fits reason =
-    (space ⊕ seen_word event, (space ⊕ number (event_size event), (space ⊕ number frames, (space ⊕ view_seen n (view_of_event n event) (event_seen n event fits reason), tt))))
-item n (Head info) fits reason = (space ⊕ head info fits, tt)
-item n (Unfinished offset event frames lacks) fits reason = (
-  word (codes " unfinished") refl,
-  (
-    space ⊕ seen_word event,
-    (
-      space ⊕ number (event_size event),
-      (space ⊕ number frames, (word (codes " lacks ") refl ⊕ number_or_dash lacks, (space ⊕ view_seen n (view_of_unfinished n event) (unfinished_seen n event fits), tt))),
-    ),
-  ),
-)
-item n (UnfinishedHead offset) fits reason = (
-  word (codes " unfinished") refl,
-  (
-    word (codes " head") refl,
-    (space ⊕ number 0, (space ⊕ number 0, (word (codes " lacks -") refl, (space ⊕ view_seen n (as_view (Hex []) false) tt, tt)))),
-  ),
-)
-item n (RefusedFrame offset refusal evidence character) fits reason = (space ⊕ verdict refusal, (space ⊕ end_seen n evidence fits, (word [] refl, tt)))
+item : (n : ℕ) (item : Item) → IsBytes (bytes_in item) → ShowsTextReason item → Seen (item_text n item)
+item n (Event offset event frames) fits reason = fields event frames ⊕ space ⊕ view_seen n (view_of_event n event) (event_seen n event fits reason)
+item n (Head info) fits reason = head info fits
+item n (Unfinished offset event frames lacks) fits reason =
+    word (codes "unfinished ") refl ⊕ fields event frames ⊕ word (codes " lacks ") refl ⊕ number_or_dash lacks ⊕ space
+    ⊕ view_seen n (view_of_unfinished n event) (unfinished_seen n event fits)
+item n (UnfinishedHead offset) fits reason = word (codes "unfinished head 0 0 lacks - -") refl
+item n (RefusedFrame offset refusal evidence character) fits reason = verdict refusal ⊕ space ⊕ end_seen n evidence fits
 item n (Unread offset bytes) fits reason =
-    (word (codes " unread") refl, (space ⊕ number (length bytes), (space ⊕ view_seen n (view_of_bytes n bytes) (take_bytes (n / 2) bytes fits), tt)))
+    word (codes "unread") refl ⊕ space ⊕ number (length bytes) ⊕ space ⊕ view_seen n (view_of_bytes n bytes) (take_bytes (n / 2) bytes fits)
 item n (Tail offset bytes) fits reason =
-    (word (codes " tail") refl, (space ⊕ number (length bytes), (space ⊕ view_seen n (view_of_bytes n bytes) (take_bytes (n / 2) bytes fits), tt)))
+    word (codes "tail") refl ⊕ space ⊕ number (length bytes) ⊕ space ⊕ view_seen n (view_of_bytes n bytes) (take_bytes (n / 2) bytes fits)
 
 pub item_line_visible : (n : ℕ) (role : Role) (time : Option (List ℕ)) (shown : Item) → IfSome time IsAllVisible → IsBytes (bytes_in shown) → ShowsTextReason shown
     → IsVisibleLine (item_line n role time shown)
 item_line_visible n role time shown visible fits reason =
-    let line = front role time (offset_of shown) visible ⊕ all_seen (members n shown) (item n shown fits reason) in
-    (front_text role time (offset_of shown) ++ flat_map member_text (members n shown), refl, line.is)
+    let line = front role time (offset_of shown) visible ⊕ item n shown fits reason in
+    (front_text role time (offset_of shown) ++ item_text n shown, refl, line.is)
 
 -- ---- bad characters
 
@@ -307,9 +287,9 @@ pub character_line_visible : (n : ℕ) (role : Role) (time : Option (List ℕ)) 
     → IsBytes character.bytes → IsVisibleLine (character_line n role time evidence character)
 character_line_visible n role time evidence character visible fits =
     let line =
-    front role time character.offset visible ⊕ word (codes " bad-character ") refl ⊕ number character.in_payload ⊕ space
+    front role time character.offset visible ⊕ word (codes "bad-character ") refl ⊕ number character.in_payload ⊕ space
     ⊕ character_seen n evidence character fits in (
-      front_text role time character.offset ++ codes " bad-character " ++ decimal character.in_payload ++ codes " "
+      front_text role time character.offset ++ codes "bad-character " ++ decimal character.in_payload ++ codes " "
           ++ character_view n evidence character,
       refl,
       line.is,
@@ -319,8 +299,8 @@ character_line_visible n role time evidence character visible fits =
 
 pub end_line_visible : (role : Role) (time : Option (List ℕ)) (sent : ℕ) → IfSome time IsAllVisible → IsVisibleLine (end_line role time sent)
 end_line_visible role time sent visible =
-    let line = front role time sent visible ⊕ all_seen end_members (word (codes " end") refl, tt) in
-    (front_text role time sent ++ flat_map member_text end_members, refl, line.is)
+    let line = front role time sent visible ⊕ word (codes "end") refl in
+    (front_text role time sent ++ codes "end", sym (append_assoc (front_text role time sent) (codes "end") (codes "\n")), line.is)
 
 pub comment_line_visible : (text : List ℕ) → IsBytes text → IsVisibleLine (comment_line text)
 comment_line_visible text fits = (comment_text text, refl, comment_visible text fits)

@@ -1,5 +1,5 @@
 -- What is printed in each format of streams and captures, with its LF.
-use Rattle.std.specs.Prelude.{ℕ, Option, None, Some, List, [], ◌++◌, flat_map, codes, decimal}
+use Rattle.std.specs.Prelude.{ℕ, List, flat_map}
 use Rattle.wsn_wire.specs.declared.endpoint.Role.{Role}
 use Rattle.wsn_rules.specs.ShownStream.{Item}
 use Rattle.wsn_rules.specs.ShownCapture.{LineItem, ShownLine}
@@ -8,12 +8,9 @@ use Rattle.wsn_print.specs.declared.format.Format.{Format, TheVariants.{Text, Js
 use Rattle.wsn_print.specs.EscapedText.{comment_line}
 use Rattle.wsn_print.specs.ShownParts.{EntryPosition, time_at, number_at}
 use Rattle.wsn_print.specs.ShownParts.EntryPosition.{InLine}
-use Rattle.wsn_shown_text.specs.Views.{PayloadView}
-use Rattle.wsn_shown_text.specs.Members.{Member, members, item_type, offset_of}
-use Rattle.wsn_shown_text.specs.ShownText.{view_text, member_text, role_letter, time_text, end_line}
+use Rattle.wsn_shown_text.specs.ShownText.{end_line}
 use Rattle.wsn_shown_text.specs.CharacterText.{item_lines}
-use Rattle.wsn_shown_text.specs.ShownObjects.{view_fields, member_field, object_front, item_object, end_object, comment_object}
-use Rattle.wsn_print.specs.Json.{number_field}
+use Rattle.wsn_shown_text.specs.ShownObjects.{item_object, end_object, comment_object}
 
 -- An item of an endpoint's stream, with views of at most n bytes.
 abbrev pub item_entry : Format → ℕ → Role → EntryPosition → Item → List ℕ
@@ -39,54 +36,3 @@ line_item_entry format n position (Comment text) = comment_entry format (number_
 -- What is printed of a line of a capture.
 abbrev pub line_entries : Format → ℕ → ShownLine → List ℕ
 line_entries format n shown = flat_map (line_item_entry format n (InLine shown.number shown.time)) shown.items
-
--- ---- the pieces of an entry
-
--- The endpoint and the time; in an object also the type and the line.
-abbrev pub front_in : Format → List ℕ → Role → EntryPosition → List ℕ
-front_in Text kind role position = role_letter role ++ codes " " ++ time_text (time_at position)
-front_in Json kind role position = object_front kind role position
-
--- What is in front of an entry that has a time, which is written by itself.
-abbrev pub if_timed : Option (List ℕ) → List ℕ → List ℕ
-if_timed (Some seconds) front = front
-if_timed None front = []
-
--- What is in front of any other, which is in one line with its fields.
-abbrev pub if_untimed : Option (List ℕ) → List ℕ → List ℕ
-if_untimed (Some seconds) front = []
-if_untimed None front = front
-
--- The offset.
-abbrev pub offset_in : Format → ℕ → List ℕ
-offset_in Text offset = codes " " ++ decimal offset
-offset_in Json offset = number_field (codes "offset") offset
-
--- A member.
-abbrev pub member_in : Format → Member → List ℕ
-member_in Text = member_text
-member_in Json = member_field
-
--- Members, in order.
-abbrev pub members_in : Format → List Member → List ℕ
-members_in format members = flat_map (member_in format) members
-
--- An item without its end.
-abbrev pub open_entry : Format → ℕ → Role → EntryPosition → Item → List ℕ
-open_entry format n role position item =
-    front_in format (item_type item) role position ++ offset_in format (offset_of item)
-    ++ members_in format (members n item)
-
--- What is in front of a view, and the view.
-abbrev pub space_in : Format → List ℕ
-space_in Text = codes " "
-space_in Json = []
-
-abbrev pub seen_in : Format → ℕ → PayloadView → List ℕ
-seen_in Text n view = view_text n view
-seen_in Json n view = view_fields view
-
--- The end.
-abbrev pub end_in : Format → List ℕ
-end_in Text = codes "\n"
-end_in Json = codes "}\n"

@@ -10,12 +10,13 @@ ghost use Rattle.wsn_print.specs.ShownParts.{IsPlaced, StandsFor};
 
 use crate::differing::put_differ_line;
 use crate::differing_members::put_differ_field;
-use crate::items::put_placed;
+use crate::entries::put_event;
+use crate::shown_objects::put_event_members;
 use std::io::Write;
 use wsn_io::{Output, Stop, put_line};
 use wsn_print::{
-    Difference, Format, Line, PlacedEvent, ViewLimit, line_of_difference, push_number_field,
-    push_string_field,
+    Difference, EntryFront, Format, Front, Line, Origin, PlacedEvent, ViewLimit,
+    line_of_difference, push_number_field, push_string_field,
 };
 use wsn_wire::Role;
 
@@ -92,8 +93,12 @@ fn put_placed_line<W: Write>(
         IsWrittenOrStops to.old to.new (event_line view role (Some (Event offset event frames))) result }
     ensures unfailed { IfOk result (λ done. to.new.failed ≡ false) }
 {
-    put_placed(to, Format::Text, view, role, placed)?;
-    put_line(to, b"\n")
+    let front = Front {
+        role,
+        time: None,
+        offset: placed.offset,
+    };
+    put_event(to, view, &front, &placed.event)
 }
 
 fn put_difference_object<W: Write>(
@@ -157,6 +162,11 @@ fn put_placed_object<W: Write>(
         IsWrittenOrStops to.old to.new (event_value view role (Some (Event offset event frames))) result }
     ensures unfailed { IfOk result (λ done. to.new.failed ≡ false) }
 {
-    put_placed(to, Format::Json, view, role, placed)?;
+    let front = EntryFront {
+        role,
+        origin: Origin::Stream,
+        offset: placed.offset,
+    };
+    put_event_members(to, view, &front, &placed.event)?;
     put_line(to, b"}")
 }

@@ -12,9 +12,9 @@ ghost use Rattle.wsn_rules.specs.declared.report.Outcome.TheVariants as outcome;
 ghost use Rattle.wsn_rules.specs.declared.report.Side.TheVariants as side;
 ghost use Rattle.wsn_rules.specs.declared.verdict.Verdict.TheVariants.{Accepted, Cut, Refused};
 ghost use Rattle.wsn_rules.specs.Meaning.{Message, Control};
-ghost use Rattle.wsn_rules.specs.ShownStream.Item.{Event, Head, Unfinished, UnfinishedHead, RefusedFrame, Unread, Tail};
+ghost use Rattle.wsn_rules.specs.ShownStream.Item.{Event, Unfinished, UnfinishedHead, RefusedFrame, Unread, Tail};
 ghost use Rattle.wsn_print.specs.Objects.{verdict_object, frame_object, report_object, comparison_object};
-ghost use Rattle.wsn_shown_text.specs.ShownObjects.{item_object, end_object, comment_object};
+ghost use Rattle.wsn_shown_text.specs.ShownObjects.{item_object, end_object, shown_frame_object, comment_object};
 ghost use Rattle.wsn_print.specs.ShownParts.EntryPosition.{InLine, AtEnd, InStream};
 
 /// The objects of verdicts.
@@ -192,7 +192,7 @@ pub fn of_other_entries()
     ensures unread_with_a_time { item_object 48 Server (AtEnd (Some (codes "1.5"))) (Unread 12 (0xdf ∷ 0x65 ∷ [])) ≡ codes "{\"type\":\"unread\",\"side\":\"server\",\"time\":1.5,\"offset\":12,\"bytes\":2,\"hex\":\"df65\"}\n" }
     ensures tail { item_object 0 Client InStream (Tail 2 (0x81 ∷ [])) ≡ codes "{\"type\":\"tail\",\"side\":\"client\",\"offset\":2,\"bytes\":1,\"hex\":\"\",\"truncated\":true}\n" }
     ensures end_mark { end_object Server (InLine 4 None) 18 ≡ codes "{\"type\":\"end\",\"line\":4,\"side\":\"server\",\"time\":null,\"offset\":18}\n" }
-    ensures frame { item_object 48 Client (InLine 1 (Some (codes "0.5"))) (Head (record { place = 0; fin = true; op = op.Text; key = None; form = Shortest; len = 5 })) ≡ codes "{\"type\":\"frame\",\"line\":1,\"side\":\"client\",\"time\":0.5,\"offset\":0,\"fin\":true,\"opcode\":\"text\",\"key\":null,\"length\":5,\"form\":\"shortest\"}\n" }
+    ensures frame { shown_frame_object Client (InLine 1 (Some (codes "0.5"))) (record { place = 0; fin = true; op = op.Text; key = None; form = Shortest; len = 5 }) ≡ codes "{\"type\":\"frame\",\"line\":1,\"side\":\"client\",\"time\":0.5,\"offset\":0,\"fin\":true,\"opcode\":\"text\",\"key\":null,\"length\":5,\"form\":\"shortest\"}\n" }
 {}
 
 /// The objects of refusals with a bad character.
