@@ -2,8 +2,7 @@
 use Rattle.std.specs.Prelude.{◌≡◌, ℕ, ◌/◌, List, [], ◌∷◌, ◌++◌, if◌then◌else◌}
 use Rattle.wsn_io.specs.Transfer.{Outgoing, IsWrittenUpToFailure}
 use Rattle.wsn_wire.specs.Frame.{Frame}
-use Rattle.wsn_rules.specs.declared.detail.Detail.{Detail}
-use Rattle.wsn_rules.specs.declared.detail.Detail.TheVariants.{Events, Frames}
+use Rattle.wsn_rules.specs.declared.detail.Detail.{Detail, TheVariants.{Events, Frames}}
 use Rattle.wsn_rules.specs.declared.head_info.HeadInfo.{HeadInfo}
 use Rattle.wsn_rules.specs.Meaning.{MeantEvent, event_at}
 use Rattle.wsn_rules.specs.Summary.{is_close}

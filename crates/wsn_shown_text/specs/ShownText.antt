@@ -1,8 +1,7 @@
 -- The lines of `show`, each with its LF: entries of what both sides sent, and end marks. (Comments are in `EscapedText`.)
 use Rattle.std.specs.Prelude.{ℕ, ◌==◌, ◌&&◌, if◌then◌else◌, Option, None, Some, List, [], ◌∷◌, ◌++◌, length, codes, decimal}
 use Rattle.hex.specs.Hex.{encode_lower}
-use Rattle.wsn_wire.specs.declared.endpoint.Role.{Role}
-use Rattle.wsn_wire.specs.declared.endpoint.Role.TheVariants.{Client, Server}
+use Rattle.wsn_wire.specs.declared.endpoint.Role.{Role, TheVariants.{Client, Server}}
 use Rattle.wsn_wire.specs.declared.opcode.Kind.{Kind}
 use Rattle.wsn_wire.specs.declared.opcode.Kind.TheVariants as kinds
 use Rattle.wsn_rules.specs.Meaning.{MeantEvent, Message, Control}
