@@ -183,13 +183,14 @@ fn recut_by_text<A: Allocator + Copy, W: Write>(
     text: &str,
     writer: &mut W,
 ) -> Result<RecutAnswer, Stop> {
-    match read_plan(heap, text.as_bytes()) {
-        Ok(plan) => recut_by(heap, stream, &plan, writer),
+    let plan = match read_plan(heap, text.as_bytes()) {
+        Ok(plan) => plan,
         Err(fault) => {
             expect_of(rt, fault == PlanFault::Memory, &fault);
-            Err(Stop::Memory)
+            return Err(Stop::Memory);
         }
-    }
+    };
+    recut_by(heap, stream, &plan, writer)
 }
 
 /// Fails unless this is a row's recut, with reads of every size.
