@@ -183,14 +183,14 @@ fn recut_by_text<A: Allocator + Copy, W: Write>(
     text: &str,
     writer: &mut W,
 ) -> Result<RecutAnswer, Stop> {
-    let plan = match read_plan(heap, text.as_bytes()) {
-        Ok(plan) => plan,
+    match read_plan(heap, text.as_bytes()) {
+        Ok(plan) => recut_by(heap, stream, &plan, writer),
         Err(fault) => {
+            drop(stream);
             expect_of(rt, fault == PlanFault::Memory, &fault);
-            return Err(Stop::Memory);
+            Err(Stop::Memory)
         }
-    };
-    recut_by(heap, stream, &plan, writer)
+    }
 }
 
 /// Fails unless this is a row's recut, with reads of every size.
