@@ -168,8 +168,8 @@ pub fn recut_of<A: Allocator + Copy, W: Write>(
     let mut output = Output::new(writer);
     let (size, weave) = match row.by {
         By::Plan(text) => {
-            let over = (&mut input, &mut output);
-            return recut_by_text(rt, heap, over, (role, limits), text);
+            let sender = (role, limits);
+            return recut_by_text(rt, heap, &mut input, &mut output, sender, text);
         }
         By::Size(size) => (size.max(1), false),
         By::SizeAndWeave(size) => (size.max(1), true),
@@ -192,12 +192,13 @@ pub fn recut_of<A: Allocator + Copy, W: Write>(
 fn recut_by_text<A: Allocator + Copy, R: Read, W: Write>(
     rt: &impl Abort,
     heap: A,
-    over: (&mut Input<R>, &mut Output<W>),
+    input: &mut Input<R>,
+    output: &mut Output<W>,
     sender: (Role, Limits),
     text: &str,
 ) -> Result<RecutAnswer, Stop> {
     match read_plan(heap, text.as_bytes()) {
-        Ok(plan) => recut(heap, over.0, over.1, sender.0, sender.1, &plan),
+        Ok(plan) => recut(heap, input, output, sender.0, sender.1, &plan),
         Err(fault) => {
             expect_of(rt, fault == PlanFault::Memory, &fault);
             Err(Stop::Memory)
@@ -237,8 +238,10 @@ fn wrong_form_of_a_length_of_two_bytes(rt: HostRuntime) {
         let limits = limits_from(&ANY_LENGTHS).expect(&rt, "limits in range");
         let mut reader = Chopped::new(bytes.as_slice(), usize::MAX);
         let mut out = Vec::new(alloc);
-        let over = (&mut Input::new(&mut reader), &mut Output::new(&mut out));
-        let answer = recut_by_text(&rt, alloc, over, (Role::Server, limits), text);
+        let mut input = Input::new(&mut reader);
+        let mut output = Output::new(&mut out);
+        let sender = (Role::Server, limits);
+        let answer = recut_by_text(&rt, alloc, &mut input, &mut output, sender, text);
         let found = (&answer, out.as_slice());
         expect_recut(&rt, alloc, found, (line, expected), &text);
     }
