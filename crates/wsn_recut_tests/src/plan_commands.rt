@@ -223,13 +223,17 @@ fn recuts_are_written(rt: HostRuntime) {
 
 #[test]
 fn recut_reports_a_failed_read(rt: HostRuntime) {
-    let alloc = rt.alloc();
     for row in FITS.iter().chain(SIZED_RECUTS.iter()) {
-        for count in 0..=row.bytes.len() {
-            let reader = Chopped::breaking(&row.bytes[..count], 3);
-            let line = line_of_prefix(row.line, count, row.bytes.len());
-            expect_recut(&rt, alloc, row, (reader, Narrow::wide(alloc)), (b"", line));
-        }
+        expect_unread(&rt, rt.alloc(), row, row.bytes);
+    }
+}
+
+/// Fails unless a failed read after each of these bytes of a row is reported.
+fn expect_unread(rt: &impl Abort, alloc: Global, row: &RecutRow, bytes: &[u8]) {
+    for count in 0..=bytes.len() {
+        let reader = Chopped::breaking(&bytes[..count], 3);
+        let line = line_of_prefix(row.line, count, bytes.len());
+        expect_recut(rt, alloc, row, (reader, Narrow::wide(alloc)), (b"", line));
     }
 }
 

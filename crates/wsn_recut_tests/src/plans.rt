@@ -117,15 +117,19 @@ fn stream_of(rt: &impl Abort, row: &Planned, at_most: usize) -> SentStream<'stat
 
 #[test]
 fn streams_are_planned(rt: HostRuntime) {
-    let alloc = rt.alloc();
     for row in PLANNED.iter() {
         for at_most in READS {
-            let answer = planned(alloc, stream_of(&rt, row, at_most));
-            let of = (row, at_most);
-            expect_text(&rt, alloc, &answer, row.text, &of);
-            expect_reported(&rt, alloc, &answer, row.line, &of);
+            expect_planned(&rt, rt.alloc(), row, at_most);
         }
     }
+}
+
+/// Fails unless planning a row gives its line and its plan's text, with reads of at most `at_most` bytes.
+fn expect_planned(rt: &impl Abort, alloc: Global, row: &Planned, at_most: usize) {
+    let answer = planned(alloc, stream_of(rt, row, at_most));
+    let of = (row, at_most);
+    expect_text(rt, alloc, &answer, row.text, &of);
+    expect_reported(rt, alloc, &answer, row.line, &of);
 }
 
 /// Fails unless this is the text of a plan, or empty where there is no plan.

@@ -2,14 +2,14 @@
 
 use crate::expecting::{expect_answer, expect_of, expect_recut, plan_read};
 use std::alloc::{Allocator, Global};
-use std::io::Write;
+use std::io::{Read, Write};
 use std::process::Abort;
-use wsn_doubles::engines::{SentStream, Sizes, recut_by, recut_uniformly};
+use wsn_doubles::engines::{SentStream, key_of, recut_by};
 use wsn_doubles::readers::{Chopped, READS};
 use wsn_doubles::vectors::{ANY_LENGTHS, GREATEST, Settings, filled, limits_from, stream_named};
-use wsn_plan::{PlanFault, RecutAnswer, read_plan};
-use wsn_scan::Stop;
-use wsn_wire::Role;
+use wsn_plan::{PlanFault, RecutAnswer, read_plan, recut, recut_uniform};
+use wsn_scan::{Limits, Stop};
+use wsn_wire::{Input, Output, Role};
 
 /// How a stream is recut: by the plan of a text, or in frames of this size. With `SizeAndWeave` the controls before a
 /// message are interleaved with its frames.
@@ -159,32 +159,46 @@ pub fn recut_of<A: Allocator + Copy, W: Write>(
     rt: &impl Abort,
     heap: A,
     row: &RecutRow,
-    reader: Chopped,
+    mut reader: Chopped,
     writer: &mut W,
 ) -> Result<RecutAnswer, Stop> {
-    let stream = SentStream {
-        role: row.role,
-        limits: limits_from(&row.settings).expect(rt, "limits in range"),
-        reader,
-    };
+    let role = row.role;
+    let limits = limits_from(&row.settings).expect(rt, "limits in range");
+    let mut input = Input::new(&mut reader);
+    let mut output = Output::new(writer);
     let (size, weave) = match row.by {
-        By::Plan(text) => return recut_by_text(rt, heap, stream, text, writer),
-        By::Size(size) => (size, false),
-        By::SizeAndWeave(size) => (size, true),
+        By::Plan(text) => {
+            let sender = (role, limits);
+            return recut_by_text(rt, heap, &mut input, &mut output, sender, text);
+        }
+        By::Size(size) => (size.max(1), false),
+        By::SizeAndWeave(size) => (size.max(1), true),
     };
-    recut_uniformly(heap, stream, Sizes { size, weave }, writer)
+    let key = key_of(role);
+    recut_uniform(
+        heap,
+        &mut input,
+        &mut output,
+        role,
+        limits,
+        size,
+        weave,
+        key,
+    )
 }
 
-/// The answer of a recut by the plan of this text. Fails unless the text is a plan.
-fn recut_by_text<A: Allocator + Copy, W: Write>(
+/// The answer of a recut by the plan of this text, of what the endpoint of this role sends under these limits. Fails
+/// unless the text is a plan.
+fn recut_by_text<A: Allocator + Copy, R: Read, W: Write>(
     rt: &impl Abort,
     heap: A,
-    stream: SentStream,
+    input: &mut Input<R>,
+    output: &mut Output<W>,
+    sender: (Role, Limits),
     text: &str,
-    writer: &mut W,
 ) -> Result<RecutAnswer, Stop> {
     match read_plan(heap, text.as_bytes()) {
-        Ok(plan) => recut_by(heap, stream, &plan, writer),
+        Ok(plan) => recut(heap, input, output, sender.0, sender.1, &plan),
         Err(fault) => {
             expect_of(rt, fault == PlanFault::Memory, &fault);
             Err(Stop::Memory)
@@ -221,13 +235,13 @@ fn wrong_form_of_a_length_of_two_bytes(rt: HostRuntime) {
         ("last - eight", "done", eight.as_slice()),
         ("last -", "done", bytes.as_slice()),
     ] {
-        let stream = SentStream {
-            role: Role::Server,
-            limits: limits_from(&ANY_LENGTHS).expect(&rt, "limits in range"),
-            reader: Chopped::new(bytes.as_slice(), usize::MAX),
-        };
+        let limits = limits_from(&ANY_LENGTHS).expect(&rt, "limits in range");
+        let mut reader = Chopped::new(bytes.as_slice(), usize::MAX);
         let mut out = Vec::new(alloc);
-        let answer = recut_by_text(&rt, alloc, stream, text, &mut out);
+        let mut input = Input::new(&mut reader);
+        let mut output = Output::new(&mut out);
+        let sender = (Role::Server, limits);
+        let answer = recut_by_text(&rt, alloc, &mut input, &mut output, sender, text);
         let found = (&answer, out.as_slice());
         expect_recut(&rt, alloc, found, (line, expected), &text);
     }
