@@ -164,17 +164,16 @@ pub fn recut_of<A: Allocator + Copy, W: Write>(
 ) -> Result<RecutAnswer, Stop> {
     let role = row.role;
     let limits = limits_from(&row.settings).expect(rt, "limits in range");
-    let mut input = Input::new(&mut reader);
-    let mut output = Output::new(writer);
     let (size, weave) = match row.by {
         By::Plan(text) => {
-            let sender = (role, limits);
-            return recut_by_text(rt, heap, &mut input, &mut output, sender, text);
+            return recut_by_text(rt, heap, &mut reader, writer, (role, limits), text);
         }
         By::Size(size) => (size.max(1), false),
         By::SizeAndWeave(size) => (size.max(1), true),
     };
     let key = key_of(role);
+    let mut input = Input::new(&mut reader);
+    let mut output = Output::new(writer);
     recut_uniform(
         heap,
         &mut input,
@@ -192,13 +191,17 @@ pub fn recut_of<A: Allocator + Copy, W: Write>(
 fn recut_by_text<A: Allocator + Copy, R: Read, W: Write>(
     rt: &impl Abort,
     heap: A,
-    input: &mut Input<R>,
-    output: &mut Output<W>,
+    reader: &mut R,
+    writer: &mut W,
     sender: (Role, Limits),
     text: &str,
 ) -> Result<RecutAnswer, Stop> {
     match read_plan(heap, text.as_bytes()) {
-        Ok(plan) => recut(heap, input, output, sender.0, sender.1, &plan),
+        Ok(plan) => {
+            let mut input = Input::new(reader);
+            let mut output = Output::new(writer);
+            recut(heap, &mut input, &mut output, sender.0, sender.1, &plan)
+        }
         Err(fault) => {
             expect_of(rt, fault == PlanFault::Memory, &fault);
             Err(Stop::Memory)
@@ -238,10 +241,8 @@ fn wrong_form_of_a_length_of_two_bytes(rt: HostRuntime) {
         let limits = limits_from(&ANY_LENGTHS).expect(&rt, "limits in range");
         let mut reader = Chopped::new(bytes.as_slice(), usize::MAX);
         let mut out = Vec::new(alloc);
-        let mut input = Input::new(&mut reader);
-        let mut output = Output::new(&mut out);
         let sender = (Role::Server, limits);
-        let answer = recut_by_text(&rt, alloc, &mut input, &mut output, sender, text);
+        let answer = recut_by_text(&rt, alloc, &mut reader, &mut out, sender, text);
         let found = (&answer, out.as_slice());
         expect_recut(&rt, alloc, found, (line, expected), &text);
     }
