@@ -101,7 +101,8 @@ fn an_unfinished_message(rt: HostRuntime) {
     let mut output = Output::new(&mut line);
     let put = put_unfinished_object(&mut output, view, &AT_END, &event, Some(144));
     assert_eq!(rt; put, Ok(()));
-    let expected = r#"{"type":"unfinished","side":"server","time":0.001356,"offset":17,"event":"binary","bytes":3,"frames":2,"lacks":144,"hex":"00ff","truncated":true}"#;
+    let expected =
+        r#"{"type":"unfinished","side":"server","time":0.001356,"offset":17,"event":"binary","bytes":3,"frames":2,"lacks":144,"hex":"00ff","truncated":true}"#;
     expect_object(&rt, rt.alloc(), line.as_slice(), expected);
 }
 
@@ -110,7 +111,8 @@ fn an_unfinished_head(rt: HostRuntime) {
     let mut line = Vec::new(rt.alloc());
     let put = put_unfinished_head_object(&mut Output::new(&mut line), &AT_END);
     assert_eq!(rt; put, Ok(()));
-    let expected = r#"{"type":"unfinished","side":"server","time":0.001356,"offset":17,"event":"head","bytes":0,"frames":0,"lacks":null,"hex":""}"#;
+    let expected =
+        r#"{"type":"unfinished","side":"server","time":0.001356,"offset":17,"event":"head","bytes":0,"frames":0,"lacks":null,"hex":""}"#;
     expect_object(&rt, rt.alloc(), line.as_slice(), expected);
 }
 
@@ -126,7 +128,8 @@ fn a_refusal(rt: HostRuntime) {
     let evidence = whole(b"\x81\x80\xff");
     let put = put_refused_object(&mut output, view, &IN_LINE, &refusal, &evidence, &None);
     assert_eq!(rt; put, Ok(()));
-    let expected = r#"{"type":"refused","line":1,"side":"client","time":0.001356,"offset":3,"place":4,"reason":"mask-present","code":1002,"hex":"80ff","truncated":true}"#;
+    let expected =
+        r#"{"type":"refused","line":1,"side":"client","time":0.001356,"offset":3,"place":4,"reason":"mask-present","code":1002,"hex":"80ff","truncated":true}"#;
     expect_object(&rt, rt.alloc(), line.as_slice(), expected);
 }
 
@@ -242,6 +245,7 @@ fn a_frame(rt: HostRuntime) {
     let mut output = Output::new(&mut line);
     let put = put_shown_frame_object(&mut output, Role::Client, &IN_LINE.origin, &head);
     assert_eq!(rt; put, Ok(()));
-    let expected = r#"{"type":"frame","line":1,"side":"client","time":0.001356,"offset":3,"fin":true,"opcode":"pong","key":null,"length":0,"form":"shortest"}"#;
+    let expected =
+        r#"{"type":"frame","line":1,"side":"client","time":0.001356,"offset":3,"fin":true,"opcode":"pong","key":null,"length":0,"form":"shortest"}"#;
     expect_object(&rt, rt.alloc(), line.as_slice(), expected);
 }
