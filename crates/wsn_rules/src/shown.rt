@@ -50,10 +50,10 @@ pub fn law_shown_event()
 {}
 
 /// Every byte of a stream is in exactly one of its items: those that are shown of it in the detail of events, and those
-/// that are left over where it ends. Each of these items is where it says. The first of its bytes is at its offset; its frames, their number and the number
-/// of bytes that it lacks are exact; a refused frame ends with the offending byte and shows the evidence in its bytes.
-/// Each is shown with its last byte, in order; a message that isn't complete, with what interrupts it. In the detail of
-/// frames each head is at its offset, and shown with its last byte.
+/// that are left over where it ends. Each of these items is where it says. The first of its bytes is at its offset; its
+/// frames, their number and the number of bytes that it lacks are exact; a refused frame ends with the offending byte and
+/// shows the evidence in its bytes. Each is shown with its last byte, in order; a message that isn't complete, with what
+/// interrupts it. In the detail of frames each head is at its offset, and shown with its last byte.
 pub fn law_shown_places()
     ensures events { (role : Role) (limits : Limits) (bytes : List ℕ) (shown : List Shown) (left : List Item) →
         IsShownStream Events role limits bytes shown → IsLeftOver role limits bytes left →
