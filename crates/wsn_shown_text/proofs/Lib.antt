@@ -6,5 +6,6 @@ pub mod TextFronts
 pub mod VisibleLines
 pub mod CommentLines
 pub mod Entries
+pub mod People
 pub mod PlacedItems
 pub mod DifferingParts
