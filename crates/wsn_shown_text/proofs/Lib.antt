@@ -4,6 +4,7 @@ pub mod JsonTexts
 pub mod VisibleTexts
 pub mod TextFronts
 pub mod VisibleLines
+pub mod VisiblePeople
 pub mod CommentLines
 pub mod Entries
 pub mod People
