@@ -83,6 +83,9 @@ pub unfinished_rest : (n offset : ℕ) (event : MeantEvent) (frames : ℕ) (lack
 unfinished_rest n offset event frames lacks =
     unfinished_parts (offset_column offset) (codes "  ") (left 10 (codes "unfinished")) (size_text (event_size event)) (codes "  " ++ event_word event) (frames_text frames) (people_lacks lacks) (codes "  ") (people_view n (view_of_unfinished n event)) (codes "\n")
 
+apart : (bs a b d e : List ℕ) → bs ++ (a ++ (b ++ (d ++ e))) ≡ bs ++ a ++ b ++ d ++ e
+apart bs a b d e = simp append_assoc
+
 pub head_rest : (n offset : ℕ)
     → (columns offset (codes "unfinished") 0 ++ codes "  head, next head incomplete  ") ++ (people_view n (as_view (Hex []) false) ++ codes "\n") ≡ people_rest n (UnfinishedHead offset)
 head_rest n offset =
@@ -90,7 +93,7 @@ head_rest n offset =
     ∙ unfinished_parts (offset_column offset) (codes "  ") (left 10 (codes "unfinished")) (size_text 0) (codes "  head") (frames_text 0) (people_lacks None) (codes "  ") (people_view n (as_view (Hex []) false)) (codes "\n")
   where
     spread : (bs : List ℕ) → bs ++ codes "  head, next head incomplete  " ≡ bs ++ codes "  head" ++ frames_text 0 ++ people_lacks None ++ codes "  "
-    spread bs = simp append_assoc
+    spread bs = apart bs (codes "  head") (frames_text 0) (people_lacks None) (codes "  ")
 
 remainder_parts : (offset gap word size space view end : List ℕ)
     → (offset ++ gap ++ word ++ size ++ space) ++ (view ++ end)
