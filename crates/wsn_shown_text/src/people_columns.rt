@@ -1,5 +1,5 @@
 //! The columns of an entry for people, and what follows them, which are put in one line.
-ghost use Rattle.std.specs.Prelude.{◌≡◌, ◌+◌, ◌≤◌, ◌++◌, Bool, Option, codes, length, replicate, decimal};
+ghost use Rattle.std.specs.Prelude.{◌≡◌, ◌+◌, ◌-◌, ◌≤◌, ◌++◌, codes, length, replicate, decimal};
 ghost use Rattle.wsn_print.specs.Fields.{op_word};
 ghost use Rattle.wsn_print.specs.ShownParts.{remainder_word};
 ghost use Rattle.wsn_shown_text.specs.PeopleText.{right, left, offset_column, columns, last_text, mask_text, length_text, people_head, frames_text, lacking_text, people_lacks, sentence};
@@ -160,11 +160,11 @@ fn push_left(line: &mut Line<PEOPLE_MAX>, word: &str)
 }
 
 /// What is in front of a text with this length at the right of a column of the greatest width, or after it at the left.
-pub(crate) fn before(length: usize) -> &'static [u8]
-    ensures text { result.now ≡ replicate (10 - length) 32 }
+pub(crate) fn before(size: usize) -> &'static [u8]
+    ensures text { result.now ≡ replicate (10 - size) 32 }
     ensures len { length result.now ≤ 10 }
 {
-    spaces(WIDTH.saturating_sub(length))
+    spaces(WIDTH.saturating_sub(size))
 }
 
 fn spaces(count: usize) -> &'static [u8]
