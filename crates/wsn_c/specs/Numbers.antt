@@ -7,7 +7,7 @@ use Rattle.wsn_wire.specs.declared.length_forms.Lengths.TheVariants.{Shortest, A
 use Rattle.wsn_rules.specs.declared.detail.Detail.{Detail}
 use Rattle.wsn_rules.specs.declared.detail.Detail.TheVariants.{Events, Frames}
 use Rattle.wsn_print.specs.declared.format.Format.{Format}
-use Rattle.wsn_print.specs.declared.format.Format.TheVariants.{Text, Json}
+use Rattle.wsn_print.specs.declared.format.Format.TheVariants.{Text, People, Json}
 
 abbrev pub role_number : Role → ℕ
 role_number Client = 0
@@ -16,6 +16,7 @@ role_number Server = 1
 abbrev pub format_number : Format → ℕ
 format_number Text = 0
 format_number Json = 1
+format_number People = 2
 
 abbrev pub lengths_number : Lengths → ℕ
 lengths_number Shortest = 0

@@ -1,5 +1,7 @@
 ghost use Rattle.std.specs.Prelude.{◌≡◌};
-ghost use Rattle.wsn_cli.specs.Colors.{asked_layout, format_layout, job_layout, request_layout};
+ghost use Rattle.wsn_command.specs.Jobs.{MayRun, job_role};
+ghost use Rattle.wsn_cli.specs.Requests.{CanBeDone, job_limits};
+ghost use Rattle.wsn_cli.specs.Colors.{asked_layout, asked_on, format_for_people, format_layout, is_for_people, job_for_people, job_layout, request_for_people, request_layout, style_for_people};
 
 use crate::mistake::Mistake;
 use std::alloc::{AllocError, AllocFailed};
@@ -44,14 +46,52 @@ pub enum Request {
     Help(String),
 }
 
-/// A request, and when its answer is coloured.
+/// How entries of `show` are laid out.
+#[derive(Clone, Copy, Debug, PartialEq, Eq)]
+pub enum EntryLayout {
+    /// For people where they are coloured, and otherwise as lines.
+    Auto,
+    /// As lines of words.
+    Lines,
+    /// In columns, for people.
+    People,
+}
+
+/// A request, when its answer is coloured, and how its entries are laid out.
 #[derive(Drop)]
 pub struct Asked {
     pub request: Request,
     pub color: ColorChoice,
+    pub entries: EntryLayout,
 }
 
 impl Asked {
+    /// The same where the answer is printed there, with entries for people if they are.
+    pub fn on(self, terminal: Terminal) -> Asked
+        ensures is { result ≡ asked_on self terminal }
+        ensures done { CanBeDone self.request → CanBeDone result.request }
+    {
+        if !self.is_for_people(terminal) {
+            return self;
+        }
+        Asked {
+            request: request_for_people(self.request),
+            color: self.color,
+            entries: self.entries,
+        }
+    }
+
+    /// Whether entries are for people where they are printed there.
+    fn is_for_people(&self, terminal: Terminal) -> bool
+        ensures { result ≡ is_for_people self.now.entries self.now.color terminal }
+    {
+        match self.entries {
+            EntryLayout::Auto => self.color.paints(terminal),
+            EntryLayout::Lines => false,
+            EntryLayout::People => true,
+        }
+    }
+
     /// Which lines of the answer are coloured where it is printed there; `None` for an answer in one colour.
     pub fn layout(&self, terminal: Terminal) -> Option<Layout>
         ensures { result ≡ asked_layout self.now terminal }
@@ -81,6 +121,54 @@ impl Request {
     }
 }
 
+/// The request with entries for people, if it has entries that are lines.
+fn request_for_people(request: Request) -> Request
+    ensures is { result ≡ request_for_people request }
+    ensures done { CanBeDone request → CanBeDone result }
+{
+    match request {
+        Request::Run { job, file, side } => Request::Run {
+            job: job_for_people(job),
+            file,
+            side,
+        },
+        other => other,
+    }
+}
+
+fn job_for_people(job: Job) -> Job
+    ensures is { result ≡ job_for_people job }
+    ensures may_run { MayRun job → MayRun result }
+    ensures limits { job_limits result ≡ job_limits job }
+    ensures role { job_role result ≡ job_role job }
+{
+    match job {
+        Job::ShowStream(role, limits, style) => {
+            Job::ShowStream(role, limits, style_for_people(style))
+        }
+        Job::Show(limits, style) => Job::Show(limits, style_for_people(style)),
+        other => other,
+    }
+}
+
+fn style_for_people(style: Style) -> Style
+    ensures { result ≡ style_for_people style }
+{
+    Style {
+        format: format_for_people(style.format),
+        ..style
+    }
+}
+
+fn format_for_people(format: Format) -> Format
+    ensures { result ≡ format_for_people format }
+{
+    match format {
+        Format::Text | Format::People => Format::People,
+        Format::Json => Format::Json,
+    }
+}
+
 /// Which lines of a job's answer may be coloured.
 fn layout_of_job(job: &Job) -> Option<Layout>
     ensures { result ≡ job_layout job.now }
@@ -100,6 +188,7 @@ fn layout_of_style(style: &Style) -> Option<Layout>
 {
     match style.format {
         Format::Text => Some(Layout::Answer),
+        Format::People => Some(Layout::People),
         Format::Json => None,
     }
 }

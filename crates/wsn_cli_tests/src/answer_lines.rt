@@ -216,6 +216,7 @@ fn left_out(without: &Without) -> &'static str {
 fn suffix_of(format: Format) -> &'static str {
     match format {
         Format::Text => "",
+        Format::People => ", for people",
         Format::Json => ", in JSON",
     }
 }

@@ -2,7 +2,7 @@
 use Rattle.std.specs.Prelude.{ℕ, List, ◌++◌, drop, codes}
 use Rattle.wsn_rules.specs.declared.report.Report.{Report}
 use Rattle.wsn_print.specs.declared.format.Format.{Format}
-use Rattle.wsn_print.specs.declared.format.Format.TheVariants.{Text, Json}
+use Rattle.wsn_print.specs.declared.format.Format.TheVariants.{Text, People, Json}
 use Rattle.wsn_print.specs.Objects.{report_object}
 use Rattle.wsn_print.specs.ReportText.{side_text, outcome_word}
 use Rattle.wsn_print.specs.EscapedText.{comment_text, quoted}
@@ -25,4 +25,5 @@ named_report_object name report =
 -- The report on the capture with this name.
 abbrev pub named_report_text : Format → List ℕ → Report → List ℕ
 named_report_text Text = named_report_line
+named_report_text People = named_report_line
 named_report_text Json = named_report_object

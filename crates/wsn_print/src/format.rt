@@ -15,6 +15,8 @@ use wsn_rules::{Compared, Report, Verdict};
 pub enum Format {
     /// Lines of words.
     Text,
+    /// What `show` prints in columns, for people; any other answer in lines of words.
+    People,
     /// One JSON object a line.
     Json,
 }
@@ -29,7 +31,7 @@ pub fn put_verdict_as<W: Write>(
     ensures { IsWrittenOrStops to.old to.new (verdict_text format verdict.now) result }
 {
     match format {
-        Format::Text => put_verdict(to, verdict),
+        Format::Text | Format::People => put_verdict(to, verdict),
         Format::Json => put_verdict_object(to, verdict),
     }
 }
@@ -44,7 +46,7 @@ pub fn put_report_as<W: Write>(
     ensures { IsWrittenOrStops to.old to.new (report_text format report.now) result }
 {
     match format {
-        Format::Text => put_report(to, report),
+        Format::Text | Format::People => put_report(to, report),
         Format::Json => put_report_object(to, report),
     }
 }
@@ -59,7 +61,7 @@ pub fn put_compared_as<W: Write>(
     ensures { IsWrittenOrStops to.old to.new (comparison_text format compared) result }
 {
     match format {
-        Format::Text => put_compared(to, compared),
+        Format::Text | Format::People => put_compared(to, compared),
         Format::Json => put_compared_object(to, &compared),
     }
 }

@@ -60,7 +60,9 @@ impl HeadLines {
     {
         let text = &mut self.text;
         text.len = match format {
-            Format::Text => put_head_at(head, &mut self.above, &mut text.bytes, text.len),
+            Format::Text | Format::People => {
+                put_head_at(head, &mut self.above, &mut text.bytes, text.len)
+            }
             Format::Json => put_object_at(head, &mut self.above, &mut text.bytes, text.len),
         };
     }

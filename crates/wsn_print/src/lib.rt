@@ -61,7 +61,7 @@ pub use named_reports::put_named_report;
 pub use objects::{push_refusal, put_compared_object, put_report_object, put_verdict_object};
 pub use parts::{put, put_form, put_key, put_number};
 pub use payloads::{line_of_begun_head, line_of_inside, line_of_nothing};
-pub use quoted::{put_comment, put_quoted, put_quoted_characters};
+pub use quoted::{put_comment, put_comment_text, put_quoted, put_quoted_characters};
 pub use reports::put_report;
 pub use shown::{
     Difference, DifferingPayloads, EntryFront, Front, HeldBytes, Origin, PayloadPart, PlacedEvent,

@@ -56,6 +56,16 @@ impl<const MAX: usize> Line<MAX> {
         self.len = put_slice(text.as_bytes(), &mut self.text, self.len);
     }
 
+    /// Appends bytes as they are.
+    #[inline(always)]
+    pub fn push_bytes(&mut self, bytes: &[u8])
+        requires { length self.old + length bytes.now ≤ MAX }
+        ensures text { self.new ≡ self.old ++ bytes.now }
+        ensures len { length self.new ≡ length self.old + length bytes.now }
+    {
+        self.len = put_slice(bytes, &mut self.text, self.len);
+    }
+
     /// Appends another line.
     pub fn push_line<const OTHER: usize>(&mut self, other: &Line<OTHER>)
         requires { length self.old + OTHER ≤ MAX }

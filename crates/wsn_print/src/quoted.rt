@@ -29,7 +29,9 @@ pub fn put_comment<W: Write>(to: &mut Output<W>, text: &[u8]) -> Result<(), Stop
     put_line(to, b"\n")
 }
 
-pub(crate) fn put_comment_text<W: Write>(to: &mut Output<W>, text: &[u8]) -> Result<(), Stop>
+/// Writes the text of a comment without a line feed, as [`put_comment`] does. `Stop::Write` if the writer fails: a prefix of
+/// the text was written.
+pub fn put_comment_text<W: Write>(to: &mut Output<W>, text: &[u8]) -> Result<(), Stop>
     requires { to.old.failed ≡ false }
     ensures { IsWrittenOrStops to.old to.new (comment_text text.now) result }
 {

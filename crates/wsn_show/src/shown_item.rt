@@ -34,6 +34,7 @@ pub fn put_item<W: Write>(
     // Each format has a call of its own, so that the compiler makes code for it alone.
     let _stop = match context.style.format {
         Format::Text => put_entry(output, Format::Text, view, &front, item),
+        Format::People => put_entry(output, Format::People, view, &front, item),
         Format::Json => put_entry(output, Format::Json, view, &front, item),
     };
 }

@@ -40,11 +40,11 @@ use Rattle.wsn_shown_text.proofs.TextFronts.{part_is_utf8, whole_is_utf8}
 use Rattle.wsn_shown_text.proofs.VisibleTexts.{IsPrintable, visible_append, visible_ascii, digits_printable, quoted_characters_visible, quoted_text_visible, comment_visible}
 
 -- A text of which nothing is hidden.
-record Seen (bytes : List ℕ) : Type 0 where
-  is : IsAllVisible bytes
+pub record Seen (bytes : List ℕ) : Type 0 where
+  pub is : IsAllVisible bytes
 
 infixl 40 ◌⊕◌
-◌⊕◌ : {xs ys : List ℕ} → Seen xs → Seen ys → Seen (xs ++ ys)
+pub ◌⊕◌ : {xs ys : List ℕ} → Seen xs → Seen ys → Seen (xs ++ ys)
 ◌⊕◌ {xs} {ys} one two = record { is = visible_append xs ys one.is two.is }
 
 from_test : (b : ℕ) → is_from 0x20 0x7e b ≡ true → IsPrintable b
@@ -59,10 +59,10 @@ all_from_test (b ∷ bytes) test =
 seen_ascii : (bytes : List ℕ) → AllByRecursion IsPrintable bytes → Seen bytes
 seen_ascii bytes each = record { is = visible_ascii bytes each }
 
-word : (bytes : List ℕ) → is_printable bytes ≡ true → Seen bytes
+pub word : (bytes : List ℕ) → is_printable bytes ≡ true → Seen bytes
 word bytes test = seen_ascii bytes (all_from_test bytes test)
 
-seen_if : (b : Bool) (xs ys : List ℕ) → Seen xs → Seen ys → Seen (if b then xs else ys)
+pub seen_if : (b : Bool) (xs ys : List ℕ) → Seen xs → Seen ys → Seen (if b then xs else ys)
 seen_if true xs ys one two = one
 seen_if false xs ys one two = two
 
@@ -80,7 +80,7 @@ digits_seen (suc k) n acc each =
       | inr more ↦ rw more (digits_seen k (n / 10) (digit_glyph false (n % 10) ∷ acc) (last, each))
     ]
 
-number : (n : ℕ) → Seen (decimal n)
+pub number : (n : ℕ) → Seen (decimal n)
 unfolding digits
 number n = seen_ascii (decimal n) (digits_seen 64 n [] tt)
 
@@ -90,7 +90,7 @@ number_or_dash (Some n) = number n
 
 -- ---- words
 
-reason_word : (reason : Reason) → is_printable (word_of reason) ≡ true
+pub reason_word : (reason : Reason) → is_printable (word_of reason) ≡ true
 reason_word reasons.ReservedBits = refl
 reason_word reasons.ReservedOpcode = refl
 reason_word reasons.ControlNotFinal = refl
@@ -109,7 +109,7 @@ reason_word reasons.TextBad = refl
 reason_word reasons.TextCut = refl
 reason_word reasons.TooManyFrames = refl
 
-opcode_word : (op : Op) → is_printable (op_word op) ≡ true
+pub opcode_word : (op : Op) → is_printable (op_word op) ≡ true
 opcode_word ops.Continue = refl
 opcode_word ops.Text = refl
 opcode_word ops.Binary = refl
@@ -117,7 +117,7 @@ opcode_word ops.Close = refl
 opcode_word ops.Ping = refl
 opcode_word ops.Pong = refl
 
-seen_word : (event : MeantEvent) → Seen (event_word event)
+pub seen_word : (event : MeantEvent) → Seen (event_word event)
 seen_word (Message kinds.Text payload) = word (codes "text") refl
 seen_word (Message kinds.Binary payload) = word (codes "binary") refl
 seen_word (Control op body) = word (op_word op) (opcode_word op)
@@ -126,10 +126,10 @@ letter : (role : Role) → Seen (role_letter role)
 letter Client = word (codes "C") refl
 letter Server = word (codes "S") refl
 
-space : Seen (codes " ")
+pub space : Seen (codes " ")
 space = word (codes " ") refl
 
-seconds : (time : Option (List ℕ)) → IfSome time IsAllVisible → Seen (time_text time)
+pub seconds : (time : Option (List ℕ)) → IfSome time IsAllVisible → Seen (time_text time)
 seconds None visible = word (codes "-") refl
 seconds (Some text) visible = record { is = visible }
 
@@ -143,20 +143,20 @@ verdict refusal =
 
 -- ---- views
 
-take_bytes : (n : ℕ) (bytes : List ℕ) → IsBytes bytes → IsBytes (take n bytes)
+pub take_bytes : (n : ℕ) (bytes : List ℕ) → IsBytes bytes → IsBytes (take n bytes)
 take_bytes zero bytes fits = tt
 take_bytes (suc n) [] fits = tt
 take_bytes (suc n) (b ∷ bytes) fits = (fits.0, take_bytes n bytes fits.1)
 
-drop_bytes : (n : ℕ) (bytes : List ℕ) → IsBytes bytes → IsBytes (drop n bytes)
+pub drop_bytes : (n : ℕ) (bytes : List ℕ) → IsBytes bytes → IsBytes (drop n bytes)
 drop_bytes zero bytes fits = fits
 drop_bytes (suc n) [] fits = tt
 drop_bytes (suc n) (b ∷ bytes) fits = drop_bytes n bytes fits.1
 
-hex : (bytes : List ℕ) → IsBytes bytes → Seen (encode_lower bytes)
+pub hex : (bytes : List ℕ) → IsBytes bytes → Seen (encode_lower bytes)
 hex bytes fits = seen_ascii (encode_lower bytes) (digits_printable bytes fits)
 
-hex_or_dash : (bytes : List ℕ) → IsBytes bytes → Seen (hex_text bytes)
+pub hex_or_dash : (bytes : List ℕ) → IsBytes bytes → Seen (hex_text bytes)
 hex_or_dash [] fits = word (codes "-") refl
 hex_or_dash (b ∷ bytes) fits = hex (b ∷ bytes) fits
 
@@ -168,7 +168,7 @@ reason_seen [] utf8 = word [] refl
 reason_seen (b ∷ reason) utf8 = space ⊕ in_quotes (b ∷ reason) utf8
 
 -- What is quoted is UTF-8, and bytes are bytes.
-abbrev CanBeSeen : Shown → Type 0
+abbrev pub CanBeSeen : Shown → Type 0
 CanBeSeen (Text text) = IsUtf8 text
 CanBeSeen (Ascii text) = ⊥
 CanBeSeen (Hex bytes) = IsBytes bytes
@@ -187,7 +187,7 @@ view_seen n view can =
     seen_if (n == 0 && view.more) (codes "-") (seen_text view) (word (codes "-") refl)
     (shown_seen view.shown can ⊕ seen_if view.more (codes " ..") [] (word (codes " ..") refl) (word [] refl))
 
-end_seen : (n : ℕ) (bytes : List ℕ) → IsBytes bytes → Seen (end_view n bytes)
+pub end_seen : (n : ℕ) (bytes : List ℕ) → IsBytes bytes → Seen (end_view n bytes)
 end_seen n bytes fits =
     seen_if (n == 0) (codes "-") ((if nat_lt (n / 2) (length bytes) then codes ".." else []) ++ encode_lower (drop (length bytes - n / 2) bytes)) (word (codes "-") refl)
     (seen_if (nat_lt (n / 2) (length bytes)) (codes "..") [] (word (codes "..") refl) (word [] refl)
@@ -206,7 +206,7 @@ close_seen n [] utf8 = tt
 close_seen n (high ∷ []) utf8 = tt
 close_seen n (high ∷ low ∷ reason) utf8 = close_by (high * 256 + low) reason (n == 0) utf8
 
-event_seen : (n : ℕ) (event : MeantEvent) → IsBytes (payload_in event) → HasTextReason event → CanBeSeen (view_of_event n event).shown
+pub event_seen : (n : ℕ) (event : MeantEvent) → IsBytes (payload_in event) → HasTextReason event → CanBeSeen (view_of_event n event).shown
 event_seen n (Message kinds.Text payload) fits reason = part_is_utf8 n payload
 event_seen n (Message kinds.Binary payload) fits reason = take_bytes (n / 2) payload fits
 event_seen n (Control ops.Close body) fits reason = close_seen n body reason
@@ -216,7 +216,7 @@ event_seen n (Control ops.Binary body) fits reason = body_by n (is_printable bod
 event_seen n (Control ops.Ping body) fits reason = body_by n (is_printable body) body fits
 event_seen n (Control ops.Pong body) fits reason = body_by n (is_printable body) body fits
 
-unfinished_seen : (n : ℕ) (event : MeantEvent) → IsBytes (payload_in event) → CanBeSeen (view_of_unfinished n event).shown
+pub unfinished_seen : (n : ℕ) (event : MeantEvent) → IsBytes (payload_in event) → CanBeSeen (view_of_unfinished n event).shown
 unfinished_seen n (Message kinds.Text payload) fits = part_is_utf8 n payload
 unfinished_seen n (Message kinds.Binary payload) fits = take_bytes (n / 2) payload fits
 unfinished_seen n (Control op body) fits = take_bytes (n / 2) body fits

@@ -5,7 +5,7 @@ use Rattle.wsn_wire.specs.declared.endpoint.Role.{Role}
 use Rattle.wsn_rules.specs.declared.compared.Compared.TheVariants.{Different}
 use Rattle.wsn_rules.specs.ShownStream.{Item}
 use Rattle.wsn_print.specs.declared.format.Format.{Format}
-use Rattle.wsn_print.specs.declared.format.Format.TheVariants.{Text, Json}
+use Rattle.wsn_print.specs.declared.format.Format.TheVariants.{Text, People, Json}
 use Rattle.wsn_print.specs.VerdictText.{comparison_line}
 use Rattle.wsn_shown_text.specs.DifferingText.{differ_line, differ_field}
 use Rattle.wsn_print.specs.Json.{field, string_field, number_field}
@@ -39,5 +39,6 @@ difference_object n role k one other =
 
 -- In a format.
 abbrev pub difference_text : Format → ℕ → Role → ℕ → Option Item → Option Item → List ℕ
-difference_text Text n role k one other = difference_lines n role k one other
-difference_text Json n role k one other = difference_object n role k one other
+difference_text Text = difference_lines
+difference_text People = difference_lines
+difference_text Json = difference_object

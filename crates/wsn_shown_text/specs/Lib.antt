@@ -5,6 +5,7 @@ pub mod Members
 pub mod ShownText
 pub mod CharacterText
 pub mod ShownObjects
+pub mod PeopleText
 pub mod EntryFormats
 pub mod ShownItems
 pub mod QuotedTexts

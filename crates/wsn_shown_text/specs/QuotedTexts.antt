@@ -97,6 +97,16 @@ abbrev pub ShowsTextReason : Item → Type 0
 ShowsTextReason (Event offset event frames) = HasTextReason event
 ShowsTextReason item = ⊤
 
+-- The bytes of an item's bad character, if it has one.
+abbrev pub bad_bytes : Item → List ℕ
+bad_bytes (RefusedFrame offset refusal evidence (Some character)) = character.bytes
+bad_bytes item = []
+
 -- The text is a line that ends with the only character in it that is hidden, an LF.
 abbrev pub IsVisibleLine : List ℕ → Type 0
 IsVisibleLine line = (text : List ℕ) × (line ≡ text ++ codes "\n") × IsAllVisible text
+
+-- The text is one such line, or two.
+abbrev pub AreVisibleLines : List ℕ → Type 0
+AreVisibleLines text = IsVisibleLine text
+    ⊎ ((first : List ℕ) × (second : List ℕ) × (text ≡ first ++ second) × IsVisibleLine first × IsVisibleLine second)

@@ -5,8 +5,8 @@ use Rattle.wsn_rules.specs.BadCharacter.{BadCharacter}
 use Rattle.wsn_rules.specs.Meaning.{MeantEvent}
 use Rattle.wsn_rules.specs.ShownStream.{Item}
 use Rattle.wsn_rules.specs.ShownStream.Item.{Event, Head, Unfinished, UnfinishedHead, RefusedFrame}
-use Rattle.wsn_print.specs.declared.format.Format.{Format}
-use Rattle.wsn_print.specs.declared.format.Format.TheVariants.{Text, Json}
+use Rattle.wsn_shown_text.specs.declared.fields.Shape.{Shape}
+use Rattle.wsn_shown_text.specs.declared.fields.Shape.TheVariants.{Line, Object}
 use Rattle.wsn_print.specs.ShownParts.{EntryPosition, time_at, Represents, HasText, HasTextPayload, IsFrontOf, IsEndOf, character_in, item_of_remainder}
 use Rattle.wsn_shown_text.specs.declared.items.ShownItem.{ShownItem}
 use Rattle.wsn_shown_text.specs.declared.items.ShownItem.TheVariants as shown
@@ -16,6 +16,7 @@ use Rattle.wsn_shown_text.specs.Views.{view_of_end, shown_in, view_in, IsReadabl
 use Rattle.wsn_shown_text.specs.ShownText.{end_view}
 use Rattle.wsn_shown_text.specs.CharacterText.{character_lines, character_fields}
 use Rattle.wsn_shown_text.specs.ShownObjects.{end_fields}
+use Rattle.wsn_shown_text.specs.PeopleText.{people_view, people_end, people_bad}
 use Rattle.wsn_shown_text.specs.EntryFormats.{seen_in, end_in}
 
 -- For views of n bytes, this is held of the item, which has this offset.
@@ -34,16 +35,23 @@ IsItem n offset (shown.Remainder which bytes) item = (all : List ℕ) × IsFront
 -- ---- what is written of an item after its fields
 
 -- The evidence for a refusal, and the bad character if there is one: in lines it has its own.
-abbrev pub evidence_in : Format → ℕ → Role → EntryPosition → List ℕ → Option BadCharacter → List ℕ
-evidence_in Text n role position evidence character =
+abbrev pub evidence_in : Shape → ℕ → Role → EntryPosition → List ℕ → Option BadCharacter → List ℕ
+evidence_in Line n role position evidence character =
     end_view n evidence ++ codes "\n" ++ character_lines n role (time_at position) evidence character
-evidence_in Json n role position evidence character =
+evidence_in Object n role position evidence character =
     end_fields (view_of_end n evidence) ++ character_fields n evidence character ++ codes "}\n"
 
 -- For views of n bytes, this is held of what is written.
-abbrev pub IsRest : Format → ℕ → Role → EntryPosition → Rest → List ℕ → Type 0
-IsRest format n role position rest.Nothing text = text ≡ []
-IsRest format n role position (rest.Seen view) text =
-    (text ≡ seen_in format n (view_in view) ++ end_in format) × IsReadable (shown_in view.shown)
-IsRest format n role position (rest.Evidence evidence character) text = (all : List ℕ) × IsEndOf (n / 2) all evidence
-    × (text ≡ evidence_in format n role position all (character_in character))
+abbrev pub IsRest : Shape → ℕ → Role → EntryPosition → Rest → List ℕ → Type 0
+IsRest shape n role position rest.Nothing text = text ≡ []
+IsRest shape n role position (rest.Seen view) text =
+    (text ≡ seen_in shape n (view_in view) ++ end_in shape) × IsReadable (shown_in view.shown)
+IsRest shape n role position (rest.Evidence evidence character) text = (all : List ℕ) × IsEndOf (n / 2) all evidence
+    × (text ≡ evidence_in shape n role position all (character_in character))
+
+-- For views of n bytes, this is held of what is written in a line for people.
+abbrev pub IsPeopleRest : ℕ → Rest → List ℕ → Type 0
+IsPeopleRest n rest.Nothing text = text ≡ []
+IsPeopleRest n (rest.Seen view) text = text ≡ people_view n (view_in view) ++ codes "\n"
+IsPeopleRest n (rest.Evidence evidence character) text = (all : List ℕ) × IsEndOf (n / 2) all evidence
+    × (text ≡ people_end n (view_of_end n all) ++ people_bad n all (character_in character) ++ codes "\n")

@@ -112,7 +112,7 @@ fn put_character_text<W: Write>(
 /// The last bytes up to the offending one that are shown: the end of what is known of earlier frames, and then that of the
 /// evidence.
 #[tactic(none)]
-fn end_of_text(
+pub(crate) fn end_of_text(
     view: ViewLimit,
     evidence: &HeldBytes<'_>,
     character: &ShownCharacter<'_>,
@@ -131,7 +131,7 @@ fn end_of_text(
 
 /// The whole characters that are shown before a bad one, the last of these bytes.
 #[tactic(none)]
-fn text_before<'a>(end: &'a [u8], character: &ShownCharacter<'_>) -> &'a str
+pub(crate) fn text_before<'a>(end: &'a [u8], character: &ShownCharacter<'_>) -> &'a str
     ensures { (n : ℕ) (evidence : List ℕ) →
         end.now ≡ end_part n (known_text evidence (character_of character.now)) →
         result.now ≡ text_before n evidence (character_of character.now) }

@@ -10,6 +10,7 @@ ghost use Rattle.wsn_print.specs.ShownParts.{IsPlaced, StandsFor};
 
 use crate::differing::put_differ_line;
 use crate::differing_members::put_differ_field;
+use crate::fields::Shape;
 use crate::items::put_placed;
 use std::io::Write;
 use wsn_io::{Output, Stop, put_line};
@@ -39,7 +40,7 @@ pub fn put_difference_as<W: Write>(
         IsWrittenOrStops to.old to.new (difference_text format view role difference.now.index one other) result }
 {
     match format {
-        Format::Text => put_difference(to, view, role, difference),
+        Format::Text | Format::People => put_difference(to, view, role, difference),
         Format::Json => put_difference_object(to, view, role, difference),
     }
 }
@@ -92,7 +93,7 @@ fn put_placed_line<W: Write>(
         IsWrittenOrStops to.old to.new (event_line view role (Some (Event offset event frames))) result }
     ensures unfailed { IfOk result (λ done. to.new.failed ≡ false) }
 {
-    put_placed(to, Format::Text, view, role, placed)?;
+    put_placed(to, Shape::Line, view, role, placed)?;
     put_line(to, b"\n")
 }
 
@@ -157,6 +158,6 @@ fn put_placed_object<W: Write>(
         IsWrittenOrStops to.old to.new (event_value view role (Some (Event offset event frames))) result }
     ensures unfailed { IfOk result (λ done. to.new.failed ≡ false) }
 {
-    put_placed(to, Format::Json, view, role, placed)?;
+    put_placed(to, Shape::Object, view, role, placed)?;
     put_line(to, b"}")
 }

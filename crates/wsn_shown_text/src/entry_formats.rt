@@ -2,11 +2,12 @@ ghost use Rattle.std.specs.Prelude.{◌≡◌, ◌++◌, false, codes, drop};
 ghost use Rattle.wsn_io.specs.Stops.{IsWrittenOrStops};
 ghost use Rattle.wsn_print.specs.Json.{number_field};
 ghost use Rattle.wsn_print.specs.ShownParts.{position_of};
-ghost use Rattle.wsn_shown_text.specs.EntryFormats.{end_entry, comment_entry};
+ghost use Rattle.wsn_shown_text.specs.EntryFormats.{end_entry, end_mark_in, comment_entry};
 ghost use Rattle.wsn_shown_text.specs.ShownObjects.{comment_field, comment_object};
 
-use crate::fields::{ENTRY_MAX, push_end_mark};
+use crate::fields::{ENTRY_MAX, Shape, push_end_mark};
 use crate::fronts::put_front;
+use crate::people::put_people_end_mark;
 use crate::object_views::{put_hex_field, put_text_field};
 use std::io::Write;
 use std::str;
@@ -27,9 +28,22 @@ pub fn put_end_as<W: Write>(
     ensures { IsWrittenOrStops to.old to.new
         (end_entry format front.now.role (position_of front.now.origin) front.now.offset) result }
 {
+    match format {
+        Format::Text => put_end(to, Shape::Line, front),
+        Format::People => put_people_end_mark(to, front),
+        Format::Json => put_end(to, Shape::Object, front),
+    }
+}
+
+/// Writes an end mark as a line of words or as an object.
+fn put_end<W: Write>(to: &mut Output<W>, shape: Shape, front: &EntryFront<'_>) -> Result<(), Stop>
+    requires { to.old.failed ≡ false }
+    ensures { IsWrittenOrStops to.old to.new
+        (end_mark_in shape front.now.role (position_of front.now.origin) front.now.offset) result }
+{
     let mut line = Line::<ENTRY_MAX>::new();
-    push_end_mark(&mut line, format, front.offset);
-    put_front(to, format, "end", front)?;
+    push_end_mark(&mut line, shape, front.offset);
+    put_front(to, shape, "end", front)?;
     put_line(to, line.bytes())
 }
 
@@ -45,7 +59,7 @@ pub fn put_comment_as<W: Write>(
     ensures { IsWrittenOrStops to.old to.new (comment_entry format number text.now) result }
 {
     match format {
-        Format::Text => put_comment(to, text),
+        Format::Text | Format::People => put_comment(to, text),
         Format::Json => put_comment_object(to, number, text),
     }
 }

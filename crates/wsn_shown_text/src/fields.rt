@@ -1,4 +1,4 @@
-//! The fields of an entry in a format, which are put in one line.
+//! The fields of an entry in a shape, which are put in one line.
 ghost use Rattle.std.specs.Prelude.{◌≡◌, ◌+◌, ◌≤◌, ◌++◌, Option, None, [], ◌∷◌, codes, length};
 ghost use Rattle.wsn_print.specs.Fields.{op_word};
 ghost use Rattle.wsn_print.specs.ShownParts.{remainder_word};
@@ -7,10 +7,19 @@ ghost use Rattle.wsn_shown_text.specs.Members.Member.{Mark, Word, Number, Lacks,
 ghost use Rattle.wsn_shown_text.specs.EntryFormats.{offset_in, member_in, members_in, space_in, end_in};
 
 use wsn_print::{
-    Format, Line, Remainder, ShownEvent, op_word, push_number_field, push_number_or_null_field,
+    Line, Remainder, ShownEvent, op_word, push_number_field, push_number_or_null_field,
     push_refusal, push_string_field,
 };
 use wsn_rules::{HeadInfo, Refusal};
+
+/// How an entry is written.
+#[derive(Clone, Copy)]
+pub(crate) enum Shape {
+    /// As a line of words.
+    Line,
+    /// As a JSON object in one line.
+    Object,
+}
 
 /// The space for an entry's front without a time and for its fields in bytes, with five numbers of twenty digits.
 pub(crate) const ENTRY_MAX: usize = 240;
@@ -19,122 +28,122 @@ pub(crate) const ENTRY_MAX: usize = 240;
 #[inline(always)]
 pub(crate) fn push_event(
     line: &mut Line<ENTRY_MAX>,
-    format: Format,
+    shape: Shape,
     offset: u64,
     event: &ShownEvent<'_>,
 )
     requires { length line.old + 120 ≤ ENTRY_MAX }
-    ensures { line.new ≡ line.old ++ offset_in format offset
-        ++ members_in format (event_members (op_word event.now.op) event.now.bytes event.now.frames) ++ space_in format }
+    ensures { line.new ≡ line.old ++ offset_in shape offset
+        ++ members_in shape (event_members (op_word event.now.op) event.now.bytes event.now.frames) ++ space_in shape }
 {
-    push_offset(line, format, offset);
-    push_counts(line, format, op_word(event.op), event.bytes, event.frames);
-    push_space(line, format);
+    push_offset(line, shape, offset);
+    push_counts(line, shape, op_word(event.op), event.bytes, event.frames);
+    push_space(line, shape);
 }
 
 /// Appends the offset and the fields of an event that isn't complete.
 pub(crate) fn push_unfinished(
     line: &mut Line<ENTRY_MAX>,
-    format: Format,
+    shape: Shape,
     offset: u64,
     event: &ShownEvent<'_>,
     lacks: Option<u64>,
 )
     requires { length line.old + 160 ≤ ENTRY_MAX }
-    ensures { line.new ≡ line.old ++ offset_in format offset
-        ++ members_in format (unfinished_members (op_word event.now.op) event.now.bytes event.now.frames lacks)
-        ++ space_in format }
+    ensures { line.new ≡ line.old ++ offset_in shape offset
+        ++ members_in shape (unfinished_members (op_word event.now.op) event.now.bytes event.now.frames lacks)
+        ++ space_in shape }
 {
-    push_offset(line, format, offset);
-    push_mark(line, format, "unfinished");
-    push_counts(line, format, op_word(event.op), event.bytes, event.frames);
-    push_lacks(line, format, lacks);
-    push_space(line, format);
+    push_offset(line, shape, offset);
+    push_mark(line, shape, "unfinished");
+    push_counts(line, shape, op_word(event.op), event.bytes, event.frames);
+    push_lacks(line, shape, lacks);
+    push_space(line, shape);
 }
 
 /// Appends the word, the payload bytes and the frames of an event.
 #[inline(always)]
-fn push_counts(line: &mut Line<ENTRY_MAX>, format: Format, word: &str, bytes: u64, frames: u64)
+fn push_counts(line: &mut Line<ENTRY_MAX>, shape: Shape, word: &str, bytes: u64, frames: u64)
     requires room { length line.old + 80 ≤ ENTRY_MAX }
     requires short { length word.now ≤ 6 }
-    ensures text { line.new ≡ line.old ++ members_in format (event_members word.now bytes frames) }
+    ensures text { line.new ≡ line.old ++ members_in shape (event_members word.now bytes frames) }
     ensures len { length line.new ≤ length line.old + 80 }
 {
-    push_word(line, format, "event", word);
-    push_number(line, format, "bytes", bytes);
-    push_number(line, format, "frames", frames);
+    push_word(line, shape, "event", word);
+    push_number(line, shape, "bytes", bytes);
+    push_number(line, shape, "frames", frames);
 }
 
 /// Appends the offset and the fields of a part of a head.
-pub(crate) fn push_unfinished_head(line: &mut Line<ENTRY_MAX>, format: Format, offset: u64)
+pub(crate) fn push_unfinished_head(line: &mut Line<ENTRY_MAX>, shape: Shape, offset: u64)
     requires { length line.old + 160 ≤ ENTRY_MAX }
-    ensures { line.new ≡ line.old ++ offset_in format offset
-        ++ members_in format (unfinished_members (codes "head") 0 0 None) ++ space_in format }
+    ensures { line.new ≡ line.old ++ offset_in shape offset
+        ++ members_in shape (unfinished_members (codes "head") 0 0 None) ++ space_in shape }
 {
-    push_offset(line, format, offset);
-    push_mark(line, format, "unfinished");
-    push_counts(line, format, "head", 0, 0);
-    push_lacks(line, format, None);
-    push_space(line, format);
+    push_offset(line, shape, offset);
+    push_mark(line, shape, "unfinished");
+    push_counts(line, shape, "head", 0, 0);
+    push_lacks(line, shape, None);
+    push_space(line, shape);
 }
 
 /// Appends the offset and the fields of bytes that belong to no frame.
 pub(crate) fn push_remainder(
     line: &mut Line<ENTRY_MAX>,
-    format: Format,
+    shape: Shape,
     offset: u64,
     which: Remainder,
     count: u64,
 )
     requires { length line.old + 80 ≤ ENTRY_MAX }
-    ensures { line.new ≡ line.old ++ offset_in format offset
-        ++ members_in format (Mark (remainder_word which) ∷ Number (codes "bytes") count ∷ []) ++ space_in format }
+    ensures { line.new ≡ line.old ++ offset_in shape offset
+        ++ members_in shape (Mark (remainder_word which) ∷ Number (codes "bytes") count ∷ []) ++ space_in shape }
 {
-    push_offset(line, format, offset);
-    push_mark(line, format, remainder_word(which));
-    push_number(line, format, "bytes", count);
-    push_space(line, format);
+    push_offset(line, shape, offset);
+    push_mark(line, shape, remainder_word(which));
+    push_number(line, shape, "bytes", count);
+    push_space(line, shape);
 }
 
 /// Appends the offset of an end mark, its word and its end.
-pub(crate) fn push_end_mark(line: &mut Line<ENTRY_MAX>, format: Format, offset: u64)
+pub(crate) fn push_end_mark(line: &mut Line<ENTRY_MAX>, shape: Shape, offset: u64)
     requires { length line.old + 50 ≤ ENTRY_MAX }
-    ensures { line.new ≡ line.old ++ offset_in format offset ++ member_in format (Mark (codes "end")) ++ end_in format }
+    ensures { line.new ≡ line.old ++ offset_in shape offset ++ member_in shape (Mark (codes "end")) ++ end_in shape }
 {
-    push_offset(line, format, offset);
-    push_mark(line, format, "end");
-    line.push(end_of(format));
+    push_offset(line, shape, offset);
+    push_mark(line, shape, "end");
+    line.push(end_of(shape));
 }
 
 /// Appends the offset and the fields of a frame, and its end.
 #[inline(always)]
-pub(crate) fn push_frame(line: &mut Line<ENTRY_MAX>, format: Format, offset: u64, head: &HeadInfo)
+pub(crate) fn push_frame(line: &mut Line<ENTRY_MAX>, shape: Shape, offset: u64, head: &HeadInfo)
     requires { length line.old + 130 ≤ ENTRY_MAX }
-    ensures { line.new ≡ line.old ++ offset_in format offset ++ member_in format (Frame head.now) ++ end_in format }
+    ensures { line.new ≡ line.old ++ offset_in shape offset ++ member_in shape (Frame head.now) ++ end_in shape }
 {
-    push_offset(line, format, offset);
-    match format {
-        Format::Text => line.push_fields(head),
-        Format::Json => line.push_members(head),
+    push_offset(line, shape, offset);
+    match shape {
+        Shape::Line => line.push_fields(head),
+        Shape::Object => line.push_members(head),
     }
 }
 
 /// Appends the offset of a refused frame, and the refusal.
 pub(crate) fn push_refused(
     line: &mut Line<ENTRY_MAX>,
-    format: Format,
+    shape: Shape,
     offset: u64,
     refusal: &Refusal,
 )
     requires { length line.old + 130 ≤ ENTRY_MAX }
-    ensures { line.new ≡ line.old ++ offset_in format offset ++ member_in format (Refused refusal.now) ++ space_in format }
+    ensures { line.new ≡ line.old ++ offset_in shape offset ++ member_in shape (Refused refusal.now) ++ space_in shape }
 {
-    push_offset(line, format, offset);
-    match format {
-        Format::Text => push_refusal_text(line, refusal),
-        Format::Json => push_refusal(line, "place", refusal),
+    push_offset(line, shape, offset);
+    match shape {
+        Shape::Line => push_refusal_text(line, refusal),
+        Shape::Object => push_refusal(line, "place", refusal),
     }
-    push_space(line, format);
+    push_space(line, shape);
 }
 
 fn push_refusal_text(line: &mut Line<ENTRY_MAX>, refusal: &Refusal)
@@ -148,103 +157,103 @@ fn push_refusal_text(line: &mut Line<ENTRY_MAX>, refusal: &Refusal)
 
 /// Appends an entry's offset.
 #[inline(always)]
-pub(crate) fn push_offset(line: &mut Line<ENTRY_MAX>, format: Format, offset: u64)
+pub(crate) fn push_offset(line: &mut Line<ENTRY_MAX>, shape: Shape, offset: u64)
     requires { length line.old + 30 ≤ ENTRY_MAX }
-    ensures text { line.new ≡ line.old ++ offset_in format offset }
+    ensures text { line.new ≡ line.old ++ offset_in shape offset }
     ensures len { length line.new ≤ length line.old + 30 }
 {
-    match format {
-        Format::Text => {
+    match shape {
+        Shape::Line => {
             line.push(" ");
             line.push_number(offset);
         }
-        Format::Json => push_number_field(line, "offset", offset),
+        Shape::Object => push_number_field(line, "offset", offset),
     }
 }
 
 /// Appends the word for an entry's type.
 #[inline(always)]
-fn push_mark(line: &mut Line<ENTRY_MAX>, format: Format, word: &str)
+fn push_mark(line: &mut Line<ENTRY_MAX>, shape: Shape, word: &str)
     requires { length line.old + length word.now + 1 ≤ ENTRY_MAX }
-    ensures text { line.new ≡ line.old ++ member_in format (Mark word.now) }
+    ensures text { line.new ≡ line.old ++ member_in shape (Mark word.now) }
     ensures len { length line.new ≤ length line.old + length word.now + 1 }
 {
-    match format {
-        Format::Text => {
+    match shape {
+        Shape::Line => {
             line.push(" ");
             line.push(word);
         }
-        Format::Json => {}
+        Shape::Object => {}
     }
 }
 
 #[inline(always)]
-fn push_word(line: &mut Line<ENTRY_MAX>, format: Format, name: &str, word: &str)
+fn push_word(line: &mut Line<ENTRY_MAX>, shape: Shape, name: &str, word: &str)
     requires { length line.old + length name.now + length word.now + 6 ≤ ENTRY_MAX }
-    ensures text { line.new ≡ line.old ++ member_in format (Word name.now word.now) }
+    ensures text { line.new ≡ line.old ++ member_in shape (Word name.now word.now) }
     ensures len { length line.new ≤ length line.old + length name.now + length word.now + 6 }
 {
-    match format {
-        Format::Text => {
+    match shape {
+        Shape::Line => {
             line.push(" ");
             line.push(word);
         }
-        Format::Json => push_string_field(line, name, word),
+        Shape::Object => push_string_field(line, name, word),
     }
 }
 
 #[inline(always)]
-fn push_number(line: &mut Line<ENTRY_MAX>, format: Format, name: &str, number: u64)
+fn push_number(line: &mut Line<ENTRY_MAX>, shape: Shape, name: &str, number: u64)
     requires { length line.old + length name.now + 24 ≤ ENTRY_MAX }
-    ensures text { line.new ≡ line.old ++ member_in format (Number name.now number) }
+    ensures text { line.new ≡ line.old ++ member_in shape (Number name.now number) }
     ensures len { length line.new ≤ length line.old + length name.now + 24 }
 {
-    match format {
-        Format::Text => {
+    match shape {
+        Shape::Line => {
             line.push(" ");
             line.push_number(number);
         }
-        Format::Json => push_number_field(line, name, number),
+        Shape::Object => push_number_field(line, name, number),
     }
 }
 
 #[inline(always)]
-fn push_lacks(line: &mut Line<ENTRY_MAX>, format: Format, lacks: Option<u64>)
+fn push_lacks(line: &mut Line<ENTRY_MAX>, shape: Shape, lacks: Option<u64>)
     requires { length line.old + 29 ≤ ENTRY_MAX }
-    ensures text { line.new ≡ line.old ++ member_in format (Lacks lacks) }
+    ensures text { line.new ≡ line.old ++ member_in shape (Lacks lacks) }
     ensures len { length line.new ≤ length line.old + 29 }
 {
-    match format {
-        Format::Text => {
+    match shape {
+        Shape::Line => {
             line.push(" lacks ");
             line.push_number_or_dash(lacks);
         }
-        Format::Json => push_number_or_null_field(line, "lacks", lacks),
+        Shape::Object => push_number_or_null_field(line, "lacks", lacks),
     }
 }
 
 /// Appends what is in front of a view.
 #[inline(always)]
-fn push_space(line: &mut Line<ENTRY_MAX>, format: Format)
+fn push_space(line: &mut Line<ENTRY_MAX>, shape: Shape)
     requires { length line.old + 1 ≤ ENTRY_MAX }
-    ensures text { line.new ≡ line.old ++ space_in format }
+    ensures text { line.new ≡ line.old ++ space_in shape }
     ensures len { length line.new ≤ length line.old + 1 }
 {
-    match format {
-        Format::Text => line.push(" "),
-        Format::Json => {}
+    match shape {
+        Shape::Line => line.push(" "),
+        Shape::Object => {}
     }
 }
 
 /// The end of an entry.
 #[inline(always)]
-pub(crate) fn end_of(format: Format) -> &'static str
-    ensures text { result.now ≡ end_in format }
+pub(crate) fn end_of(shape: Shape) -> &'static str
+    ensures text { result.now ≡ end_in shape }
     ensures short { length result.now ≤ 2 }
 {
-    match format {
-        Format::Text => "\n",
-        Format::Json => "}\n",
+    match shape {
+        Shape::Line => "\n",
+        Shape::Object => "}\n",
     }
 }
 

@@ -7,10 +7,10 @@ ghost use Rattle.wsn_shown_text.specs.ShownText.{role_letter, time_text};
 ghost use Rattle.wsn_shown_text.specs.ShownObjects.{object_front, line_field, side_word, time_key, time_value};
 ghost use Rattle.wsn_shown_text.specs.EntryFormats.{front_in, if_timed, if_untimed};
 
-use crate::fields::ENTRY_MAX;
+use crate::fields::{ENTRY_MAX, Shape};
 use std::io::Write;
 use wsn_io::{Output, Stop, put_line};
-use wsn_print::{EntryFront, Format, Front, Line, Origin, push_number_field, push_string_field};
+use wsn_print::{EntryFront, Front, Line, Origin, push_number_field, push_string_field};
 use wsn_wire::Role;
 
 /// The space for what is in front of an offset in bytes, without a time, and with a number of twenty digits.
@@ -20,38 +20,38 @@ pub(crate) const FRONT_MAX: usize = 80;
 #[inline(always)]
 pub(crate) fn push_front(
     line: &mut Line<ENTRY_MAX>,
-    format: Format,
+    shape: Shape,
     kind: &str,
     front: &EntryFront<'_>,
 )
     requires empty { line.old ≡ [] }
     requires short { length kind.now ≤ 10 }
     ensures text { line.new ≡ if_untimed (time_at (position_of front.now.origin))
-        (front_in format kind.now front.now.role (position_of front.now.origin)) }
+        (front_in shape kind.now front.now.role (position_of front.now.origin)) }
     ensures len { length line.new ≤ FRONT_MAX }
 {
     match front.of_line().time {
         Some(_) => {}
-        None => push_untimed(line, format, kind, front),
+        None => push_untimed(line, shape, kind, front),
     }
 }
 
 #[inline(always)]
 fn push_untimed(
     line: &mut Line<ENTRY_MAX>,
-    format: Format,
+    shape: Shape,
     kind: &str,
     front: &EntryFront<'_>,
 )
     requires empty { line.old ≡ [] }
     requires short { length kind.now ≤ 10 }
     requires untimed { time_at (position_of front.now.origin) ≡ None }
-    ensures text { line.new ≡ front_in format kind.now front.now.role (position_of front.now.origin) }
+    ensures text { line.new ≡ front_in shape kind.now front.now.role (position_of front.now.origin) }
     ensures len { length line.new ≤ FRONT_MAX }
 {
-    match format {
-        Format::Text => line.push(untimed(front.role)),
-        Format::Json => push_untimed_object(line, kind, front.role, &front.origin),
+    match shape {
+        Shape::Line => line.push(untimed(front.role)),
+        Shape::Object => push_untimed_object(line, kind, front.role, &front.origin),
     }
 }
 
@@ -59,17 +59,17 @@ fn push_untimed(
 #[inline(always)]
 pub(crate) fn put_timed_front<W: Write>(
     to: &mut Output<W>,
-    format: Format,
+    shape: Shape,
     kind: &str,
     front: &EntryFront<'_>,
 ) -> Result<(), Stop>
     requires writable { to.old.failed ≡ false }
     requires short { length kind.now ≤ 10 }
     ensures { IsWrittenOrStops to.old to.new (if_timed (time_at (position_of front.now.origin))
-        (front_in format kind.now front.now.role (position_of front.now.origin))) result }
+        (front_in shape kind.now front.now.role (position_of front.now.origin))) result }
 {
     match front.of_line().time {
-        Some(_) => put_front(to, format, kind, front),
+        Some(_) => put_front(to, shape, kind, front),
         None => Ok(()),
     }
 }
@@ -77,18 +77,18 @@ pub(crate) fn put_timed_front<W: Write>(
 /// Writes what is in front of an entry's offset.
 pub(crate) fn put_front<W: Write>(
     to: &mut Output<W>,
-    format: Format,
+    shape: Shape,
     kind: &str,
     front: &EntryFront<'_>,
 ) -> Result<(), Stop>
     requires writable { to.old.failed ≡ false }
     requires short { length kind.now ≤ 10 }
     ensures { IsWrittenOrStops to.old to.new
-        (front_in format kind.now front.now.role (position_of front.now.origin)) result }
+        (front_in shape kind.now front.now.role (position_of front.now.origin)) result }
 {
-    match format {
-        Format::Text => put_side(to, front),
-        Format::Json => put_object_front(to, kind, front),
+    match shape {
+        Shape::Line => put_side(to, front),
+        Shape::Object => put_object_front(to, kind, front),
     }
 }
 

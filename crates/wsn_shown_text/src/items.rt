@@ -9,17 +9,19 @@ ghost use Rattle.wsn_print.specs.ShownParts.EntryPosition.{InStream};
 ghost use Rattle.wsn_shown_text.specs.Views.{view_in, shown_in, IsReadable};
 ghost use Rattle.wsn_shown_text.specs.Views.Shown.{Hex};
 ghost use Rattle.wsn_shown_text.specs.Members.{item_type};
-ghost use Rattle.wsn_shown_text.specs.EntryFormats.{item_entry, open_entry, front_in, seen_in, end_in};
+ghost use Rattle.wsn_shown_text.specs.EntryFormats.{item_entry, item_in, open_entry, front_in, seen_in, end_in};
 ghost use Rattle.wsn_shown_text.specs.ShownItems.{IsItem, IsRest, evidence_in};
+ghost use Rattle.wsn_shown_text.specs.declared.fields.Shape.TheVariants.{Line, Object};
 
 use crate::characters::{put_character_fields, put_character_line};
 use crate::fields::{
-    ENTRY_MAX, end_of, push_event, push_frame, push_refused, push_remainder, push_unfinished,
+    ENTRY_MAX, Shape, end_of, push_event, push_frame, push_refused, push_remainder, push_unfinished,
     push_unfinished_head, remainder_word,
 };
 use crate::fronts::{push_front, put_front, put_timed_front};
 use crate::line_views::{put_end_text, put_view};
 use crate::object_views::{put_end_fields, put_view_fields};
+use crate::people::put_people;
 use crate::views::{Shown, View, view_of_bytes, view_of_end, view_of_event, view_of_unfinished};
 use std::io::Write;
 use wsn_io::{Output, Stop, put_line};
@@ -75,13 +77,33 @@ pub fn put_entry<W: Write>(
     ensures { (shown : Item) → IsItem view front.now.offset item.now shown → IsWrittenOrStops to.old to.new
         (item_entry format view front.now.role (position_of front.now.origin) shown) result }
 {
+    match format {
+        Format::Text => put_item(to, Shape::Line, view, front, item),
+        Format::People => put_people(to, view, front, item),
+        Format::Json => put_item(to, Shape::Object, view, front, item),
+    }
+}
+
+/// Writes an item as a line of words or as an object.
+#[inline(always)]
+fn put_item<W: Write>(
+    to: &mut Output<W>,
+    shape: Shape,
+    view: ViewLimit,
+    front: &EntryFront<'_>,
+    item: &ShownItem<'_>,
+) -> Result<(), Stop>
+    requires { to.old.failed ≡ false }
+    ensures { (shown : Item) → IsItem view front.now.offset item.now shown → IsWrittenOrStops to.old to.new
+        (item_in shape view front.now.role (position_of front.now.origin) shown) result }
+{
     let kind = kind_of(item);
     let mut line = Line::new();
-    push_front(&mut line, format, kind, front);
-    let rest = push_item(&mut line, format, view, front.offset, item);
-    put_timed_front(to, format, kind, front)?;
+    push_front(&mut line, shape, kind, front);
+    let rest = push_item(&mut line, shape, view, front.offset, item);
+    put_timed_front(to, shape, kind, front)?;
     put_line(to, line.bytes())?;
-    put_rest(to, format, view, front, &rest)
+    put_rest(to, shape, view, front, &rest)
 }
 
 /// The type of an item.
@@ -103,7 +125,7 @@ fn kind_of(item: &ShownItem<'_>) -> &'static str
 #[inline(always)]
 fn push_item<'a>(
     line: &mut Line<ENTRY_MAX>,
-    format: Format,
+    shape: Shape,
     view: ViewLimit,
     offset: u64,
     item: &ShownItem<'a>,
@@ -111,39 +133,39 @@ fn push_item<'a>(
     requires { length line.old + 160 ≤ ENTRY_MAX }
     ensures { (shown : Item) → IsItem view offset item.now shown → (role : Role) → (position : EntryPosition) →
         (fields : List ℕ) × (rest : List ℕ) × (line.new ≡ line.old ++ fields)
-        × IsRest format view role position result rest
-        × (front_in format (item_type shown) role position ++ (fields ++ rest) ≡ item_entry format view role position shown) }
+        × IsRest shape view role position result rest
+        × (front_in shape (item_type shown) role position ++ (fields ++ rest) ≡ item_in shape view role position shown) }
 {
     match item {
         ShownItem::Event(event) => {
-            push_event(line, format, offset, event);
+            push_event(line, shape, offset, event);
             Rest::Seen(view_of_event(view, event))
         }
         ShownItem::Frame(head) => {
-            push_frame(line, format, offset, head);
+            push_frame(line, shape, offset, head);
             Rest::Nothing
         }
         ShownItem::Unfinished(event, lacks) => {
-            push_unfinished(line, format, offset, event, *lacks);
+            push_unfinished(line, shape, offset, event, *lacks);
             Rest::Seen(view_of_unfinished(view, event))
         }
         ShownItem::UnfinishedHead => {
-            push_unfinished_head(line, format, offset);
+            push_unfinished_head(line, shape, offset);
             Rest::Seen(no_bytes())
         }
         ShownItem::Refused(refusal, evidence, character) => {
-            push_refused(line, format, offset, refusal);
+            push_refused(line, shape, offset, refusal);
             Rest::Evidence(*evidence, *character)
         }
         ShownItem::Remainder(which, bytes) => {
-            push_remainder(line, format, offset, *which, bytes.bytes);
+            push_remainder(line, shape, offset, *which, bytes.bytes);
             Rest::Seen(view_of_bytes(view, bytes))
         }
     }
 }
 
 /// A view of no bytes.
-fn no_bytes() -> View<'static>
+pub(crate) fn no_bytes() -> View<'static>
     ensures { view_in result ≡ record { shown = Hex []; more = false } }
 {
     View {
@@ -156,22 +178,22 @@ fn no_bytes() -> View<'static>
 #[inline(always)]
 fn put_rest<W: Write>(
     to: &mut Output<W>,
-    format: Format,
+    shape: Shape,
     view: ViewLimit,
     front: &EntryFront<'_>,
     rest: &Rest<'_>,
 ) -> Result<(), Stop>
     requires { to.old.failed ≡ false }
     ensures { (text : List ℕ) →
-        IsRest format view front.now.role (position_of front.now.origin) rest.now text →
+        IsRest shape view front.now.role (position_of front.now.origin) rest.now text →
         IsWrittenOrStops to.old to.new text result }
 {
     match rest {
         Rest::Nothing => Ok(()),
-        Rest::Seen(shown) => put_view_and_end(to, format, view, shown),
-        Rest::Evidence(evidence, character) => match format {
-            Format::Text => put_evidence_text(to, view, front, evidence, character),
-            Format::Json => put_evidence_fields(to, view, evidence, character),
+        Rest::Seen(shown) => put_view_and_end(to, shape, view, shown),
+        Rest::Evidence(evidence, character) => match shape {
+            Shape::Line => put_evidence_text(to, view, front, evidence, character),
+            Shape::Object => put_evidence_fields(to, view, evidence, character),
         },
     }
 }
@@ -179,34 +201,34 @@ fn put_rest<W: Write>(
 #[inline(always)]
 fn put_view_and_end<W: Write>(
     to: &mut Output<W>,
-    format: Format,
+    shape: Shape,
     view: ViewLimit,
     shown: &View<'_>,
 ) -> Result<(), Stop>
     requires { to.old.failed ≡ false }
     ensures { IsReadable (shown_in shown.now.shown) →
-        IsWrittenOrStops to.old to.new (seen_in format view (view_in shown.now) ++ end_in format) result }
+        IsWrittenOrStops to.old to.new (seen_in shape view (view_in shown.now) ++ end_in shape) result }
 {
-    put_shown(to, format, view, shown)?;
-    put_line(to, end_of(format).as_bytes())
+    put_shown(to, shape, view, shown)?;
+    put_line(to, end_of(shape).as_bytes())
 }
 
 /// Writes a view.
 #[inline(always)]
 fn put_shown<W: Write>(
     to: &mut Output<W>,
-    format: Format,
+    shape: Shape,
     view: ViewLimit,
     shown: &View<'_>,
 ) -> Result<(), Stop>
     requires { to.old.failed ≡ false }
     ensures text { IsReadable (shown_in shown.now.shown) →
-        IsWrittenOrStops to.old to.new (seen_in format view (view_in shown.now)) result }
+        IsWrittenOrStops to.old to.new (seen_in shape view (view_in shown.now)) result }
     ensures unfailed { IfOk result (λ done. to.new.failed ≡ false) }
 {
-    match format {
-        Format::Text => put_view(to, view, shown),
-        Format::Json => put_view_fields(to, shown),
+    match shape {
+        Shape::Line => put_view(to, view, shown),
+        Shape::Object => put_view_fields(to, shown),
     }
 }
 
@@ -220,7 +242,7 @@ fn put_evidence_text<W: Write>(
 ) -> Result<(), Stop>
     requires { to.old.failed ≡ false }
     ensures { (all : List ℕ) → IsEndOf (view / 2) all evidence.now → IsWrittenOrStops to.old to.new
-        (evidence_in Format.Text view front.now.role (position_of front.now.origin) all (character_in character.now)) result }
+        (evidence_in Line view front.now.role (position_of front.now.origin) all (character_in character.now)) result }
 {
     put_end_text(to, view, &view_of_end(view, evidence))?;
     put_line(to, b"\n")?;
@@ -239,7 +261,7 @@ fn put_evidence_fields<W: Write>(
 ) -> Result<(), Stop>
     requires { to.old.failed ≡ false }
     ensures { (all : List ℕ) (role : Role) (position : EntryPosition) → IsEndOf (view / 2) all evidence.now →
-        IsWrittenOrStops to.old to.new (evidence_in Format.Json view role position all (character_in character.now)) result }
+        IsWrittenOrStops to.old to.new (evidence_in Object view role position all (character_in character.now)) result }
 {
     put_end_fields(to, &view_of_end(view, evidence))?;
     put_character_fields(to, view, evidence, character)?;
@@ -249,14 +271,14 @@ fn put_evidence_fields<W: Write>(
 /// Writes an event of a stream without its end.
 pub(crate) fn put_placed<W: Write>(
     to: &mut Output<W>,
-    format: Format,
+    shape: Shape,
     view: ViewLimit,
     role: Role,
     placed: &PlacedEvent<'_>,
 ) -> Result<(), Stop>
     requires { to.old.failed ≡ false }
     ensures text { (offset : ℕ) (event : MeantEvent) (frames : ℕ) → IsPlaced view placed.now offset event frames →
-        IsWrittenOrStops to.old to.new (open_entry format view role InStream (Event offset event frames)) result }
+        IsWrittenOrStops to.old to.new (open_entry shape view role InStream (Event offset event frames)) result }
     ensures unfailed { IfOk result (λ done. to.new.failed ≡ false) }
 {
     let front = EntryFront {
@@ -265,8 +287,8 @@ pub(crate) fn put_placed<W: Write>(
         offset: placed.offset,
     };
     let mut line = Line::new();
-    push_event(&mut line, format, placed.offset, &placed.event);
-    put_front(to, format, "event", &front)?;
+    push_event(&mut line, shape, placed.offset, &placed.event);
+    put_front(to, shape, "event", &front)?;
     put_line(to, line.bytes())?;
-    put_shown(to, format, view, &view_of_event(view, &placed.event))
+    put_shown(to, shape, view, &view_of_event(view, &placed.event))
 }

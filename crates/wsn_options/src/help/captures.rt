@@ -43,6 +43,8 @@ completes, as the lines come; then closing's report:
 With --wire it prints frames, after SIDE and TIME as frames lists them, in place
 of events. With --role the input is one stream, without TIME; the verdict's line
 is last, and a refusal ends the reading.
+With --layout people the same is in columns, a text without quotation marks and
+a refusal as a sentence; so it is by default where --color takes effect.
 With --json each entry is an object in one line, with the capture's line if the
 entry is of one; \"truncated\":true if bytes are left out:
   {\"type\":\"event\",\"line\":1,\"side\":\"client\",\"time\":0.001356,\"offset\":0,

@@ -12,6 +12,9 @@ returns-then-failed g c shown is = prints_none c.args.context.now c.args.output.
 pub put_entry-stop-requires : goal.put_entry-stop-requires
 put_entry-stop-requires g c = sym c.failed.ensures ∙ c.if-failed.false
 
+pub put_entry-stop-requires-in-People : goal.put_entry-stop-requires-in-People
+put_entry-stop-requires-in-People g c = sym c.failed.ensures ∙ c.if-failed.false
+
 pub put_entry-stop-requires-in-Json : goal.put_entry-stop-requires-in-Json
 put_entry-stop-requires-in-Json g c = sym c.failed.ensures ∙ c.if-failed.false
 
@@ -22,6 +25,14 @@ returns-in-Text g c shown is =
     let result = c.put_entry-stop.result in
     prints_line context c.args.output.now new shown shown result refl (sym c.failed.ensures ∙ c.if-failed.false)
     (subst (λ (f : Format). IsWrittenOrStops c.args.output.now new (item_entry f context.style.view context.role (position_of context.origin) shown) result) (sym c.in-Text.is) (c.put_entry-stop.ensures shown is))
+
+pub returns-in-People : goal.returns-in-People
+returns-in-People g c shown is =
+    let context = c.args.context.now in
+    let new = c.put_entry-stop-in-People.new.to in
+    let result = c.put_entry-stop-in-People.result in
+    prints_line context c.args.output.now new shown shown result refl (sym c.failed.ensures ∙ c.if-failed.false)
+    (subst (λ (f : Format). IsWrittenOrStops c.args.output.now new (item_entry f context.style.view context.role (position_of context.origin) shown) result) (sym c.in-People.is) (c.put_entry-stop-in-People.ensures shown is))
 
 pub returns-in-Json : goal.returns-in-Json
 returns-in-Json g c shown is =
