@@ -36,8 +36,8 @@ reason_is (b ∷ reason) some = refl
 pub no_end : (n : ℕ) (end : EndView) → n ≡ 0 → [] ≡ people_end n end
 no_end n end none = ap (λ (k : ℕ). people_end k end) (sym none)
 
-pub end_is : (n : ℕ) (end : EndView) → n ≢ 0 → codes ", after " ++ end_text n end ≡ people_end n end
-end_is n end some = sym (ap (λ (b : Bool). if b then [] else codes ", after " ++ end_text n end) (not_zero n some))
+pub end_is : (n : ℕ) (end : EndView) → n ≢ 0 → codes "  " ++ end_text n end ≡ people_end n end
+end_is n end some = sym (ap (λ (b : Bool). if b then [] else codes "  " ++ end_text n end) (not_zero n some))
 
 -- ---- bad characters
 

@@ -20,7 +20,7 @@ use Rattle.wsn_print.specs.EscapedText.{comment_text}
 use Rattle.wsn_print.specs.ShownParts.{EntryPosition, time_at}
 use Rattle.wsn_print.specs.ShownParts.EntryPosition.{InLine, AtEnd, InStream}
 use Rattle.wsn_shown_text.specs.Members.{Member, event_word, event_size, bytes_members, members, offset_of}
-use Rattle.wsn_shown_text.specs.PeopleText.{right, left, arrow, time_column, people_front, offset_column, size_text, people_reason, people_shown, people_seen, people_view, last_text, mask_text, length_text, people_head, frames_text, lacking_text, people_lacks, sentence, people_end, place_text, place_after, people_character, people_bad, people_word, after_word, size_in, remark, people_members, people_rest, people_line, people_end_line}
+use Rattle.wsn_shown_text.specs.PeopleText.{right, left, arrow, time_column, people_front, offset_column, size_text, people_reason, people_shown, people_seen, people_view, last_text, mask_text, length_text, people_head, frames_text, missing_text, people_lacks, sentence, people_end, place_text, place_after, people_character, people_bad, people_word, after_word, size_in, remark, people_members, people_rest, people_line, people_end_line}
 use Rattle.wsn_shown_text.specs.ShownText.{end_text, time_text}
 use Rattle.wsn_shown_text.specs.CharacterText.{from_character, bytes_before, text_before, leaves_out}
 use Rattle.wsn_shown_text.specs.Views.{Shown, PayloadView, view_of_bytes, view_of_end, view_of_event, view_of_unfinished}
@@ -111,24 +111,24 @@ frames_seen : (n : ℕ) → Seen (frames_text n)
 frames_seen n =
     seen_if (nat_lt 1 n) (codes "  in " ++ decimal n ++ codes " frames") [] (word (codes "  in ") refl ⊕ number n ⊕ word (codes " frames") refl) (word [] refl)
 
-lacking : (n : ℕ) → Seen (lacking_text n)
-lacking n =
-    seen_if (n == 0) (codes ", more to come") (if n == 1 then codes ", 1 byte lacks" else codes ", " ++ decimal n ++ codes " bytes lack") (word (codes ", more to come") refl)
-    (seen_if (n == 1) (codes ", 1 byte lacks") (codes ", " ++ decimal n ++ codes " bytes lack") (word (codes ", 1 byte lacks") refl)
-    (word (codes ", ") refl ⊕ number n ⊕ word (codes " bytes lack") refl))
+missing : (n : ℕ) → Seen (missing_text n)
+missing n =
+    seen_if (n == 0) (codes ", more to come") (if n == 1 then codes ", 1 byte missing" else codes ", " ++ decimal n ++ codes " bytes missing") (word (codes ", more to come") refl)
+    (seen_if (n == 1) (codes ", 1 byte missing") (codes ", " ++ decimal n ++ codes " bytes missing") (word (codes ", 1 byte missing") refl)
+    (word (codes ", ") refl ⊕ number n ⊕ word (codes " bytes missing") refl))
 
 lacks_seen : (lacks : Option ℕ) → Seen (people_lacks lacks)
 lacks_seen None = word (codes ", next head incomplete") refl
-lacks_seen (Some n) = lacking n
+lacks_seen (Some n) = missing n
 
 verdict : (refusal : Refusal) → Seen (sentence refusal)
 verdict refusal =
     word (word_of refusal.reason) (reason_word refusal.reason) ⊕ word (codes " at ") refl ⊕ number refusal.place
-    ⊕ word (codes ": a peer closes with ") refl ⊕ number (code_of refusal.reason)
+    ⊕ word (codes ": a peer should close with ") refl ⊕ number (code_of refusal.reason)
 
 after : (n : ℕ) (evidence : List ℕ) → IsBytes evidence → Seen (people_end n (view_of_end n evidence))
 after n evidence fits =
-    seen_if (n == 0) [] (codes ", after " ++ end_text n (view_of_end n evidence)) (word [] refl) (word (codes ", after ") refl ⊕ end_seen n evidence fits)
+    seen_if (n == 0) [] (codes "  " ++ end_text n (view_of_end n evidence)) (word [] refl) (gap ⊕ end_seen n evidence fits)
 
 place : (n : ℕ) → Seen (place_text n)
 place n = word (codes " at ") refl ⊕ number n ⊕ word (codes " of the payload") refl

@@ -105,27 +105,27 @@ people_head head = last_text head.fin ++ mask_text head.key ++ length_text head.
 abbrev pub frames_text : ℕ → List ℕ
 frames_text frames = if nat_lt 1 frames then codes "  in " ++ decimal frames ++ codes " frames" else []
 
--- How many bytes lack; between frames none do.
-abbrev pub lacking_text : ℕ → List ℕ
-lacking_text count =
+-- How many bytes are missing; between frames none are.
+abbrev pub missing_text : ℕ → List ℕ
+missing_text count =
     if count == 0 then codes ", more to come"
-    else if count == 1 then codes ", 1 byte lacks"
-    else codes ", " ++ decimal count ++ codes " bytes lack"
+    else if count == 1 then codes ", 1 byte missing"
+    else codes ", " ++ decimal count ++ codes " bytes missing"
 
--- The same, if it is known: a part of the next head came if it isn't.
+-- The same, if it is known: it isn't if a part of the next head came.
 abbrev pub people_lacks : Option ℕ → List ℕ
 people_lacks None = codes ", next head incomplete"
-people_lacks (Some count) = lacking_text count
+people_lacks (Some count) = missing_text count
 
 -- A refusal as a sentence: the reason, the offset of the offending byte, and what a peer should answer.
 abbrev pub sentence : Refusal → List ℕ
 sentence refusal =
-    word_of refusal.reason ++ codes " at " ++ decimal refusal.place ++ codes ": a peer closes with "
+    word_of refusal.reason ++ codes " at " ++ decimal refusal.place ++ codes ": a peer should close with "
     ++ decimal (code_of refusal.reason)
 
--- The last bytes of the evidence. None are shown if n is 0.
+-- The last bytes of the evidence, which ends with the offending byte. None are shown if n is 0.
 abbrev pub people_end : ℕ → EndView → List ℕ
-people_end n end = if n == 0 then [] else codes ", after " ++ end_text n end
+people_end n end = if n == 0 then [] else codes "  " ++ end_text n end
 
 -- Where a bad character is in the payload.
 abbrev pub place_text : ℕ → List ℕ

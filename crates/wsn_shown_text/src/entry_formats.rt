@@ -7,8 +7,8 @@ ghost use Rattle.wsn_shown_text.specs.ShownObjects.{comment_field, comment_objec
 
 use crate::fields::{ENTRY_MAX, Shape, push_end_mark};
 use crate::fronts::put_front;
-use crate::people::put_people_end_mark;
 use crate::object_views::{put_hex_field, put_text_field};
+use crate::people::put_people_end_mark;
 use std::io::Write;
 use std::str;
 use wsn_io::{Output, Stop, put_line};

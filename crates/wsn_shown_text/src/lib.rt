@@ -7,10 +7,10 @@
 //! [`ViewLimit`](wsn_print::ViewLimit) shows. [`put_difference_as`] writes a difference with the events that differ.
 //!
 //! `Views` says what is shown of a payload and `Members` what an entry says, whatever the format. `ShownText` and
-//! `CharacterText` define the lines, `ShownObjects` the objects, `PeopleText` the lines for people, `EntryFormats` the texts in each format, `DifferenceText` a
-//! difference with its events, and `DifferingText` what is shown where their payloads differ.
-//! `QuotedTexts` says what a quoted text is ([`quoted_laws`]). [`printed_entries`], [`printed_people`], [`printed_objects`] and
-//! [`printed_differences`] have examples of printed lines, computed from the definitions.
+//! `CharacterText` define the lines, `PeopleText` the lines for people, `ShownObjects` the objects, `EntryFormats` the texts
+//! in each format, `DifferenceText` a difference with its events, and `DifferingText` what is shown where their payloads
+//! differ. `QuotedTexts` says what a quoted text is ([`quoted_laws`]). [`printed_entries`], [`printed_people`],
+//! [`printed_objects`] and [`printed_differences`] have examples of printed lines, computed from the definitions.
 #![tactic(auto)]
 
 mod ascii_text;

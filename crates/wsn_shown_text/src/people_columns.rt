@@ -2,7 +2,7 @@
 ghost use Rattle.std.specs.Prelude.{◌≡◌, ◌+◌, ◌-◌, ◌≤◌, ◌++◌, codes, length, replicate, decimal};
 ghost use Rattle.wsn_print.specs.Fields.{op_word};
 ghost use Rattle.wsn_print.specs.ShownParts.{remainder_word};
-ghost use Rattle.wsn_shown_text.specs.PeopleText.{right, left, offset_column, columns, last_text, mask_text, length_text, people_head, frames_text, lacking_text, people_lacks, sentence};
+ghost use Rattle.wsn_shown_text.specs.PeopleText.{right, left, offset_column, columns, last_text, mask_text, length_text, people_head, frames_text, missing_text, people_lacks, sentence};
 
 use crate::fields::remainder_word;
 use wsn_print::{Line, Remainder, ShownEvent, op_word};
@@ -41,7 +41,7 @@ pub(crate) fn push_unfinished(
     event: &ShownEvent<'_>,
     lacks: Option<u64>,
 )
-    requires { length line.old + 159 ≤ PEOPLE_MAX }
+    requires { length line.old + 162 ≤ PEOPLE_MAX }
     ensures { line.new ≡ line.old ++ (columns offset (codes "unfinished") event.now.bytes
         ++ (codes "  " ++ op_word event.now.op) ++ frames_text event.now.frames ++ people_lacks lacks ++ codes "  ") }
 {
@@ -89,7 +89,7 @@ pub(crate) fn push_frame(line: &mut Line<PEOPLE_MAX>, offset: u64, head: &HeadIn
 /// Appends the columns of a refusal, and its sentence.
 #[tactic(auto, using(crate::proofs::People::word_short))]
 pub(crate) fn push_refused(line: &mut Line<PEOPLE_MAX>, offset: u64, refusal: &Refusal)
-    requires { length line.old + 140 ≤ PEOPLE_MAX }
+    requires { length line.old + 146 ≤ PEOPLE_MAX }
     ensures { line.new ≡ line.old
         ++ (offset_column offset ++ codes "  " ++ left 10 (codes "refused") ++ sentence refusal.now) }
 {
@@ -100,7 +100,7 @@ pub(crate) fn push_refused(line: &mut Line<PEOPLE_MAX>, offset: u64, refusal: &R
     line.push(reason.word());
     line.push(" at ");
     line.push_number(refusal.place);
-    line.push(": a peer closes with ");
+    line.push(": a peer should close with ");
     line.push_number(u64::from(reason.code()));
 }
 
@@ -189,30 +189,30 @@ fn push_frames(line: &mut Line<PEOPLE_MAX>, frames: u64)
 }
 
 fn push_lacks(line: &mut Line<PEOPLE_MAX>, lacks: Option<u64>)
-    requires { length line.old + 33 ≤ PEOPLE_MAX }
+    requires { length line.old + 36 ≤ PEOPLE_MAX }
     ensures text { line.new ≡ line.old ++ people_lacks lacks }
-    ensures len { length line.new ≤ length line.old + 33 }
+    ensures len { length line.new ≤ length line.old + 36 }
 {
     match lacks {
-        Some(count) => push_lacking(line, count),
+        Some(count) => push_missing(line, count),
         None => line.push(", next head incomplete"),
     }
 }
 
-/// Appends how many bytes lack.
-fn push_lacking(line: &mut Line<PEOPLE_MAX>, count: u64)
-    requires { length line.old + 33 ≤ PEOPLE_MAX }
-    ensures text { line.new ≡ line.old ++ lacking_text count }
-    ensures len { length line.new ≤ length line.old + 33 }
+/// Appends how many bytes are missing.
+fn push_missing(line: &mut Line<PEOPLE_MAX>, count: u64)
+    requires { length line.old + 36 ≤ PEOPLE_MAX }
+    ensures text { line.new ≡ line.old ++ missing_text count }
+    ensures len { length line.new ≤ length line.old + 36 }
 {
     if count == 0 {
         line.push(", more to come");
     } else if count == 1 {
-        line.push(", 1 byte lacks");
+        line.push(", 1 byte missing");
     } else {
         line.push(", ");
         line.push_number(count);
-        line.push(" bytes lack");
+        line.push(" bytes missing");
     }
 }
 

@@ -90,7 +90,7 @@ pub(crate) fn put_people_end<W: Write>(
     if limit.bytes() == 0 {
         return Ok(());
     }
-    put_line(to, b", after ")?;
+    put_line(to, b"  ")?;
     put_end_text(to, limit, end)
 }
 

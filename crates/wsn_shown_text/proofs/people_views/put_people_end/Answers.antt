@@ -17,12 +17,12 @@ pub returns-in_err-put_line : goal.returns-in_err-put_line
 returns-in_err-put_line g c = λ e is.
     let n = c.args.limit in
     let some = λ none. c.if-bytes-eq0.false (c.bytes.ensures.is ∙ none) in
-    first_stops c.args.to.now c.put_line.new.to (codes ", after ") (end_text n e) (people_end n e) c.in_err-put_line.field-0.0 c.from_residual.result
+    first_stops c.args.to.now c.put_line.new.to (codes "  ") (end_text n e) (people_end n e) c.in_err-put_line.field-0.0 c.from_residual.result
     (end_is n e some)  (c.in_err-put_line.ensures) c.from_residual.ensures.1
 
 pub returns : goal.returns
 returns g c = λ e is.
     let n = c.args.limit in
     let some = λ none. c.if-bytes-eq0.false (c.bytes.ensures.is ∙ none) in
-    two_pieces c.args.to.now c.put_line.new.to c.put_end_text.new.to (codes ", after ") (end_text n e) (people_end n e) c.put_end_text.result
+    two_pieces c.args.to.now c.put_line.new.to c.put_end_text.new.to (codes "  ") (end_text n e) (people_end n e) c.put_end_text.result
     (end_is n e some) (c.in_ok-put_line.ensures) (c.put_end_text.ensures.text e is)
