@@ -1,5 +1,5 @@
 -- Which answers are coloured, and which entries are for people.
-use Rattle.std.specs.Prelude.{◌≡◌, ◌↔◌, Bool, true, false, Option, None, Some, codes, option_and_then, if◌then◌else◌}
+use Rattle.std.specs.Prelude.{◌≡◌, ◌↔◌, ◌&&◌, Bool, true, false, Option, None, Some, codes, option_and_then, if◌then◌else◌}
 use Rattle.clap.specs.Words.{first_value}
 use Rattle.clap.specs.declared.parser.matches.Found.{Found}
 use Rattle.wsn_color.specs.Choices.{paints}
@@ -25,16 +25,17 @@ pub record IsReadColor (found : Found) (color : ColorChoice) : Type 0 where
   pub always : color ≡ Always ↔ (first_value found (codes "color") ≡ Some (codes "always"))
   pub never : color ≡ Never ↔ (first_value found (codes "color") ≡ Some (codes "never"))
 
--- The choice of --layout; without it, entries for people where they are coloured.
+-- The choice of --layout; without it, entries for people on a terminal where they are coloured.
 pub record IsReadLayout (found : Found) (entries : EntryLayout) : Type 0 where
   pub lines : entries ≡ Lines ↔ (first_value found (codes "layout") ≡ Some (codes "lines"))
   pub people : entries ≡ People ↔ (first_value found (codes "layout") ≡ Some (codes "people"))
 
 -- ---- entries for people
 
--- Entries are for people if they are asked for, and where nothing is asked for wherever answers are coloured.
+-- Entries are for people if that is asked for. Without a choice they are on a terminal where answers are coloured: never
+-- in a pipe or a file, even with colours.
 abbrev pub is_for_people : EntryLayout → ColorChoice → Terminal → Bool
-is_for_people Auto color terminal = paints color terminal
+is_for_people Auto color terminal = terminal.is_terminal && paints color terminal
 is_for_people Lines color terminal = false
 is_for_people People color terminal = true
 
@@ -56,7 +57,7 @@ abbrev pub request_for_people : Request → Request
 request_for_people (Run job file side) = Run (job_for_people job) file side
 request_for_people request = request
 
--- what is asked for where the answer is printed there
+-- What is asked for where the answer is printed there.
 abbrev pub asked_on : Asked → Terminal → Asked
 asked_on asked terminal =
     if is_for_people asked.entries asked.color terminal

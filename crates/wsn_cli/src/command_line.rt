@@ -11,8 +11,8 @@ use crate::error_words::shown_in_errors;
 use crate::escaped::Escaped;
 use crate::mistake::Mistake;
 use crate::options::{
-    at_of, check_digits, color_of, comparison_of, entries_of, file_of, format_of, limits_of, role_of, side_of,
-    style_of,
+    at_of, check_digits, color_of, comparison_of, entries_of, file_of, format_of, limits_of,
+    role_of, side_of, style_of,
 };
 use crate::recut_options::recut_of;
 use crate::request::{Asked, EntryLayout, Request, Usage};
@@ -259,8 +259,8 @@ fn asked_of(alloc: Global, name: &str, matches: &ArgMatches<'_>) -> Result<Asked
 }
 
 /// Reads the words of a command line, the program's name first, and returns the request that they make: a command with
-/// its options, as the help lists them; when its answer is coloured, and how entries are laid out. Help and versions never
-/// are coloured.
+/// its options, as the help lists them; when its answer is coloured, and how entries are laid out. Help and versions are
+/// never coloured.
 ///
 /// The error says which rule the words break, or that an allocation failed. A job in a request may be run, and each
 /// request has the greatest input limit.

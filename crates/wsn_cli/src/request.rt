@@ -49,7 +49,7 @@ pub enum Request {
 /// How entries of `show` are laid out.
 #[derive(Clone, Copy, Debug, PartialEq, Eq)]
 pub enum EntryLayout {
-    /// For people where they are coloured, and otherwise as lines.
+    /// For people on a terminal where they are coloured, and otherwise as lines.
     Auto,
     /// As lines of words.
     Lines,
@@ -66,18 +66,19 @@ pub struct Asked {
 }
 
 impl Asked {
-    /// The same where the answer is printed there, with entries for people if they are.
+    /// What is asked for where the answer is printed there: with entries for people, if they are for people there.
     pub fn on(self, terminal: Terminal) -> Asked
         ensures is { result ≡ asked_on self terminal }
         ensures done { CanBeDone self.request → CanBeDone result.request }
     {
-        if !self.is_for_people(terminal) {
-            return self;
-        }
-        Asked {
-            request: request_for_people(self.request),
-            color: self.color,
-            entries: self.entries,
+        if self.is_for_people(terminal) {
+            Asked {
+                request: request_for_people(self.request),
+                color: self.color,
+                entries: self.entries,
+            }
+        } else {
+            self
         }
     }
 
@@ -86,7 +87,7 @@ impl Asked {
         ensures { result ≡ is_for_people self.now.entries self.now.color terminal }
     {
         match self.entries {
-            EntryLayout::Auto => self.color.paints(terminal),
+            EntryLayout::Auto => terminal.is_terminal && self.color.paints(terminal),
             EntryLayout::Lines => false,
             EntryLayout::People => true,
         }
@@ -121,7 +122,7 @@ impl Request {
     }
 }
 
-/// The request with entries for people, if it has entries that are lines.
+/// The request with entries for people; the same if it asks for no entries, or for JSON.
 fn request_for_people(request: Request) -> Request
     ensures is { result ≡ request_for_people request }
     ensures done { CanBeDone request → CanBeDone result }
@@ -174,19 +175,19 @@ fn layout_of_job(job: &Job) -> Option<Layout>
     ensures { result ≡ job_layout job.now }
 {
     match job {
-        Job::Judge(_, _, Format::Text)
-        | Job::Frames(_, _, Format::Text)
-        | Job::Closing(_, Format::Text) => Some(Layout::Answer),
-        Job::ShowStream(_, _, style) | Job::Show(_, style) => layout_of_style(style),
+        Job::Judge(_, _, format) | Job::Frames(_, _, format) | Job::Closing(_, format) => {
+            layout_of_format(*format)
+        }
+        Job::ShowStream(_, _, style) | Job::Show(_, style) => layout_of_format(style.format),
         _ => None,
     }
 }
 
-/// Which lines may be coloured of what is shown in this style.
-fn layout_of_style(style: &Style) -> Option<Layout>
-    ensures { result ≡ format_layout style.now.format }
+/// Which lines of an answer in this format may be coloured.
+fn layout_of_format(format: Format) -> Option<Layout>
+    ensures { result ≡ format_layout format }
 {
-    match style.format {
+    match format {
         Format::Text => Some(Layout::Answer),
         Format::People => Some(Layout::People),
         Format::Json => None,

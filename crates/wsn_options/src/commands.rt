@@ -2,7 +2,8 @@ use crate::help;
 use crate::help::{captures, plans, streams};
 use crate::options::{
     file, role, with_at, with_capture, with_color, with_events_view, with_file, with_files,
-    with_json, with_layout, with_limits, with_role, with_text_color, with_view, with_wire, with_without,
+    with_json, with_layout, with_limits, with_role, with_text_color, with_view, with_wire,
+    with_without,
 };
 use crate::recut_options::with_recuts;
 use clap::{Arg, ArgAction, Command};

@@ -95,7 +95,7 @@ pub fn with_wire<'a>(alloc: Global, command: Command<'a>) -> Result<Command<'a>,
 /// Adds `--layout`, which isn't for JSON.
 pub fn with_layout<'a>(alloc: Global, command: Command<'a>) -> Result<Command<'a>, AllocError> {
     let help =
-        "Print entries as lines of words, or for people\nin columns\n[default: people where --color takes effect,\nelse lines]";
+        "Print entries as lines of words, or for people\nin columns\n[default: people on a terminal with colours,\nelse lines]";
     let layout = option(alloc, "layout", "lines|people", help);
     command.arg(one_of(layout, &LAYOUTS).conflicts_with("json")?)
 }
