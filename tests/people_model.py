@@ -8,7 +8,7 @@ SIDES = {"C": "client \u2192 ", "S": "server \u2192 "}
 ENTRY = re.compile(r"([CS]) (\S+) ([0-9]+) (.*)", re.DOTALL)
 QUOTED = re.compile(r'"((?:[^"\\]|\\.)*)"', re.DOTALL)
 LENGTHS = {"two": ", length in two bytes", "eight": ", length in eight bytes"}
-LACKS = {"-": ", next head incomplete", "0": ", more to come", "1": ", 1 byte lacks"}
+LACKS = {"-": ", next head incomplete", "0": ", more to come", "1": ", 1 byte missing"}
 
 
 def plain(inner):
@@ -49,11 +49,11 @@ def entry(rest):
         return f"{columns(kind, length)}  {last}, {mask}{''.join(LENGTHS[it] for it in form)}"
     if word == "refused":
         place, reason, code, seen = fields[0].split(" ")
-        after = "" if seen == "-" else f", after {seen}"
-        return f"{word:<10}{reason} at {place}: a peer closes with {code}{after}"
+        after = "" if seen == "-" else f"  {seen}"
+        return f"{word:<10}{reason} at {place}: a peer should close with {code}{after}"
     if word == "unfinished":
         kind, size, frames, _, count, view = fields[0].split(" ", 5)
-        lacks = LACKS.get(count, f", {count} bytes lack")
+        lacks = LACKS.get(count, f", {count} bytes missing")
         return f"{columns(word, size)}  {kind}{frames_of(frames)}{lacks}  {view_of(view)}"
     if word in ("unread", "tail"):
         size, view = fields[0].split(" ", 1)
