@@ -1,5 +1,6 @@
 -- The pieces of entries for people.
-use Rattle.std.proofs.Common.{◌≡◌, ◌≢◌, ℕ, ◌≤◌, Bool, true, false, nat_lt, ◌==◌, ◌&&◌, if◌then◌else◌, Option, None, List, [], ◌∷◌, ◌++◌, length, codes, decimal, refl, sym, ap, ◌∙◌, append_assoc, append-nil}
+use Rattle.std.proofs.Common.{◌≡◌, ◌≢◌, ℕ, ◌≤◌, Bool, true, false, nat_lt, ◌==◌, ◌&&◌, if◌then◌else◌, Option, None, List, [], ◌∷◌, ◌++◌, length, take, replicate, codes, decimal, refl, sym, ap, ◌∙◌, append_assoc, append-nil}
+use Rattle.std.proofs.lemmas.List.{take-replicate}
 use Rattle.hex.specs.Hex.{encode_lower}
 use Rattle.wsn_rules.specs.BadCharacter.{BadCharacter}
 use Rattle.wsn_rules.specs.declared.head_info.HeadInfo.{HeadInfo}
@@ -20,6 +21,11 @@ use Rattle.wsn_shown_text.specs.Views.{PayloadView, EndView, view_of_bytes, view
 use Rattle.wsn_shown_text.specs.Views.Shown.{Hex}
 use Rattle.wsn_shown_text.proofs.HeldViews.{as_view, not_zero}
 pub use Rattle.wsn_print.proofs.ReportTexts.{word_short}
+
+-- ---- columns
+
+pub blanks : (n : ℕ) → n ≤ 10 → take n (replicate 10 32) ≡ replicate n 32
+blanks n fits = take-replicate n 10 32 fits
 
 -- ---- views
 

@@ -41,7 +41,7 @@ abbrev pub time_column : EntryPosition → List ℕ
 time_column InStream = []
 time_column position = right 10 (time_text (time_at position))
 
--- What is in front of each entry: the endpoint and the time.
+-- What each entry begins with: the endpoint and the time.
 abbrev pub people_front : Role → EntryPosition → List ℕ
 people_front role position = arrow role ++ time_column position
 
@@ -131,11 +131,11 @@ people_end n end = if n == 0 then [] else codes "  " ++ end_text n end
 abbrev pub place_text : ℕ → List ℕ
 place_text in_payload = codes " at " ++ decimal in_payload ++ codes " of the payload"
 
--- The same, before the text in front of it, which has `..` in front if some of the message before isn't shown.
+-- The same, and how the text before it begins: with a quotation mark, after `..` if that isn't all of the message before.
 abbrev pub place_after : ℕ → Bool → List ℕ
 place_after in_payload more = place_text in_payload ++ codes ", after " ++ (if more then codes ".." else []) ++ codes "\""
 
--- Where a bad character is, and if n isn't 0 its bytes and the text in front of it.
+-- Where a bad character is, and if n isn't 0 its bytes and the text before it.
 abbrev pub people_character : ℕ → List ℕ → BadCharacter → List ℕ
 people_character n evidence character =
     if n == 0 then codes "bad character" ++ place_text character.in_payload

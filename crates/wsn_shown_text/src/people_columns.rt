@@ -167,6 +167,8 @@ pub(crate) fn before(size: usize) -> &'static [u8]
     spaces(WIDTH.saturating_sub(size))
 }
 
+/// The given number of spaces, at most the width of the widest column.
+#[tactic(auto, using(crate::proofs::People::blanks))]
 fn spaces(count: usize) -> &'static [u8]
     requires { count ≤ 10 }
     ensures text { result.now ≡ replicate count 32 }
