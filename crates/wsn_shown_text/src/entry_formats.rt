@@ -29,14 +29,14 @@ pub fn put_end_as<W: Write>(
         (end_entry format front.now.role (position_of front.now.origin) front.now.offset) result }
 {
     match format {
-        Format::Text => put_end(to, Shape::Line, front),
+        Format::Text => put_end_in(to, Shape::Line, front),
         Format::People => put_people_end_mark(to, front),
-        Format::Json => put_end(to, Shape::Object, front),
+        Format::Json => put_end_in(to, Shape::Object, front),
     }
 }
 
 /// Writes an end mark as a line of words or as an object.
-fn put_end<W: Write>(to: &mut Output<W>, shape: Shape, front: &EntryFront<'_>) -> Result<(), Stop>
+fn put_end_in<W: Write>(to: &mut Output<W>, shape: Shape, front: &EntryFront<'_>) -> Result<(), Stop>
     requires { to.old.failed ≡ false }
     ensures { IsWrittenOrStops to.old to.new
         (end_mark_in shape front.now.role (position_of front.now.origin) front.now.offset) result }

@@ -62,9 +62,9 @@ pub(crate) enum Rest<'a> {
 }
 
 /// Writes an item of an endpoint's stream in a format: an entry, such as `C - 0 text 5 1 "Hello"` or
-/// `S - 7 refused 11 text-bad 1007 4772fc`, and in lines another for the bad character of a text that is refused for one.
-/// A frame's own `place` isn't printed, but the front's offset. `Stop::Write` if the writer fails: a prefix of the text was
-/// written.
+/// `S - 7 refused 11 text-bad 1007 4772fc`, for people in columns; and in lines another for the bad character of a text
+/// that is refused for one. A frame's own `place` isn't printed, but the front's offset. `Stop::Write` if the writer fails:
+/// a prefix of the text was written.
 #[inline(always)]
 pub fn put_entry<W: Write>(
     to: &mut Output<W>,
@@ -78,15 +78,15 @@ pub fn put_entry<W: Write>(
         (item_entry format view front.now.role (position_of front.now.origin) shown) result }
 {
     match format {
-        Format::Text => put_item(to, Shape::Line, view, front, item),
+        Format::Text => put_item_in(to, Shape::Line, view, front, item),
         Format::People => put_people(to, view, front, item),
-        Format::Json => put_item(to, Shape::Object, view, front, item),
+        Format::Json => put_item_in(to, Shape::Object, view, front, item),
     }
 }
 
 /// Writes an item as a line of words or as an object.
 #[inline(always)]
-fn put_item<W: Write>(
+fn put_item_in<W: Write>(
     to: &mut Output<W>,
     shape: Shape,
     view: ViewLimit,

@@ -8,7 +8,7 @@ use Rattle.wsn_shown_text.proofs.entry_formats.put_end_as.Goals as goal
 pub returns-in-Text : goal.returns-in-Text
 returns-in-Text g c =
     let front = c.args.front.now in
-    subst (λ (f : Format). IsWrittenOrStops c.args.to.now c.put_end.new.to (end_entry f front.role (position_of front.origin) front.offset) c.put_end.result) (sym c.in-Text.is) c.put_end.ensures
+    subst (λ (f : Format). IsWrittenOrStops c.args.to.now c.put_end_in.new.to (end_entry f front.role (position_of front.origin) front.offset) c.put_end_in.result) (sym c.in-Text.is) c.put_end_in.ensures
 
 pub returns-in-People : goal.returns-in-People
 returns-in-People g c =
@@ -18,4 +18,4 @@ returns-in-People g c =
 pub returns-in-Json : goal.returns-in-Json
 returns-in-Json g c =
     let front = c.args.front.now in
-    subst (λ (f : Format). IsWrittenOrStops c.args.to.now c.put_end-in-Json.new.to (end_entry f front.role (position_of front.origin) front.offset) c.put_end-in-Json.result) (sym c.in-Json.is) c.put_end-in-Json.ensures
+    subst (λ (f : Format). IsWrittenOrStops c.args.to.now c.put_end_in-in-Json.new.to (end_entry f front.role (position_of front.origin) front.offset) c.put_end_in-in-Json.result) (sym c.in-Json.is) c.put_end_in-in-Json.ensures

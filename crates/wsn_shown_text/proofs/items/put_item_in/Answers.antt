@@ -5,7 +5,7 @@ use Rattle.wsn_print.specs.ShownParts.{time_at, position_of}
 use Rattle.wsn_shown_text.specs.Members.{item_type}
 use Rattle.wsn_shown_text.specs.EntryFormats.{item_in, front_in, if_timed, if_untimed}
 use Rattle.wsn_print.proofs.Pieces.{first_stops, second_stops, three_pieces}
-use Rattle.wsn_shown_text.proofs.items.put_item.Goals as goal
+use Rattle.wsn_shown_text.proofs.items.put_item_in.Goals as goal
 
 -- The front is by itself, or in the line with the fields.
 whole : (time : Option (List ℕ)) (front fields rest entry : List ℕ) → front ++ (fields ++ rest) ≡ entry → if_timed time front ++ ((if_untimed time front ++ fields) ++ rest) ≡ entry

@@ -5,7 +5,7 @@ use Rattle.wsn_shown_text.specs.Members.Member.{Mark}
 use Rattle.wsn_shown_text.specs.EntryFormats.{end_mark_in, front_in, offset_in, member_in, end_in}
 use Rattle.wsn_shown_text.proofs.Entries.{end_mark}
 use Rattle.wsn_print.proofs.Pieces.{first_stops, two_pieces}
-use Rattle.wsn_shown_text.proofs.entry_formats.put_end.Goals as goal
+use Rattle.wsn_shown_text.proofs.entry_formats.put_end_in.Goals as goal
 
 pub returns-in_err-put_front : goal.returns-in_err-put_front
 returns-in_err-put_front g c =
