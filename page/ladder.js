@@ -32,12 +32,12 @@ function viewOf(session, row) {
   }
 }
 
-/** A refused text up to its bad character, and the program's first sentence on the reason, which may have an offset. */
+/** A refused text up to its bad character, and the program's first sentence on the reason. */
 function refusedView(session, row) {
   const words = session.sentence(row.reason) || row.reason, place = field("place", "", String(row.place));
-  const [before, after] = words.split("OFFSET"), bad = badCharacter(session, row);
+  const bad = badCharacter(session, row);
   const text = bad ? [make("span", "text", ...characterText(session, bad, ROW_BYTES, 0).parts), " "] : [];
-  return [...text, ...(after === undefined ? ["byte ", place, ": ", words] : [before, "offset ", place, after])];
+  return [...text, "byte ", place, ": ", words];
 }
 
 function lacksWords(row) {

@@ -1,10 +1,10 @@
 // How the session went, in words: a title, and sentences. What a comment or the first refused byte lets one suspect
-// (compression, sides exchanged) is said beside what the program says, not in its place.
+// (compression, sides exchanged) is said beside what the program says, not in its place. The sentences that `wsn show`
+// prints for people, too, are in sentences.js.
 
 const TITLES = {
   clean: "Closed cleanly", complete: "Closed by both sides", half: "Closed by one side", open: "Still open",
 };
-const OPEN_WORDS = "Nothing is wrong so far: no side has closed, and no direction has ended.";
 
 /** The first comment of a capture that has a form, as its expression finds it. */
 function commentLike(session, form) {
@@ -141,7 +141,7 @@ function handshakeSentence(session) {
 /** What is said of a refused side; its offset leads to the row. */
 function refusalSentence(session, side, go) {
   const state = session.report[side], peer = session.report[other(side)], { exchanged, compressed } = doubts(session);
-  const why = session.sentence(state.reason).replace("OFFSET", `offset ${state.offset}`);
+  const why = session.sentence(state.reason);
   const link = button(`byte ${state.offset}`, () => go(side), "link");
   const closed = peer.code === state.code ? ", and did" : `; it closed ${withCode(session, peer)}`;
   const did = peer.state === "closed" ? closed : "";
@@ -168,7 +168,7 @@ function firstBit(sides) {
 /** What undoes compression, if a side is refused for it: by a comment of the capture, or by the look of it. */
 function compressedSentence(session) {
   const { compressed, unagreed, agreed } = doubts(session), code = text => make("code", "", text);
-  const undo = options => code(`recipes/inflate ${options}CAPTURE > inflated.capture`);
+  const undo = options => code(SENTENCES.inflate_command.replace("CAPTURE", `${options}CAPTURE`));
   const prevents = [" undoes it; ", code("recipes/record --plain"), " records a session without it."];
   const isRefused = SIDES.some(side => session.report[side].reason === "reserved-bits");
   if (agreed && isRefused)
@@ -187,21 +187,20 @@ function compressedSentence(session) {
 /** How to put sides right that are exchanged. */
 function exchangedSentence(session) {
   if (!doubts(session).exchanged) return [];
-  const swap = make("code", "", "sed 's/^C/X/; s/^S/C/; s/^X/S/' CAPTURE > right.capture");
-  return [make("p", "", "The client's first frame has no masking key and the server's has one, as if each were the ",
-    "other's. To exchange them: ", swap, ".")];
+  const swap = make("code", "", SENTENCES.exchange_command);
+  return [make("p", "", `${SENTENCES.exchanged_sentence} To exchange them: `, swap, ".")];
 }
 
 function closedSentence(session) {
   const { report } = session, first = report.first ?? "client", second = other(first);
   const answer = report.echo ? "with the same" : withCode(session, report[second]);
-  const ends = report.outcome === "clean" ? "Both directions then ended." : "The capture lacks the end of a direction.";
+  const ends = SENTENCES[`${report.outcome}_sentence`];
   const closed = `The ${first} closed first, ${withCode(session, report[first])}`;
   return `${closed}, and the ${second} answered ${answer}. ${ends}`;
 }
 
 function brokenSentence(session) {
-  const words = { ended: "ended between two messages", cut: "ended inside a frame or a message" };
+  const words = { ended: SENTENCES.ended_words, cut: SENTENCES.cut_words };
   const { report } = session, closers = SIDES.filter(side => report[side].state === "closed");
   const parts = SIDES.filter(side => words[report[side].state])
     .map(side => `the ${side}'s direction ${words[report[side].state]}`);
@@ -261,6 +260,6 @@ function outcomeSentences(session, go) {
     case "clean": case "complete": return [make("p", "", closedSentence(session))];
     case "abnormal": return [make("p", "", brokenSentence(session)), ...unfinished()];
     case "half": return [make("p", "", halfSentence(session)), ...unfinished()];
-    default: return [make("p", "", OPEN_WORDS), ...unfinished()];
+    default: return [make("p", "", SENTENCES.open_sentence), ...unfinished()];
   }
 }

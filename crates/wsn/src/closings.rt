@@ -1,14 +1,15 @@
 use crate::FAULT;
 use crate::canvas::Canvas;
+use crate::named_input::{hold_standard_input, open_named};
 use crate::pipe::Pipe;
-use crate::stdio::{OneLine, diagnose_stop, hold_standard_input, open_named};
+use crate::stdio::{OneLine, diagnose_stop};
 use std::cell::RefCell;
 use std::io::{self, Read, Write};
 use std::rt::Runtime;
 use std::str;
 use wsn_cli::{Escaped, Format, Layout};
 use wsn_io::{BlockReader, BlockWriter, Input, Output, Stop, TiedWriter};
-use wsn_job::run_named_closing;
+use wsn_job::{NamedClosing, run_named_closing};
 use wsn_rules::Limits;
 
 /// Judges the captures in these files, prints a line or an object for each, and returns the exit status: the greatest of
@@ -23,7 +24,8 @@ pub fn judge_each<R: Runtime + AllocGlobal>(
 ) -> u8 {
     let _held = hold_standard_input(rt);
     let mut output = Pipe::new(io::writer(rt));
-    let printed = print_each_in(rt, limits, format, files, &mut output, layout);
+    let canvas = Canvas::new(&mut output, layout);
+    let printed = print_each_in(rt, limits, format, files, canvas);
     match printed {
         Some(status) => status,
         None if output.has_no_reader() => FAULT,
@@ -31,18 +33,16 @@ pub fn judge_each<R: Runtime + AllocGlobal>(
     }
 }
 
-/// Prints a line or an object for each of the captures, coloured by its layout; `None` if the output failed.
+/// Prints a line or an object for each of the captures, and then flushes the output; `None` if it failed.
 fn print_each_in<R: Runtime + AllocGlobal, W: Write + Drop>(
     rt: &R,
     limits: Limits,
     format: Format,
     files: &[String],
-    output: W,
-    layout: Option<Layout>,
+    mut output: Canvas<W>,
 ) -> Option<u8> {
-    let mut canvas = Canvas::new(output, layout);
-    let status = print_each(rt, limits, format, files, &mut canvas);
-    canvas.flush().ok().and(status)
+    let status = print_each(rt, limits, format, files, &mut output);
+    output.flush().ok().and(status)
 }
 
 /// Prints a line or an object for each of the captures; `None` if the output failed.
@@ -57,9 +57,13 @@ fn print_each<R: Runtime + AllocGlobal, W: Write + Drop>(
     let mut writer = TiedWriter::new(&output);
     let mut status = 0;
     for file in files {
-        let name = file.as_str();
-        let one = match open_named(rt, name) {
-            Ok(input) => print_one(rt, limits, format, name, input, &mut writer)?,
+        let closing = NamedClosing {
+            name: file.as_str(),
+            limits,
+            format,
+        };
+        let one = match open_named(rt, closing.name) {
+            Ok(input) => print_one(rt, &closing, input, &mut writer)?,
             Err(status) => status,
         };
         status = status.max(one);
@@ -71,18 +75,14 @@ fn print_each<R: Runtime + AllocGlobal, W: Write + Drop>(
 /// on standard error, after the file's name.
 fn print_one<R: Runtime, S: Read + Drop, W: Write + Drop>(
     rt: &R,
-    limits: Limits,
-    format: Format,
-    name: &str,
+    closing: &NamedClosing<'_>,
     input: S,
     writer: W,
 ) -> Option<u8> {
     let mut diagnosed = OneLine::new();
     let mut printed = Output::new(writer);
     let status = run_named_closing(
-        name,
-        limits,
-        format,
+        closing,
         &mut Input::new(BlockReader::new(input)),
         &mut printed,
         &mut Output::new(&mut diagnosed),
@@ -91,7 +91,7 @@ fn print_one<R: Runtime, S: Read + Drop, W: Write + Drop>(
         return None;
     }
     if !diagnosed.is_empty() {
-        report(rt, name, &diagnosed);
+        report(rt, closing.name, &diagnosed);
     }
     Some(status)
 }

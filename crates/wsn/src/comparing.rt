@@ -1,7 +1,8 @@
 use crate::FAULT;
 use crate::hints::print_hint;
+use crate::named_input::{hold_standard_input, open};
 use crate::pipe::Pipe;
-use crate::stdio::{OneLine, diagnose_stop, finish, hold_standard_input, open};
+use crate::stdio::{OneLine, diagnose_stop, finish};
 use std::alloc::Allocator;
 use std::cell::RefCell;
 use std::io::{self, Read, Write};
@@ -9,7 +10,7 @@ use std::rt::Runtime;
 use wsn_capture::SideReader;
 use wsn_cli::{ComparedHint, Comparison, hint_on_sides, hint_on_streams};
 use wsn_io::{BlockReader, BlockWriter, FirstBytes, Input, Output, Stop, TiedWriter};
-use wsn_job::{Ran, run_same, run_same_on_sides};
+use wsn_job::{ComparedStreams, Ran, run_same, run_same_on_sides};
 use wsn_wire::Role;
 
 /// How a comparison ended.
@@ -141,21 +142,14 @@ fn compare_streams<A: Allocator + Copy, R: Read + Drop, S: Read + Drop, W: Write
     writer: W,
     diagnosed: &mut OneLine,
 ) -> Ended {
-    let mut first = BlockReader::new(first);
-    let mut second = BlockReader::new(second);
-    let mut first = Input::new(&mut first);
-    let mut second = Input::new(&mut second);
+    let mut streams = ComparedStreams {
+        first: Input::new(BlockReader::new(first)),
+        second: Input::new(BlockReader::new(second)),
+    };
     let mut printed = Output::new(writer);
     let mut errors = Output::new(diagnosed);
-    let ran = run_same(
-        alloc,
-        &mut first,
-        &mut second,
-        comparison,
-        &mut printed,
-        &mut errors,
-    );
-    Ended::new(ran, &first)
+    let ran = run_same(alloc, &mut streams, comparison, &mut printed, &mut errors);
+    Ended::new(ran, &streams.first)
 }
 
 /// Compares this side of two captures, and prints the answer.
@@ -168,17 +162,12 @@ fn compare_sides<A: Allocator + Copy, R: Read + Drop, S: Read + Drop, W: Write +
     writer: W,
     diagnosed: &mut OneLine,
 ) -> Ended {
-    let mut first = Input::new(SideReader::new(BlockReader::new(first), side));
-    let mut second = Input::new(SideReader::new(BlockReader::new(second), side));
+    let mut sides = ComparedStreams {
+        first: Input::new(SideReader::new(BlockReader::new(first), side)),
+        second: Input::new(SideReader::new(BlockReader::new(second), side)),
+    };
     let mut printed = Output::new(writer);
     let mut errors = Output::new(diagnosed);
-    let ran = run_same_on_sides(
-        alloc,
-        &mut first,
-        &mut second,
-        comparison,
-        &mut printed,
-        &mut errors,
-    );
-    Ended::new(ran, &first)
+    let ran = run_same_on_sides(alloc, &mut sides, comparison, &mut printed, &mut errors);
+    Ended::new(ran, &sides.first)
 }

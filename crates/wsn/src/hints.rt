@@ -2,7 +2,7 @@ use arrayvec::ArrayVec;
 use std::fmt::Display;
 use std::io::{self, Write};
 use std::str;
-use wsn_cli::Layout;
+use wsn_cli::{Hint, Layout};
 use wsn_color::Painter;
 
 /// A hint's line with codes: at most 91 bytes, two codes and an LF.
@@ -18,6 +18,13 @@ pub fn print_hint<R: Eprint, D: Display + Drop>(rt: &R, hint: D, in_colors: bool
     let _ = paint(&mut line, hint);
     if let Ok(text) = str::from_utf8(line.as_slice()) {
         let _ = rt.eprint(text);
+    }
+}
+
+/// Prints the hint on standard error, if there is one, in colours or not.
+pub fn give_hint<R: Eprint>(rt: &R, hint: Option<Hint>, in_colors: bool) {
+    if let Some(hint) = hint {
+        print_hint(rt, hint.line(), in_colors);
     }
 }
 

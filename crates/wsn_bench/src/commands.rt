@@ -9,7 +9,7 @@ use std::cell::RefCell;
 use std::io::Write;
 use wsn_capture::SideReader;
 use wsn_io::{BlockReader, BlockWriter, Input, Output, TiedReader, TiedWriter};
-use wsn_job::{Comparison, Job, run, run_on_side, run_same};
+use wsn_job::{ComparedStreams, Comparison, Job, run, run_on_side, run_same};
 use wsn_print::ViewLimit;
 use wsn_rules::Limits;
 use wsn_wire::{Lengths, Role};
@@ -97,10 +97,13 @@ impl<'a> Printed<'a> {
         let mut errors = OneLine::new();
         let output = RefCell::new(BlockWriter::new(&mut self.text));
         let mut writer = TiedWriter::new(&output);
+        let mut streams = ComparedStreams {
+            first: Input::new(BlockReader::new(one)),
+            second: Input::new(BlockReader::new(other)),
+        };
         let ran = run_same(
             alloc,
-            &mut Input::new(BlockReader::new(one)),
-            &mut Input::new(BlockReader::new(other)),
+            &mut streams,
             how,
             &mut Output::new(&mut writer),
             &mut Output::new(&mut errors),

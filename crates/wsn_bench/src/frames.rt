@@ -85,7 +85,7 @@ fn put_masked(payload: &[u8], key: [u8; 4], into: &mut Vec<u8>) -> Result<(), Al
 pub struct Cut {
     /// The most bytes of a fragment.
     pub most: usize,
-    /// A ping follows one of so many fragments, but the last; 0 for none.
+    /// One of this many fragments is followed by a ping, but not the last; 0 for none.
     pub pings: usize,
 }
 

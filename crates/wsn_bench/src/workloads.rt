@@ -16,8 +16,8 @@ const BLOCKS: usize = 64;
 /// The names of the workloads.
 pub const NAMES: [&str; 6] = ["show", "same", "fragments", "frames", "recut", "awkward"];
 
-/// Makes sessions from a seed, does the workload's jobs so many times, and adds what they print. Whether there is such a
-/// workload.
+/// Makes sessions from a seed, does the workload's jobs the given number of times, and adds what they print. Whether
+/// there is such a workload.
 pub fn run(
     alloc: Global,
     workload: &str,

@@ -3,7 +3,7 @@ use Rattle.std.specs.Prelude.{ℕ, Bool, false, true}
 use Rattle.wsn_wire.specs.declared.endpoint.Role.{Role, TheVariants.{Client, Server}}
 use Rattle.wsn_wire.specs.declared.length_forms.Lengths.{Lengths, TheVariants.{Shortest, Any}}
 use Rattle.wsn_rules.specs.declared.detail.Detail.{Detail, TheVariants.{Events, Frames}}
-use Rattle.wsn_print.specs.declared.format.Format.{Format, TheVariants.{Text, Json}}
+use Rattle.wsn_print.specs.declared.format.Format.{Format, TheVariants.{Text, People, Json}}
 
 abbrev pub role_number : Role → ℕ
 role_number Client = 0
@@ -12,6 +12,7 @@ role_number Server = 1
 abbrev pub format_number : Format → ℕ
 format_number Text = 0
 format_number Json = 1
+format_number People = 2
 
 abbrev pub lengths_number : Lengths → ℕ
 lengths_number Shortest = 0

@@ -7,7 +7,7 @@ use crate::running::{give, give_usage};
 use crate::text::Text;
 use std::alloc::Global;
 use wsn_io::{Input, Output};
-use wsn_job::{Comparison, run_same};
+use wsn_job::{ComparedStreams, Comparison, run_same};
 use wsn_print::ViewLimit;
 
 /// Compares what two streams mean, as `wsn same` does. Both were sent by endpoints of the role that the options name. It
@@ -83,14 +83,11 @@ fn compare(
     };
     let mut printed = Output::new(Text::new(alloc));
     let mut said = Output::new(Text::new(alloc));
-    let ran = run_same(
-        alloc,
-        &mut Input::lent(first),
-        &mut Input::lent(second),
-        comparison,
-        &mut printed,
-        &mut said,
-    );
+    let mut streams = ComparedStreams {
+        first: Input::lent(first),
+        second: Input::lent(second),
+    };
+    let ran = run_same(alloc, &mut streams, comparison, &mut printed, &mut said);
     give(
         ran.status,
         printed.into_writer().as_slice(),

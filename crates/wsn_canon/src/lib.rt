@@ -23,8 +23,10 @@ pub use wsn_capture::{
     Capture, CaptureStop, LineFault, Outcome, Report, Side, SideReader, judge_capture, put_report,
 };
 pub use wsn_events::{
-    Compared, Event, Next, Small, Source, control_of, is_lawful, normalise, put_event, same,
+    Compared, ComparedStreams, Event, Next, Small, Source, control_of, is_lawful, normalise,
+    put_event, same,
 };
+pub use wsn_io::{Input, Output};
 pub use wsn_list::{Format, list, list_as, put_verdict};
 pub use wsn_plan::{
     LineWhy, Plan, PlanAnswer, PlanFault, PlanFileFault, RecutAnswer, Step, Why, plan_of,
@@ -34,4 +36,4 @@ pub use wsn_scan::{
     FrameReader, HeadInfo, INPUT_MAX, Limits, MESSAGE_MAX, Part, Refusal, Scan, Stop, Summary,
     Taken, Verdict, judge,
 };
-pub use wsn_wire::{Form, Input, Kind, Lengths, Op, Output, Reason, Role};
+pub use wsn_wire::{Form, Kind, Lengths, Op, Reason, Role};

@@ -8,7 +8,7 @@ use Rattle.wsn_rules.specs.Limits.{Limits}
 use Rattle.wsn_rules.specs.declared.verdict.Refusal.{Refusal}
 use Rattle.wsn_rules.specs.declared.verdict.Verdict.{Verdict}
 use Rattle.wsn_rules.specs.declared.verdict.Verdict.TheVariants.{Accepted, Cut, Refused}
-use Rattle.wsn_rules.specs.Verdict.{IsVerdict}
+use Rattle.wsn_rules.specs.Verdict.{IsVerdict, IsUnrefused}
 use Rattle.wsn_rules.specs.Entries.{Entry, without_cr}
 use Rattle.wsn_rules.specs.Entries.Entry.{Nothing, Bytes, Mark}
 use Rattle.wsn_rules.specs.Sides.{bytes_in, sent}
@@ -19,7 +19,7 @@ use Rattle.wsn_capture.specs.declared.lines_before.LinesBefore.{LinesBefore}
 use Rattle.wsn_capture.specs.declared.capture_lines.CaptureLines.{CaptureLines}
 use Rattle.wsn_capture.specs.declared.capture_lines.SentBytes.{SentBytes}
 use Rattle.wsn_capture.specs.LineFaults.{IsFaultAfter, IsAcceptedLine, line_most}
-use Rattle.wsn_capture.specs.RefusedLines.{IsKeptOf, IsUnrefused, IsRefusedLine}
+use Rattle.wsn_capture.specs.RefusedLines.{IsKeptOf, IsRefusedLine}
 use Rattle.wsn_capture.specs.SideTexts.{entry_after, text_entry, with_entry, lines_giving}
 use Rattle.wsn_capture.specs.declared.line_form.LineEntry.{LineEntry}
 use Rattle.wsn_capture.specs.declared.line_form.LineEntry.TheVariants as entries
@@ -158,7 +158,7 @@ module _ (role : Role) (limits : Limits) (given : List Entry) (bytes line : List
   module _ (short : length (without_cr line) ≤ line_most) (gives : text_entry (without_cr line) ≡ Ok (Bytes role bytes)) (input : old.input ≡ limits.input)
       (room : old.room + length (sent role (given ++ Bytes role bytes ∷ [])) ≡ limits.input) where
     by_known : (known : Option RefusedLine) → old.refused ≡ known → IsRefusedLine role limits given known → (fs : List Frame) (refusal : Refusal) → IsVerdict role limits (sent role (given ++ Bytes role bytes ∷ [])) fs (Refused refusal)
-        → IsNotedLine old line refusal.place new → IsRefusedLine role limits (given ++ Bytes role bytes ∷ []) new
+        → IsNotedLine old line refusal.offset new → IsRefusedLine role limits (given ++ Bytes role bytes ∷ []) new
     by_known (Some known) same kept fs refusal is noted =
         let stays : new ≡ Some known = noted.0 (subst IsSome (sym same) refl) ∙ same in
         subst (IsRefusedLine role limits (given ++ Bytes role bytes ∷ [])) (sym stays) (refused_stays role limits given (Bytes role bytes) known kept)
@@ -166,7 +166,7 @@ module _ (role : Role) (limits : Limits) (given : List Entry) (bytes line : List
         let size = ap (λ (bs : List ℕ). length bs) (sent-push role given (Bytes role bytes) ∙ ap (λ (bs : List ℕ). sent role given ++ bs) (own_bytes role bytes)) ∙ length-append (sent role given) bytes in
         let start : old.input - old.room - length bytes ≡ length (sent role given) = omega (arith, size, input, room) in
         refused_new role limits given bytes fs refusal none is new
-        (subst (λ (n : ℕ). IsKeptOf n bytes refusal.place new) start (noted.1 same role bytes short gives (omega (arith, size, input, room))))
+        (subst (λ (n : ℕ). IsKeptOf n bytes refusal.offset new) start (noted.1 same role bytes short gives (omega (arith, size, input, room))))
 
     pub refused_noted : (fs : List Frame) (verdict : Verdict) → IsVerdict role limits (sent role (given ++ Bytes role bytes ∷ [])) fs verdict → IsNotedRefusal old line verdict new → IsRefusedLine role limits (given ++ Bytes role bytes ∷ []) new
     refused_noted fs (Refused refusal) is noted = by_known old.refused refl was fs refusal is noted
@@ -232,7 +232,7 @@ module _ (limits : Limits) (old : CaptureLines) (lines : List (List ℕ)) (given
 -- ---- what is kept of a line, by the verdict
 
 pub noted_from : (old mid : SentBytes) (line : List ℕ) (verdict : Verdict) (refusal : Refusal) (new : Option RefusedLine) → verdict ≡ Refused refusal → mid.input ≡ old.input → mid.room ≡ old.room → mid.refused ≡ old.refused
-    → IsNotedLine mid line refusal.place new → IsNotedRefusal old line verdict new
+    → IsNotedLine mid line refusal.offset new → IsNotedRefusal old line verdict new
 noted_from old mid line verdict refusal new is input room refused noted = grind arith
 
 pub none_noted : (old : SentBytes) (line : List ℕ) (verdict : Verdict) (new : Option RefusedLine) → new ≡ old.refused → ((refusal : Refusal) → verdict ≡ Refused refusal → ⊥) → IsNotedRefusal old line verdict new

@@ -11,7 +11,7 @@ use Rattle.wsn_rules.specs.declared.verdict.Refusal.{Refusal}
 use Rattle.wsn_rules.specs.declared.verdict.Verdict.{Verdict}
 use Rattle.wsn_rules.specs.declared.verdict.Verdict.TheVariants.{Accepted, Cut, Refused}
 use Rattle.wsn_rules.specs.Limits.{Limits, InRange}
-use Rattle.wsn_rules.specs.Verdict.{IsVerdict}
+use Rattle.wsn_rules.specs.Verdict.{IsVerdict, IsUnrefused}
 use Rattle.wsn_rules.specs.Entries.{Entry, AreEntries}
 use Rattle.wsn_rules.specs.Entries.Entry.{Bytes}
 use Rattle.wsn_rules.specs.Sides.{bytes_in, sent}
@@ -21,7 +21,7 @@ use Rattle.wsn_rules.proofs.Prefixes.{two_fronts, head_same}
 use Rattle.wsn_rules.proofs.StaysRefused.{place_within, refused_alike, stays_refused}
 use Rattle.wsn_capture.specs.declared.refused_line.RefusedLine.{RefusedLine}
 use Rattle.wsn_capture.specs.declared.refused_line.RefusedLines.{RefusedLines}
-use Rattle.wsn_capture.specs.RefusedLines.{IsKept, IsKeptOf, HasRefusedLine, IsUnrefused, IsRefusedLine, AreRefusedLines}
+use Rattle.wsn_capture.specs.RefusedLines.{IsKept, IsKeptOf, HasRefusedLine, IsRefusedLine, AreRefusedLines}
 use Rattle.wsn_capture.proofs.ClosingLines.{sent-push}
 use Rattle.wsn_capture.proofs.EveryReport.{sent_bytes}
 
@@ -74,19 +74,19 @@ first_kept bytes copied count is same =
           ∙ sym (take-append-le 256 bytes zeros many)
     ]
 
-some_kept : (start : ℕ) (bytes : List ℕ) (place : ℕ) → start ≤ place → place < start + length bytes → (line : RefusedLine) × IsKept start bytes place line
-some_kept start bytes place from within =
-    let byte = byte_there (place - start) bytes (omega (arith, from, within)) in (
+some_kept : (start : ℕ) (bytes : List ℕ) (offset : ℕ) → start ≤ offset → offset < start + length bytes → (line : RefusedLine) × IsKept start bytes offset line
+some_kept start bytes offset from within =
+    let byte = byte_there (offset - start) bytes (omega (arith, from, within)) in (
       record { start = start; byte = byte.0; count = length (take 256 bytes); first = take 256 (bytes ++ replicate 256 0) },
       record { starts = refl; after_start = from; offending = (byte.1, byte.2); counted = refl; firsts = refl },
     )
 
-one_kept : (start : ℕ) (bytes : List ℕ) (place : ℕ) (line other : RefusedLine) → IsKept start bytes place line → IsKept start bytes place other → line ≡ other
-one_kept start bytes place line other is also = grind (arith, head_same)
+one_kept : (start : ℕ) (bytes : List ℕ) (offset : ℕ) (line other : RefusedLine) → IsKept start bytes offset line → IsKept start bytes offset other → line ≡ other
+one_kept start bytes offset line other is also = grind (arith, head_same)
 
-kept_within : (start : ℕ) (bytes : List ℕ) (place : ℕ) (line : RefusedLine) → IsKept start bytes place line → place < start + length bytes
-kept_within start bytes place line is =
-    omega (arith, ap (λ (bs : List ℕ). length bs) is.offending.1, length-drop (place - start) bytes, is.after_start)
+kept_within : (start : ℕ) (bytes : List ℕ) (offset : ℕ) (line : RefusedLine) → IsKept start bytes offset line → offset < start + length bytes
+kept_within start bytes offset line is =
+    omega (arith, ap (λ (bs : List ℕ). length bs) is.offending.1, length-drop (offset - start) bytes, is.after_start)
 
 -- ---- the entry with a byte of a stream
 
@@ -98,19 +98,19 @@ pub own_bytes : (role : Role) (bytes : List ℕ) → bytes_in role (Bytes role b
 own_bytes role bytes = grind arith
 
 -- The entries have this one, with the byte at the offset.
-record HasEntry (role : Role) (entries : List Entry) (place : ℕ) : Type 0 where
+record HasEntry (role : Role) (entries : List Entry) (offset : ℕ) : Type 0 where
   pub before : List Entry
   pub bytes : List ℕ
   pub after : List Entry
   pub whole : entries ≡ before ++ Bytes role bytes ∷ after
-  pub from : length (sent role before) ≤ place
-  pub within : place < length (sent role before) + length bytes
+  pub from : length (sent role before) ≤ offset
+  pub within : offset < length (sent role before) + length bytes
 
-entry_there : (role : Role) (entries : List Entry) (place : ℕ) → place < length (sent role entries) → HasEntry role entries place
-entry_there role [] place less = absurd (omega (arith, less))
-entry_there role (entry ∷ entries) place less =
+entry_there : (role : Role) (entries : List Entry) (offset : ℕ) → offset < length (sent role entries) → HasEntry role entries offset
+entry_there role [] offset less = absurd (omega (arith, less))
+entry_there role (entry ∷ entries) offset less =
     let size : length (sent role (entry ∷ entries)) ≡ length (bytes_in role entry) + length (sent role entries) = length-append (bytes_in role entry) (sent role entries) in
-    elim (cases_lt place (length (bytes_in role entry))) [
+    elim (cases_lt offset (length (bytes_in role entry))) [
       | inl here ↦ record {
         before = [];
         bytes = bytes_in role entry;
@@ -120,7 +120,7 @@ entry_there role (entry ∷ entries) place less =
         within = omega (arith, here);
       }
       | inr later ↦
-          let rest = entry_there role entries (place - length (bytes_in role entry)) (omega (arith, less, size, later)) in
+          let rest = entry_there role entries (offset - length (bytes_in role entry)) (omega (arith, less, size, later)) in
           let front : length (sent role (entry ∷ rest.before)) ≡ length (bytes_in role entry) + length (sent role rest.before) = length-append (bytes_in role entry) (sent role rest.before) in
           record {
             before = entry ∷ rest.before;
@@ -135,13 +135,14 @@ entry_there role (entry ∷ entries) place less =
 -- ---- some line
 
 pub unrefused_by : (role : Role) (limits : Limits) (stream : List ℕ) (fs : List Frame) (verdict : Verdict) → IsVerdict role limits stream fs verdict → ((refusal : Refusal) → verdict ≡ Refused refusal → ⊥) → IsUnrefused role limits stream
-unrefused_by role limits stream fs verdict is none = λ gs refusal also. none refusal (one_verdict role limits stream fs gs verdict (Refused refusal) is also).1
+unrefused_by role limits stream fs verdict is none =
+    λ gs offset reason also. none (record { offset = offset; reason = reason }) (one_verdict role limits stream fs gs verdict (Refused (record { offset = offset; reason = reason })) is also).1
 
 pub some_line : (role : Role) (limits : Limits) (given : List Entry) (fs : List Frame) (verdict : Verdict) → IsVerdict role limits (sent role given) fs verdict → (line : Option RefusedLine) × IsRefusedLine role limits given line
 some_line role limits given fs (Refused refusal) is =
-    let within = place_within role limits fs (sent role given) refusal.place refusal.reason is.is_evident in
-    let there = entry_there role given refusal.place (omega (arith, within)) in
-    let kept = some_kept (length (sent role there.before)) there.bytes refusal.place there.from there.within in (
+    let within = place_within role limits fs (sent role given) refusal.offset refusal.reason is.is_evident in
+    let there = entry_there role given refusal.offset (omega (arith, within)) in
+    let kept = some_kept (length (sent role there.before)) there.bytes refusal.offset there.from there.within in (
       Some kept.0,
       record { frames = fs; refusal = refusal; refused = is; before = there.before; bytes = there.bytes; after = there.after; whole = there.whole; kept = kept.1 },
     )
@@ -151,36 +152,36 @@ some_line role limits given fs (Cut summary) is = (None, unrefused_by role limit
 -- ---- one line
 
 -- the second of two lines with the byte isn't after the first
-goes_on : (role : Role) (before others after following : List Entry) (bytes more : List ℕ) (place : ℕ) (line other : RefusedLine) → IsKept (length (sent role before)) bytes place line → IsKept (length (sent role others)) more place other
+goes_on : (role : Role) (before others after following : List Entry) (bytes more : List ℕ) (offset : ℕ) (line other : RefusedLine) → IsKept (length (sent role before)) bytes offset line → IsKept (length (sent role others)) more offset other
     → (between : List Entry) → others ≡ before ++ between → Bytes role bytes ∷ after ≡ between ++ Bytes role more ∷ following → line ≡ other
-goes_on role before others after following bytes more place line other is also [] fronts rest =
+goes_on role before others after following bytes more offset line other is also [] fronts rest =
     let same : others ≡ before = fronts ∙ append-nil before in
     let entries : Bytes role bytes ≡ Bytes role more = head_same _ _ _ _ rest in
     let equal : more ≡ bytes = sym (own_bytes role more) ∙ ap (bytes_in role) (sym entries) ∙ own_bytes role bytes in
-    one_kept (length (sent role before)) bytes place line other is
-    (subst (λ (bs : List ℕ). IsKept (length (sent role before)) bs place other) equal (subst (λ (es : List Entry). IsKept (length (sent role es)) more place other) same also))
-goes_on role before others after following bytes more place line other is also (entry ∷ between) fronts rest =
+    one_kept (length (sent role before)) bytes offset line other is
+    (subst (λ (bs : List ℕ). IsKept (length (sent role before)) bs offset other) equal (subst (λ (es : List Entry). IsKept (length (sent role es)) more offset other) same also))
+goes_on role before others after following bytes more offset line other is also (entry ∷ between) fronts rest =
     let entries : Bytes role bytes ≡ entry = head_same _ _ _ _ rest in
     let all : sent role others ≡ sent role before ++ (bytes_in role entry ++ sent role between) = ap (sent role) fronts ∙ flat_map-append (bytes_in role) before (entry ∷ between) in
     let size = ap (λ (bs : List ℕ). length bs) all ∙ length-append (sent role before) (bytes_in role entry ++ sent role between) in
     let own_size = ap (λ (bs : List ℕ). length bs) (ap (bytes_in role) (sym entries) ∙ own_bytes role bytes) in
-    let within = kept_within (length (sent role before)) bytes place line is in
+    let within = kept_within (length (sent role before)) bytes offset line is in
     absurd (omega (arith, size, length-append (bytes_in role entry) (sent role between), own_size, within, also.after_start))
 
 one_refused : (role : Role) (limits : Limits) (given : List Entry) (line other : RefusedLine) → HasRefusedLine role limits given line → HasRefusedLine role limits given other → line ≡ other
 one_refused role limits given line other is also =
     let verdicts : Refused is.refusal ≡ Refused also.refusal = (one_verdict role limits (sent role given) is.frames also.frames (Refused is.refusal) (Refused also.refusal) is.refused also.refused).1 in
     let refusals : is.refusal ≡ also.refusal = cc verdicts in
-    let kept : IsKept (length (sent role also.before)) also.bytes is.refusal.place other = subst (λ (r : Refusal). IsKept (length (sent role also.before)) also.bytes r.place other) (sym refusals) also.kept in
+    let kept : IsKept (length (sent role also.before)) also.bytes is.refusal.offset other = subst (λ (r : Refusal). IsKept (length (sent role also.before)) also.bytes r.offset other) (sym refusals) also.kept in
     elim (two_fronts is.before also.before (Bytes role is.bytes ∷ is.after) (Bytes role also.bytes ∷ also.after) (sym is.whole ∙ also.whole)) [
-      | inl on ↦ goes_on role is.before also.before is.after also.after is.bytes also.bytes is.refusal.place line other is.kept kept on.0 on.1 on.2
-      | inr on ↦ sym (goes_on role also.before is.before also.after is.after also.bytes is.bytes is.refusal.place other line kept is.kept on.0 on.1 on.2)
+      | inl on ↦ goes_on role is.before also.before is.after also.after is.bytes also.bytes is.refusal.offset line other is.kept kept on.0 on.1 on.2
+      | inr on ↦ sym (goes_on role also.before is.before also.after is.after also.bytes is.bytes is.refusal.offset other line kept is.kept on.0 on.1 on.2)
     ]
 
 pub one_line : (role : Role) (limits : Limits) (given : List Entry) (line other : Option RefusedLine) → IsRefusedLine role limits given line → IsRefusedLine role limits given other → line ≡ other
 one_line role limits given (Some line) (Some other) is also = ap (λ (l : RefusedLine). Some l) (one_refused role limits given line other is also)
-one_line role limits given (Some line) None is also = absurd (also is.frames is.refusal is.refused)
-one_line role limits given None (Some other) is also = absurd (is also.frames also.refusal also.refused)
+one_line role limits given (Some line) None is also = absurd (also is.frames is.refusal.offset is.refusal.reason is.refused)
+one_line role limits given None (Some other) is also = absurd (is also.frames also.refusal.offset also.refusal.reason also.refused)
 one_line role limits given None None is also = refl
 
 -- ---- both endpoints
@@ -207,7 +208,7 @@ refused_stays role limits given entry line is = record {
   frames = is.frames;
   refusal = is.refusal;
   refused = subst (λ (bs : List ℕ). IsVerdict role limits bs is.frames (Refused is.refusal)) (sym (sent-push role given entry))
-      (stays_refused role limits is.frames (sent role given) (bytes_in role entry) is.refusal.place is.refusal.reason is.refused);
+      (stays_refused role limits is.frames (sent role given) (bytes_in role entry) is.refusal.offset is.refusal.reason is.refused);
   before = is.before;
   bytes = is.bytes;
   after = is.after ++ entry ∷ [];
@@ -230,22 +231,22 @@ module _ (role : Role) (limits : Limits) (given : List Entry) (bytes : List ℕ)
   refused_longer : IsVerdict role limits (sent role given ++ bytes) fs (Refused refusal)
   refused_longer = subst (λ (bs : List ℕ). IsVerdict role limits bs fs (Refused refusal)) joined is
 
-  place_less : refusal.place < length (sent role given) + length bytes
+  place_less : refusal.offset < length (sent role given) + length bytes
   place_less =
-      let within = place_within role limits fs (sent role given ++ bytes) refusal.place refusal.reason refused_longer.is_evident in
+      let within = place_within role limits fs (sent role given ++ bytes) refusal.offset refusal.reason refused_longer.is_evident in
       omega (arith, within, length-append (sent role given) bytes)
 
-  place_least : length (sent role given) ≤ refusal.place
+  place_least : length (sent role given) ≤ refusal.offset
   place_least =
-      elim (cases_lt refusal.place (length (sent role given))) [
-        | inl earlier ↦ absurd (unrefused fs refusal (refused_alike role limits fs (sent role given ++ bytes) (sent role given) refusal.place refusal.reason
-            (sym (take-append-le (refusal.place + 1) (sent role given) bytes (omega (arith, earlier)))) refused_longer))
+      elim (cases_lt refusal.offset (length (sent role given))) [
+        | inl earlier ↦ absurd (unrefused fs refusal.offset refusal.reason (refused_alike role limits fs (sent role given ++ bytes) (sent role given) refusal.offset refusal.reason
+            (sym (take-append-le (refusal.offset + 1) (sent role given) bytes (omega (arith, earlier)))) refused_longer))
         | inr later ↦ later
       ]
 
-  pub refused_new : (line : Option RefusedLine) → IsKeptOf (length (sent role given)) bytes refusal.place line → IsRefusedLine role limits (given ++ Bytes role bytes ∷ []) line
+  pub refused_new : (line : Option RefusedLine) → IsKeptOf (length (sent role given)) bytes refusal.offset line → IsRefusedLine role limits (given ++ Bytes role bytes ∷ []) line
   refused_new line kept = grind (arith, place_least, place_less)
 
 -- no byte is offending
 pub none_offending : (role : Role) (limits : Limits) → IsUnrefused role limits []
-none_offending role limits fs refusal is = let within = place_within role limits fs [] refusal.place refusal.reason is.is_evident in absurd (omega (arith, within))
+none_offending role limits fs offset reason is = let within = place_within role limits fs [] offset reason is.is_evident in absurd (omega (arith, within))

@@ -71,13 +71,13 @@ IsVerdictOnSide role limits given verdict = (fs : List Frame) × IsVerdict role 
 -- What is kept once a refusal at this offset is known after this line: what was kept before it, or else what is kept of
 -- the line.
 abbrev pub IsNotedLine : SentBytes → List ℕ → ℕ → Option RefusedLine → Type 0
-IsNotedLine old line place new =
+IsNotedLine old line offset new =
     (IsSome old.refused → new ≡ old.refused)
     × (old.refused ≡ None → (role : Role) (bytes : List ℕ) → length (without_cr line) ≤ line_most
     → text_entry (without_cr line) ≡ Ok (Bytes role bytes) → length bytes + old.room ≤ old.input
-    → IsKeptOf (old.input - old.room - length bytes) bytes place new)
+    → IsKeptOf (old.input - old.room - length bytes) bytes offset new)
 
 -- The same, by the verdict: without a refusal nothing new is kept.
 abbrev pub IsNotedRefusal : SentBytes → List ℕ → Verdict → Option RefusedLine → Type 0
-IsNotedRefusal old line (Refused refusal) new = IsNotedLine old line refusal.place new
+IsNotedRefusal old line (Refused refusal) new = IsNotedLine old line refusal.offset new
 IsNotedRefusal old line verdict new = new ≡ old.refused

@@ -25,7 +25,7 @@ held_entry lines.Nothing held = entries.Nothing
 held_entry (lines.Bytes role count) held = entries.Bytes role (take count held)
 held_entry (lines.Mark role) held = entries.Mark role
 
--- A line may give so many bytes.
+-- A line may give this many bytes.
 abbrev pub FitsInLine : LineEntry → Type 0
 FitsInLine (lines.Bytes role count) = count ≤ 4096
 FitsInLine entry = ⊤

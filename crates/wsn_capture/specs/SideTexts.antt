@@ -85,7 +85,7 @@ lines_giving given = record {
   server_ended = has_ended Server given;
 }
 
--- What stands for a faulty line in a list of bytes. It is no byte, since it is at least 256, and it differs for each
+-- What represents a faulty line in a list of bytes. It is no byte, since it is at least 256, and it differs for each
 -- line number and fault.
 abbrev pub sentinel : ℕ → LineFault → ℕ
 sentinel number fault = 256 + 8 * number + fault_order fault

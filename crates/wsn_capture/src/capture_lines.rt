@@ -217,7 +217,7 @@ impl SentBytes {
     {
         self.note_close(number, has_close(verdict));
         match verdict {
-            Verdict::Refused(refusal) => self.note_refusal(line, refusal.place),
+            Verdict::Refused(refusal) => self.note_refusal(line, refusal.offset),
             Verdict::Accepted(_) => {}
             Verdict::Cut(_) => {}
         }
@@ -236,12 +236,12 @@ impl SentBytes {
 
     /// Keeps the line with the offending byte, whose offset is given, unless one is kept.
     #[tactic(none)]
-    fn note_refusal(&mut self, line: &[u8], place: u64)
+    fn note_refusal(&mut self, line: &[u8], offset: u64)
         ensures same { self.new ≡ record self.old { refused = self.new.refused } }
-        ensures noted { IsNotedLine self.old line.now place self.new.refused }
+        ensures noted { IsNotedLine self.old line.now offset self.new.refused }
     {
         if self.refused.is_none() {
-            self.refused = kept_line(line, self.input.saturating_sub(self.room), place);
+            self.refused = kept_line(line, self.input.saturating_sub(self.room), offset);
         }
     }
 }

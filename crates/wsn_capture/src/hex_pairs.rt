@@ -35,7 +35,7 @@ fn decode_each(digits: &[u8], bytes: &mut [u8]) -> bool
     valid
 }
 
-/// What stands in `DIGIT_VALUES` for a byte that isn't a digit.
+/// The entry of `DIGIT_VALUES` for a byte that isn't a digit.
 const NO: u8 = 0xf0;
 
 /// The value of each byte as a digit, or `NO`.

@@ -7,9 +7,9 @@ use crate::capture_report::CaptureReport;
 use crate::capture_stop::CaptureStop;
 use crate::line_splitter::LineSplitter;
 use std::io::Read;
+use wsn_io::Input;
 use wsn_rules::{Limits, Report};
 use wsn_scan::CHUNK;
-use wsn_wire::Input;
 
 /// Reads a capture's text to its end and returns the report of its lines, as [`read_capture`] does, and that alone.
 #[tactic(none)]

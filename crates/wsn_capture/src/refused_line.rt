@@ -44,17 +44,17 @@ impl RefusedLine {
         &self.first[..self.count.min(KEPT)]
     }
 
-    /// What is kept of a line with these bytes, the first of which has the offset `start`. `None` if the byte at `place`
+    /// What is kept of a line with these bytes, the first of which has the offset `start`. `None` if the byte at `offset`
     /// isn't one of them.
-    fn of(start: u64, bytes: &[u8], place: u64) -> Option<RefusedLine>
-        ensures { IsKeptOf start bytes.now place result }
+    fn of(start: u64, bytes: &[u8], offset: u64) -> Option<RefusedLine>
+        ensures { IsKeptOf start bytes.now offset result }
     {
-        if place < start || place - start >= bytes.len() as u64 {
+        if offset < start || offset - start >= bytes.len() as u64 {
             return None;
         }
         Some(RefusedLine {
             start,
-            byte: bytes[(place - start) as usize],
+            byte: bytes[(offset - start) as usize],
             count: bytes.len().min(KEPT),
             first: first_of(bytes),
         })
@@ -72,12 +72,12 @@ fn first_of(bytes: &[u8]) -> [u8; KEPT]
 }
 
 /// What is kept of a line with bytes, the last of which ends the first `end` bytes of its stream. `None` if the byte at
-/// `place` isn't one of them.
+/// `offset` isn't one of them.
 #[inline(never)]
-pub(crate) fn kept_line(line: &[u8], end: u64, place: u64) -> Option<RefusedLine>
+pub(crate) fn kept_line(line: &[u8], end: u64, offset: u64) -> Option<RefusedLine>
     ensures { (role : Role) (bytes : List ℕ) → length (without_cr line.now) ≤ line_most →
         text_entry (without_cr line.now) ≡ Ok (Bytes role bytes) → length bytes ≤ end →
-        IsKeptOf (end - length bytes) bytes place result }
+        IsKeptOf (end - length bytes) bytes offset result }
 {
     let text = strip_cr(line);
     if text.len() > LINE_MAX {
@@ -86,7 +86,7 @@ pub(crate) fn kept_line(line: &[u8], end: u64, place: u64) -> Option<RefusedLine
     let mut bytes = [0; BYTES_MAX];
     match entry_of(text, &mut bytes) {
         Ok(LineEntry::Bytes(_, count)) => {
-            RefusedLine::of(end.saturating_sub(count as u64), &bytes[..count], place)
+            RefusedLine::of(end.saturating_sub(count as u64), &bytes[..count], offset)
         }
         _ => None,
     }

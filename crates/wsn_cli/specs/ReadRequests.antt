@@ -104,10 +104,10 @@ abbrev pub IsRead : List ℕ → Found → Request → Type 0
 IsRead name found (Run job file side) =
     IsReadJob name found job × IsInputNamed (first_value found (codes "file")) file
     × IsReadSideOf found (job_role job) side
-IsRead name found (RecutBy role limits plan file side) =
-    (name ≡ codes "recut") × IsReadRole found role × AreReadLimits found limits
-    × IsInputNamed (first_value found (codes "plan")) plan × IsInputNamed (first_value found (codes "file")) file
-    × IsReadSide found role side
+IsRead name found (RecutBy asked) =
+    (name ≡ codes "recut") × IsReadRole found asked.role × AreReadLimits found asked.limits
+    × IsInputNamed (first_value found (codes "plan")) asked.plan
+    × IsInputNamed (first_value found (codes "file")) asked.file × IsReadSide found asked.role asked.side
 IsRead name found (Same comparison first second side) =
     (name ≡ codes "same") × IsReadComparison found comparison
     × IsInputNamed (first_value found (codes "first")) first

@@ -76,8 +76,8 @@ IsOwnSide job side = IfSome side (λ role. job_role job ≡ Some role)
 -- endpoint whose stream it is, and at most one input is standard input. Help reads no stream.
 abbrev pub CanBeDone : Request → Type 0
 CanBeDone (Run job file side) = MayRun job × AreAskedLimits (job_limits job) × IsOwnSide job side
-CanBeDone (RecutBy role limits plan file side) =
-    AreAskedLimits limits × AreApart plan file × IfSome side (λ own. own ≡ role)
+CanBeDone (RecutBy asked) =
+    AreAskedLimits asked.limits × AreApart asked.plan asked.file × IfSome asked.side (λ own. own ≡ asked.role)
 CanBeDone (Same comparison first second side) =
     AreAskedLimits comparison.limits × AreApart first second × IfSome side (λ own. own ≡ comparison.role)
 CanBeDone (Closings limits format files) = AreAskedLimits limits × (dashes (map string_bytes files.items) ≤ 1)

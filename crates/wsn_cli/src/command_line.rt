@@ -1,7 +1,7 @@
 ghost use Rattle.std.specs.Prelude.{◌≡◌, ℕ, List, IfOk, codes};
 ghost use Rattle.clap.specs.Words.{found_of};
 ghost use Rattle.wsn_command.specs.Jobs.{MayRun, job_role};
-ghost use Rattle.wsn_cli.specs.Colors.{IsReadColor};
+ghost use Rattle.wsn_cli.specs.Colors.{IsReadColor, IsReadLayout};
 ghost use Rattle.wsn_cli.specs.Options.{AreInDigits};
 ghost use Rattle.wsn_cli.specs.Requests.{AreAskedLimits, CanBeDone, IsOwnSide, job_limits};
 ghost use Rattle.wsn_cli.specs.ReadRequests.{AreReadLimits, IsRead, IsReadJob, IsReadSideOf, IsReadStyle};
@@ -11,11 +11,11 @@ use crate::error_words::shown_in_errors;
 use crate::escaped::Escaped;
 use crate::mistake::Mistake;
 use crate::options::{
-    at_of, check_digits, color_of, comparison_of, file_of, format_of, limits_of, role_of, side_of,
-    style_of,
+    at_of, check_digits, color_of, comparison_of, entries_of, file_of, format_of, limits_of,
+    role_of, side_of, style_of,
 };
 use crate::recut_options::recut_of;
-use crate::request::{Asked, Request, Usage};
+use crate::request::{Asked, EntryLayout, Request, Usage};
 use clap::error::ErrorKind;
 use clap::{ArgMatches, Error};
 use std::alloc::{AllocError, Global};
@@ -244,20 +244,23 @@ fn request_of(alloc: Global, name: &str, matches: &ArgMatches<'_>) -> Result<Req
     }
 }
 
-/// What the command with this name asks for, and when its answer is coloured.
+/// What the command with this name asks for, when its answer is coloured, and how entries are laid out.
 fn asked_of(alloc: Global, name: &str, matches: &ArgMatches<'_>) -> Result<Asked, Usage>
     ensures done { IfOk result (λ asked. CanBeDone asked.request) }
     ensures read { IfOk result (λ asked. IsRead name.now (found_of matches.now) asked.request) }
     ensures color { IfOk result (λ asked. IsReadColor (found_of matches.now) asked.color) }
+    ensures entries { IfOk result (λ asked. IsReadLayout (found_of matches.now) asked.entries) }
 {
     Ok(Asked {
         request: request_of(alloc, name, matches)?,
         color: color_of(matches),
+        entries: entries_of(matches),
     })
 }
 
 /// Reads the words of a command line, the program's name first, and returns the request that they make: a command with
-/// its options, as the help lists them; and when its answer is coloured. Help and versions never are.
+/// its options, as the help lists them; when its answer is coloured, and how entries are laid out. Help and versions are
+/// never coloured.
 ///
 /// The error says which rule the words break, or that an allocation failed. A job in a request may be run, and each
 /// request has the greatest input limit.
@@ -270,6 +273,7 @@ pub fn asked(alloc: Global, words: &[String]) -> Result<Asked, Usage>
             return Ok(Asked {
                 request: answered(alloc, words, &error)?,
                 color: ColorChoice::Never,
+                entries: EntryLayout::Lines,
             });
         }
     };

@@ -3,14 +3,14 @@ ghost use Rattle.std.specs.Char.{is_ascii_digit};
 ghost use Rattle.std.specs.List.{list_all};
 ghost use Rattle.clap.specs.Words.{found_of, first_value, matched_of, one_text};
 ghost use Rattle.wsn_wire.specs.declared.length_forms.Lengths.TheVariants.{Any};
-ghost use Rattle.wsn_cli.specs.Colors.{IsReadColor};
+ghost use Rattle.wsn_cli.specs.Colors.{IsReadColor, IsReadLayout};
 ghost use Rattle.wsn_cli.specs.Inputs.{IsInputNamed};
 ghost use Rattle.wsn_cli.specs.Options.{AreInDigits, AreLeftOut, IsAsked, IsAskedMaximum, IsInDigits, words_of};
 ghost use Rattle.wsn_cli.specs.Requests.{AreAskedLimits};
 ghost use Rattle.wsn_cli.specs.ReadRequests.{AreReadLimits, IsReadComparison, IsReadFormat, IsReadRole, IsReadSide, IsReadStyle};
 
 use crate::mistake::Mistake;
-use crate::request::Usage;
+use crate::request::{EntryLayout, Usage};
 use clap::ArgMatches;
 use std::alloc::{AllocError, Global};
 use wsn_color::ColorChoice;
@@ -130,6 +130,17 @@ pub fn color_of(matches: &ArgMatches<'_>) -> ColorChoice
         Some("always") => ColorChoice::Always,
         Some("never") => ColorChoice::Never,
         _ => ColorChoice::Auto,
+    }
+}
+
+/// How entries are laid out, from `--layout`.
+pub fn entries_of(matches: &ArgMatches<'_>) -> EntryLayout
+    ensures { IsReadLayout (found_of matches.now) result }
+{
+    match matches.get_str("layout") {
+        Some("lines") => EntryLayout::Lines,
+        Some("people") => EntryLayout::People,
+        _ => EntryLayout::Auto,
     }
 }
 

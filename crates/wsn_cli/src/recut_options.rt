@@ -6,7 +6,7 @@ ghost use Rattle.wsn_cli.specs.ReadRequests.{IsRead, IsReadKey};
 
 use crate::mistake::Mistake;
 use crate::options::{file_of, limits_of, number_of, role_of, side_of};
-use crate::request::{Request, Usage};
+use crate::request::{PlannedRecut, Request, Usage};
 use clap::ArgMatches;
 use hex::FromHex;
 use std::alloc::Global;
@@ -52,13 +52,13 @@ fn recut_by_plan(alloc: Global, matches: &ArgMatches<'_>) -> Result<Request, Usa
     let plan = file_of(alloc, matches, "plan")?;
     let file = file_of(alloc, matches, "file")?;
     match limits_of(matches) {
-        Some(limits) if plan.is_some() || file.is_some() => Ok(Request::RecutBy {
+        Some(limits) if plan.is_some() || file.is_some() => Ok(Request::RecutBy(PlannedRecut {
             role,
             limits,
             plan,
             file,
             side: side_of(matches, role),
-        }),
+        })),
         Some(_) => Err(Usage::Own(Mistake::TwoStandardInputs)),
         None => Err(Usage::Own(Mistake::Other)),
     }

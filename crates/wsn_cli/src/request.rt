@@ -1,5 +1,7 @@
 ghost use Rattle.std.specs.Prelude.{◌≡◌};
-ghost use Rattle.wsn_cli.specs.Colors.{asked_layout, format_layout, job_layout, request_layout};
+ghost use Rattle.wsn_command.specs.Jobs.{MayRun, job_role};
+ghost use Rattle.wsn_cli.specs.Requests.{CanBeDone, job_limits};
+ghost use Rattle.wsn_cli.specs.Colors.{asked_layout, asked_on, format_for_people, format_layout, is_for_people, job_for_people, job_layout, request_for_people, request_layout, style_for_people};
 
 use crate::mistake::Mistake;
 use std::alloc::{AllocError, AllocFailed};
@@ -19,14 +21,8 @@ pub enum Request {
         file: Option<String>,
         side: Option<Role>,
     },
-    /// Recut the stream in the file by the plan in another. `role` sent the stream, and it is read under these limits.
-    RecutBy {
-        role: Role,
-        limits: Limits,
-        plan: Option<String>,
-        file: Option<String>,
-        side: Option<Role>,
-    },
+    /// Recut the stream in a file by the plan in another.
+    RecutBy(PlannedRecut),
     /// Compare the streams in two files.
     Same {
         comparison: Comparison,
@@ -44,14 +40,68 @@ pub enum Request {
     Help(String),
 }
 
-/// A request, and when its answer is coloured.
+/// A recut of the stream in a file by the plan in another.
+#[derive(Drop)]
+pub struct PlannedRecut {
+    /// The endpoint that sent the stream.
+    pub role: Role,
+    /// The limits for reading the stream.
+    pub limits: Limits,
+    /// The file with the plan.
+    pub plan: Option<String>,
+    /// The file with the stream.
+    pub file: Option<String>,
+    /// With a side the file is a capture.
+    pub side: Option<Role>,
+}
+
+/// How entries of `show` are laid out.
+#[derive(Clone, Copy, Debug, PartialEq, Eq)]
+pub enum EntryLayout {
+    /// For people on a terminal where they are coloured, and otherwise as lines.
+    Auto,
+    /// As lines of words.
+    Lines,
+    /// In columns, for people.
+    People,
+}
+
+/// A request, when its answer is coloured, and how its entries are laid out.
 #[derive(Drop)]
 pub struct Asked {
     pub request: Request,
     pub color: ColorChoice,
+    pub entries: EntryLayout,
 }
 
 impl Asked {
+    /// What is asked for where the answer is printed there: with entries for people, if they are for people there.
+    pub fn on(self, terminal: Terminal) -> Asked
+        ensures is { result ≡ asked_on self terminal }
+        ensures done { CanBeDone self.request → CanBeDone result.request }
+    {
+        if self.is_for_people(terminal) {
+            Asked {
+                request: request_for_people(self.request),
+                color: self.color,
+                entries: self.entries,
+            }
+        } else {
+            self
+        }
+    }
+
+    /// Whether entries are for people where they are printed there.
+    fn is_for_people(&self, terminal: Terminal) -> bool
+        ensures { result ≡ is_for_people self.now.entries self.now.color terminal }
+    {
+        match self.entries {
+            EntryLayout::Auto => terminal.is_terminal && self.color.paints(terminal),
+            EntryLayout::Lines => false,
+            EntryLayout::People => true,
+        }
+    }
+
     /// Which lines of the answer are coloured where it is printed there; `None` for an answer in one colour.
     pub fn layout(&self, terminal: Terminal) -> Option<Layout>
         ensures { result ≡ asked_layout self.now terminal }
@@ -81,25 +131,75 @@ impl Request {
     }
 }
 
+/// The request with entries for people; the same if it asks for no entries, or for JSON.
+fn request_for_people(request: Request) -> Request
+    ensures is { result ≡ request_for_people request }
+    ensures done { CanBeDone request → CanBeDone result }
+{
+    match request {
+        Request::Run { job, file, side } => Request::Run {
+            job: job_for_people(job),
+            file,
+            side,
+        },
+        other => other,
+    }
+}
+
+fn job_for_people(job: Job) -> Job
+    ensures is { result ≡ job_for_people job }
+    ensures may_run { MayRun job → MayRun result }
+    ensures limits { job_limits result ≡ job_limits job }
+    ensures role { job_role result ≡ job_role job }
+{
+    match job {
+        Job::ShowStream(role, limits, style) => {
+            Job::ShowStream(role, limits, style_for_people(style))
+        }
+        Job::Show(limits, style) => Job::Show(limits, style_for_people(style)),
+        other => other,
+    }
+}
+
+fn style_for_people(style: Style) -> Style
+    ensures { result ≡ style_for_people style }
+{
+    Style {
+        view: style.view,
+        detail: style.detail,
+        format: format_for_people(style.format),
+    }
+}
+
+fn format_for_people(format: Format) -> Format
+    ensures { result ≡ format_for_people format }
+{
+    match format {
+        Format::Text | Format::People => Format::People,
+        Format::Json => Format::Json,
+    }
+}
+
 /// Which lines of a job's answer may be coloured.
 fn layout_of_job(job: &Job) -> Option<Layout>
     ensures { result ≡ job_layout job.now }
 {
     match job {
-        Job::Judge(_, _, Format::Text)
-        | Job::Frames(_, _, Format::Text)
-        | Job::Closing(_, Format::Text) => Some(Layout::Answer),
-        Job::ShowStream(_, _, style) | Job::Show(_, style) => layout_of_style(style),
+        Job::Judge(_, _, format) | Job::Frames(_, _, format) | Job::Closing(_, format) => {
+            layout_of_format(*format)
+        }
+        Job::ShowStream(_, _, style) | Job::Show(_, style) => layout_of_format(style.format),
         _ => None,
     }
 }
 
-/// Which lines may be coloured of what is shown in this style.
-fn layout_of_style(style: &Style) -> Option<Layout>
-    ensures { result ≡ format_layout style.now.format }
+/// Which lines of an answer in this format may be coloured.
+fn layout_of_format(format: Format) -> Option<Layout>
+    ensures { result ≡ format_layout format }
 {
-    match style.format {
+    match format {
         Format::Text => Some(Layout::Answer),
+        Format::People => Some(Layout::People),
         Format::Json => None,
     }
 }

@@ -41,17 +41,11 @@ fn request_line(alloc: Global, request: &Request) -> Result<String, AllocError> 
             let line = job_line(alloc, job)?;
             with_input(alloc, &line, file, *side)
         }
-        Request::RecutBy {
-            role,
-            limits,
-            plan,
-            file,
-            side,
-        } => {
-            let stream = stream_line(alloc, "recut", *role, limits)?;
-            let plan = name_of(plan);
+        Request::RecutBy(asked) => {
+            let stream = stream_line(alloc, "recut", asked.role, &asked.limits)?;
+            let plan = name_of(&asked.plan);
             let line = format!(in alloc; "{stream}, by {plan}")?;
-            with_input(alloc, &line, file, *side)
+            with_input(alloc, &line, &asked.file, asked.side)
         }
         Request::Same {
             comparison,
@@ -216,6 +210,7 @@ fn left_out(without: &Without) -> &'static str {
 fn suffix_of(format: Format) -> &'static str {
     match format {
         Format::Text => "",
+        Format::People => ", for people",
         Format::Json => ", in JSON",
     }
 }

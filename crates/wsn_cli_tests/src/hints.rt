@@ -51,9 +51,9 @@ fn answer_with(report: Report, tails: Tails) -> Answer {
 }
 
 /// The refusal at this offset for this reason, if there is an offset.
-fn refused_at(place: Option<u64>, reason: Reason) -> Option<Refusal> {
+fn refused_at(offset: Option<u64>, reason: Reason) -> Option<Refusal> {
     Some(Refusal {
-        place: place?,
+        offset: offset?,
         reason,
     })
 }

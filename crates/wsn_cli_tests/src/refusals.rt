@@ -3,7 +3,7 @@
 use crate::answer_lines::{expect_answer, expect_answers};
 
 /// A missing or unknown word, and a role or number out of its range.
-static WRONG: [&str; 46] = [
+static WRONG: [&str; 49] = [
     "wsn",
     "wsn other",
     "wsn judge",
@@ -34,6 +34,9 @@ static WRONG: [&str; 46] = [
     "wsn show file other",
     "wsn show --view 4097",
     "wsn show --view -1",
+    "wsn show --layout columns",
+    "wsn show --layout people --json",
+    "wsn judge --role server --layout lines",
     "wsn same --role client a b --view 4097",
     "wsn normal --role client --view 5",
     "wsn plan --role server --size 2",

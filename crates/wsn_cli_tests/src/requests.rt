@@ -39,6 +39,8 @@ wsn show --role server => show server, events view 48
 wsn show --role client --view 7 file => show client, events view 7, from file
 wsn show --view 0 => show, events view 0
 wsn show --view=4096 file => show, events view 4096, from file
+wsn show --layout people --view 5 => show, events view 5
+wsn show --role client --layout=lines => show client, events view 48
 wsn show --limit 5 --view 3 --lengths any - => show within 5 1099511627776 - any, events view 3
 wsn same --role client a b => same client, a and b
 wsn same --role client --view 0 a b => same client, a and b, view 0

@@ -1,6 +1,6 @@
 -- A text in colours: what is written of a text that is given to a painter, whatever pieces it comes in.
-use Rattle.std.specs.Prelude.{◌≡◌, ℕ, ◌+◌, ◌==◌, nat_lt, ◌&&◌, Bool, true, false, not, Option, None, Some, List, [], ◌∷◌, ◌++◌, length, if◌then◌else◌}
-use Rattle.wsn_color.specs.Tones.{code_of, end_code, is_of_line, may_begin, opening_of, separator, tone_of}
+use Rattle.std.specs.Prelude.{◌≡◌, ℕ, ◌+◌, ◌==◌, nat_lt, ◌&&◌, ◌||◌, Bool, true, false, not, Option, None, Some, List, [], ◌∷◌, ◌++◌, length, if◌then◌else◌}
+use Rattle.wsn_color.specs.Tones.{code_of, counts_empty, end_code, is_of_line, may_begin, opening_of, separator, tone_of}
 use Rattle.wsn_color.specs.declared.layout.Layout.{Layout}
 use Rattle.wsn_color.specs.declared.line.Line.{Line}
 use Rattle.wsn_color.specs.declared.opening.Opening.TheVariants.{Other}
@@ -37,10 +37,15 @@ with_word line word = if decides line word
     }
     else line
 
--- The line after a byte that isn't held: another word comes after a separator. Of places from 4 on only that they are is known.
+-- The number of words before the next one. Of numbers from 5 on only that they are is known.
+abbrev pub next_place : Line → ℕ
+next_place line =
+    if (counts_empty line.layout || line.is_decided) && nat_lt line.place 5 then line.place + 1 else line.place
+
+-- The line after a byte that isn't held: another word comes after a separator.
 abbrev pub with_byte : Line → ℕ → Line
 with_byte line byte = if byte == separator line.layout
-    then record line { place = if nat_lt line.place 4 then line.place + 1 else line.place; is_decided = false }
+    then record line { place = next_place line; is_decided = false }
     else line
 
 -- The line without its tone.

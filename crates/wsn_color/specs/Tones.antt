@@ -1,7 +1,7 @@
 -- Which word of a line begins which tone, how far the tone goes, and how it looks.
 use Rattle.std.specs.Prelude.{ℕ, ◌==◌, nat_lt, ◌||◌, Bool, true, false, Option, None, Some, List, [], ◌∷◌, ◌++◌, codes, if◌then◌else◌}
 use Rattle.std.specs.Str.{bytes_eq}
-use Rattle.wsn_color.specs.declared.layout.Layout.{Layout, TheVariants.{Answer, Table, Explanation}}
+use Rattle.wsn_color.specs.declared.layout.Layout.{Layout, TheVariants.{Answer, People, Table, Explanation}}
 use Rattle.wsn_color.specs.declared.opening.Opening.{Opening}
 use Rattle.wsn_color.specs.declared.opening.Opening.TheVariants as openings
 use Rattle.wsn_color.specs.declared.tone.Tone.{Tone, TheVariants.{Client, Server, Alarm, Warning, Minor, Label}}
@@ -38,7 +38,7 @@ opening_of word =
     if begins_comment word then openings.Comment
     else if bytes_eq word (codes "C") || bytes_eq word (codes "client") || bytes_eq word (codes "client-sees") then openings.Client
     else if bytes_eq word (codes "S") || bytes_eq word (codes "server") || bytes_eq word (codes "server-sees") then openings.Server
-    else if bytes_eq word (codes "refused") then openings.Refusal
+    else if bytes_eq word (codes "refused") || bytes_eq word (codes "bad") then openings.Refusal
     else if bytes_eq word (codes "cut") then openings.Cut
     else if bytes_eq word (codes "outcome") then openings.Outcome
     else openings.Other
@@ -87,23 +87,33 @@ name_tone word =
 -- The tone that begins with a word, of which there are `place` before it in its line.
 abbrev pub tone_of : Layout → Opening → ℕ → List ℕ → Option Tone
 tone_of Answer opening place word = if place == 0 then opening_tone (opening_of word) else later_tone opening word
+tone_of People opening place word = if place == 0 then opening_tone (opening_of word) else later_tone opening word
 tone_of Table opening place word = outcome_tone word
 tone_of Explanation opening place word = name_tone word
 
 -- Whether a word with this many before it may begin a tone: of an answer the first four, up to KIND after SIDE, TIME and
--- OFFSET; of a table the second; of an explanation the first.
+-- OFFSET; in columns for people the first five, since an arrow follows SIDE; of a table the second; of an explanation the
+-- first.
 abbrev pub may_begin : Layout → ℕ → Bool
 may_begin Answer place = nat_lt place 4
+may_begin People place = nat_lt place 5
 may_begin Table place = place == 1
 may_begin Explanation place = place == 0
 
 -- The byte between words.
 abbrev pub separator : Layout → ℕ
 separator Answer = 32
+separator People = 32
 separator Table = 9
 separator Explanation = 58
+
+-- Whether an empty word counts: columns are filled with spaces.
+abbrev pub counts_empty : Layout → Bool
+counts_empty People = false
+counts_empty layout = true
 
 -- whether a tone goes on to the end of its line, and not of its word
 abbrev pub is_of_line : Layout → Bool
 is_of_line Answer = true
+is_of_line People = true
 is_of_line layout = false

@@ -1,6 +1,6 @@
-ghost use Rattle.std.specs.Prelude.{◌≡◌, ◌==◌, ◌<◌, false};
-ghost use Rattle.wsn_color.specs.PaintedText.{begun_tone, colored_by, decides, is_open, new_line, with_byte, with_word, without_tone};
-ghost use Rattle.wsn_color.specs.Tones.{is_of_line, may_begin, separator, tone_of};
+ghost use Rattle.std.specs.Prelude.{◌≡◌, ◌==◌, ◌<◌, false, if◌then◌else◌};
+ghost use Rattle.wsn_color.specs.PaintedText.{begun_tone, colored_by, decides, is_open, new_line, next_place, with_byte, with_word, without_tone};
+ghost use Rattle.wsn_color.specs.Tones.{counts_empty, is_of_line, later_tone, may_begin, opening_of, opening_tone, separator, tone_of};
 
 use crate::layout::Layout;
 use crate::opening::{Opening, name_tone, outcome_tone};
@@ -9,12 +9,15 @@ use crate::tone::Tone;
 /// The number of words of an answer's line with which a tone may begin: the last is KIND, after SIDE, TIME and OFFSET.
 const TONED_WORDS: u8 = 4;
 
+/// The same in columns for people, where an arrow follows SIDE: the greatest number of words that are counted.
+const TONED_IN_COLUMNS: u8 = 5;
+
 /// How far a line has come.
 #[derive(Clone, Copy)]
 pub(crate) struct Line {
     pub layout: Layout,
     pub opening: Opening,
-    /// The number of words before the one that is being read, at most `TONED_WORDS`.
+    /// The number of words before the one that is being read, at most `TONED_IN_COLUMNS`.
     pub place: u8,
     /// Whether the word's tone is known.
     pub is_decided: bool,
@@ -28,7 +31,7 @@ impl Layout {
         ensures { result ≡ separator self }
     {
         match self {
-            Layout::Answer => b' ',
+            Layout::Answer | Layout::People => b' ',
             Layout::Table => b'\t',
             Layout::Explanation => b':',
         }
@@ -38,7 +41,14 @@ impl Layout {
     pub(crate) fn is_of_line(self) -> bool
         ensures { result ≡ is_of_line self }
     {
-        matches!(self, Layout::Answer)
+        matches!(self, Layout::Answer | Layout::People)
+    }
+
+    /// Whether an empty word counts.
+    fn counts_empty(self) -> bool
+        ensures { result ≡ counts_empty self }
+    {
+        !matches!(self, Layout::People)
     }
 
     /// Whether a word with this many before it may begin a tone.
@@ -47,6 +57,7 @@ impl Layout {
     {
         match self {
             Layout::Answer => place < TONED_WORDS,
+            Layout::People => place < TONED_IN_COLUMNS,
             Layout::Table => place == 1,
             Layout::Explanation => place == 0,
         }
@@ -86,10 +97,19 @@ impl Line {
         ensures { result ≡ tone_of self.now.layout self.now.opening self.now.place word.now }
     {
         match self.layout {
-            Layout::Answer if self.place == 0 => Opening::of(word).tone(),
-            Layout::Answer => self.opening.later_tone(word),
+            Layout::Answer | Layout::People => self.tone_in_line(word),
             Layout::Table => outcome_tone(word),
             Layout::Explanation => name_tone(word),
+        }
+    }
+
+    fn tone_in_line(&self, word: &[u8]) -> Option<Tone>
+        ensures { result ≡ (if self.now.place == 0 then opening_tone (opening_of word.now)
+            else later_tone self.now.opening word.now) }
+    {
+        match self.place {
+            0 => Opening::of(word).tone(),
+            _ => self.opening.later_tone(word),
         }
     }
 
@@ -120,10 +140,20 @@ impl Line {
         ensures colored { self.new.is_toned ≡ self.old.is_toned }
     {
         if self.ends_word(byte) {
-            if self.place < TONED_WORDS {
-                self.place += 1;
-            }
+            self.place = self.next_place();
             self.is_decided = false;
+        }
+    }
+
+    /// The number of words before the next one.
+    fn next_place(&self) -> u8
+        ensures { result ≡ next_place self.now }
+    {
+        let counts = self.layout.counts_empty() || self.is_decided;
+        if counts && self.place < TONED_IN_COLUMNS {
+            self.place + 1
+        } else {
+            self.place
         }
     }
 

@@ -27,7 +27,7 @@ impl Opening {
             Opening::Client
         } else if is(word, b"S") || is(word, b"server") || is(word, b"server-sees") {
             Opening::Server
-        } else if is(word, b"refused") {
+        } else if is(word, b"refused") || is(word, b"bad") {
             Opening::Refusal
         } else if is(word, b"cut") {
             Opening::Cut

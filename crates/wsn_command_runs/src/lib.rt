@@ -8,9 +8,13 @@ use std::alloc::{Allocator, Global};
 use wsn_capture::SideReader;
 use wsn_doubles::readers::Chopped;
 use wsn_doubles::writers::Narrow;
-use wsn_job::{Comparison, Format, Job, Without, run, run_on_side, run_same, run_same_on_sides};
+use wsn_io::{Input, Output};
+use wsn_job::{
+    ComparedStreams, Comparison, Format, Job, Without, run, run_on_side, run_same,
+    run_same_on_sides,
+};
 use wsn_scan::Limits;
-use wsn_wire::{Input, Output, Role};
+use wsn_wire::Role;
 
 /// A finished run: its exit status, and what it wrote to standard output and standard error.
 #[derive(Drop)]
@@ -80,10 +84,13 @@ pub fn run_same_on_sides_on(
 ) -> CommandRun {
     let (first, second) = texts;
     let mut err = Vec::new(alloc);
+    let mut sides = ComparedStreams {
+        first: Input::new(SideReader::new(first, Role::Server)),
+        second: Input::new(SideReader::new(second, Role::Server)),
+    };
     let ran = run_same_on_sides(
         alloc,
-        &mut Input::new(SideReader::new(first, Role::Server)),
-        &mut Input::new(SideReader::new(second, Role::Server)),
+        &mut sides,
         text_of(limits),
         &mut Output::new(&mut writer),
         &mut Output::new(&mut err),
@@ -105,10 +112,13 @@ pub fn run_same_on<A: Allocator + Copy>(
 ) -> CommandRun {
     let (mut first, mut second) = readers;
     let mut err = Vec::new(alloc);
+    let mut streams = ComparedStreams {
+        first: Input::new(&mut first),
+        second: Input::new(&mut second),
+    };
     let ran = run_same(
         heap,
-        &mut Input::new(&mut first),
-        &mut Input::new(&mut second),
+        &mut streams,
         text_of(limits),
         &mut Output::new(&mut writer),
         &mut Output::new(&mut err),

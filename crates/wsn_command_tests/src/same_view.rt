@@ -9,7 +9,7 @@ use wsn_doubles::readers::Chopped;
 use wsn_doubles::vectors::greatest;
 use wsn_doubles::writers::{FULL, Full, Narrow};
 use wsn_io::{Input, Output};
-use wsn_job::{Format, Without, run_same};
+use wsn_job::{ComparedStreams, Format, Without, run_same};
 use wsn_print::ViewLimit;
 use wsn_wire::Role;
 
@@ -97,11 +97,14 @@ fn run_row(
         format: Format::Text,
         view: Some(ViewLimit::new(row.view).expect(rt, "a view in range")),
     };
+    let mut streams = ComparedStreams {
+        first: Input::new(Chopped::new(row.first, sizes.0)),
+        second: Input::new(Chopped::new(row.second, sizes.1)),
+    };
     let mut err = Vec::new(alloc);
     let ran = run_same(
         alloc,
-        &mut Input::new(&mut Chopped::new(row.first, sizes.0)),
-        &mut Input::new(&mut Chopped::new(row.second, sizes.1)),
+        &mut streams,
         comparison,
         &mut Output::new(&mut writer),
         &mut Output::new(&mut err),

@@ -110,21 +110,21 @@ fn accepted_line(alloc: Global, summary: &Summary) -> Result<String, AllocError>
 }
 
 fn refused_line(alloc: Global, refusal: &Refusal) -> Result<String, AllocError> {
-    let place = refusal.place;
+    let offset = refusal.offset;
     let word = refusal.reason.word();
     let code = refusal.reason.code();
-    format!(in alloc; "refused {place} {word} {code}")
+    format!(in alloc; "refused {offset} {word} {code}")
 }
 
 /// The line of a frame, with its LF.
 pub fn frame_line(alloc: Global, head: &HeadInfo) -> Result<String, AllocError> {
-    let place = head.place;
+    let offset = head.offset;
     let fin = if head.fin { "fin" } else { "more" };
     let word = word_of(head.op);
     let key = key_word(alloc, head.key)?;
     let len = head.len;
     let form = form_word(head.form);
-    format!(in alloc; "{place} {fin} {word} {key} {len}{form}\n")
+    format!(in alloc; "{offset} {fin} {word} {key} {len}{form}\n")
 }
 
 fn word_of(op: Op) -> &'static str {

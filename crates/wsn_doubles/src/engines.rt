@@ -6,11 +6,12 @@ use crate::readers::Chopped;
 use crate::vectors::Stream;
 use std::alloc::{AllocError, Allocator, Global};
 use std::io::{Read, Write};
-use wsn_canon::{Compared, normalise, same};
+use wsn_canon::{Compared, ComparedStreams, normalise, same};
+use wsn_io::{Input, Output};
 use wsn_list::list;
 use wsn_plan::{Plan, PlanAnswer, RecutAnswer, plan_of, recut, recut_uniform};
 use wsn_scan::{Limits, Stop, Verdict, judge};
-use wsn_wire::{Input, Output, Role};
+use wsn_wire::Role;
 
 /// An engine whose answer is a verdict.
 #[derive(Clone, Copy, Debug, PartialEq, Eq)]
@@ -82,13 +83,11 @@ pub fn compared<A: Allocator + Copy>(
     role: Role,
     limits: Limits,
 ) -> Result<Compared, Stop> {
-    same(
-        heap,
-        &mut Input::new(&mut first),
-        &mut Input::new(&mut second),
-        role,
-        limits,
-    )
+    let mut streams = ComparedStreams {
+        first: Input::new(&mut first),
+        second: Input::new(&mut second),
+    };
+    same(heap, &mut streams, role, limits)
 }
 
 /// A stream that comes from the endpoint of this role, under these limits.

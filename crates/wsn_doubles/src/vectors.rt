@@ -169,13 +169,14 @@ impl Stream {
         if self.is_too_long() {
             return Some(self.limits.input());
         }
-        let place = self.verdict.strip_prefix("refused ")?.split(' ').next()?;
-        place.parse::<u64>().ok()
+        let offset = self.verdict.strip_prefix("refused ")?.split(' ').next()?;
+        offset.parse::<u64>().ok()
     }
 
     /// Whether the first `count` bytes decide the answer, whatever follows.
     pub fn is_decided_by(&self, count: usize) -> bool {
-        self.decided_at().is_some_and(|place| place < count as u64)
+        self.decided_at()
+            .is_some_and(|offset| offset < count as u64)
     }
 
     /// Prefixes of the stream: those of at most 200 bytes, and the three longest.

@@ -48,7 +48,7 @@ abbrev pub IsLastTurn : Role → Limits → Incoming → List ℕ → List Meant
 IsLastTurn role limits new came events (OfEvent event) = Unit {0}
 IsLastTurn role limits new came events (OfVerdict verdict) = IsLast role limits new came events (Ok verdict)
 
--- An event stands behind those that are left of the events before.
+-- An event comes after those that are left of the events before.
 abbrev pub StandsNext : {A : Type 0} → Without → Role → Limits → EventReader A → List ℕ → List MeantEvent → MeantTurn → Type 0
 StandsNext without role limits reading came given (OfEvent event) = StandsAt without role limits came (length (events_without without given)) (offset_of reading) event (frames_of reading)
 StandsNext without role limits reading came given (OfVerdict verdict) = Unit {0}

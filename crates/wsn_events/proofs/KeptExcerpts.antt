@@ -30,7 +30,7 @@ use Rattle.wsn_events.proofs.ComparedSources.{HasGivenNext}
 use Rattle.wsn_events.proofs.ComparedRounds.{IsDifferenceSoFar, pending, on_alike, on_unlike}
 use Rattle.wsn_events.proofs.Comparisons.{Compares, answers}
 
--- What is kept of a difference, if there is one, stands in both streams.
+-- What is kept of a difference, if there is one, is in both streams.
 abbrev pub AreKept : {A : Type 0} → Without → Role → Limits → EventReader A → List ℕ → List MeantEvent → EventReader A → List ℕ → List MeantEvent → Option FirstDifference → Type 0
 AreKept without role limits reading came events other other_came others None = Unit {0}
 AreKept without role limits reading came events other other_came others (Some d) =

@@ -80,7 +80,7 @@ none_open fs op continues other = by (unfinished fs) refl
 
 module _ {A : Type 0} (role : Role) (limits : Limits) (reading : EventReader A) (reader : FrameReader) (g : Reassembly A) (kind : Kind) (came : List ℕ) (given : List MeantEvent) (fs : List Frame) (frame : Frame)
     (events : given ≡ meaning fs) (going : reading.answer ≡ None) (has_taken : HasTaken role limits reader came (fs ++ frame ∷ []) BetweenFrames) (taken : IsTakenOf role limits came (fs ++ frame ∷ []) BetweenFrames)
-    (final : frame.fin ≡ true) (op_is : frame.op ≡ op_of kind) (op_now : g.op ≡ op_of kind) (place_now : g.place ≡ length (stream fs)) (message_now : g.message.items ≡ payload_of (unfinished fs)) (payload_is : held_payload reader ≡ frame.payload)
+    (final : frame.fin ≡ true) (op_is : frame.op ≡ op_of kind) (op_now : g.op ≡ op_of kind) (place_now : g.frame_offset ≡ length (stream fs)) (message_now : g.message.items ≡ payload_of (unfinished fs)) (payload_is : held_payload reader ≡ frame.payload)
     (soon : length came ≤ length (stream (fs ++ frame ∷ [])) + chunk_size) where
   abbrev new : EventReader A
   new = record { reader = reader; reassembly = g; answer = reading.answer }
@@ -135,7 +135,7 @@ module _ {A : Type 0} (role : Role) (limits : Limits) (reading : EventReader A) 
 
 -- the part that came last is a whole message
 pub lends_part : {A : Type 0} (role : Role) (limits : Limits) (reading : EventReader A) (reader : FrameReader) (part : Part) (now came : List ℕ) (given : List MeantEvent) (has : HasGiven role limits reading came given)
-    (takes : ReadsPart role limits reader part now has.frames has.position) → IsTakenOf role limits now takes.frames takes.position → (g : Reassembly A) (kind : Kind) → IsWholeMessage part kind → g.op ≡ op_of kind → g.place ≡ length (stream has.frames) → g.message.items ≡ payload_of (unfinished has.frames)
+    (takes : ReadsPart role limits reader part now has.frames has.position) → IsTakenOf role limits now takes.frames takes.position → (g : Reassembly A) (kind : Kind) → IsWholeMessage part kind → g.op ≡ op_of kind → g.frame_offset ≡ length (stream has.frames) → g.message.items ≡ payload_of (unfinished has.frames)
     → LendsMessage role limits (record { reader = reader; reassembly = g; answer = reading.answer }) now given kind
 lends_part role limits reading reader part now came given has takes taken g kind whole op_now place_now message_now =
     let fs = has.frames in
@@ -155,7 +155,7 @@ pub lends_begun : {A : Type 0} (role : Role) (limits : Limits) (reading : EventR
 lends_begun role limits reading reader part now came given has takes taken g kind whole within =
     let fs = has.frames in
     let none : takes.is_part.before ≡ [] = (begins_at has.position part takes.is_part.before takes.is_part.is_at whole.begins).1 in
-    lends_part role limits reading reader part now came given has takes taken g kind whole (within.op ∙ whole.op) within.place
+    lends_part role limits reading reader part now came given has takes taken g kind whole (within.op ∙ whole.op) within.offset
     (within.message (of_op kind part.head.op whole.op).0 ∙ ap (λ (bs : List ℕ). payload_of (unfinished fs) ++ bs) none ∙ append-nil (payload_of (unfinished fs)))
 
 -- ---- a message that is lent becomes an event of its own

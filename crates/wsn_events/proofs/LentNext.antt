@@ -20,9 +20,9 @@ use Rattle.wsn_events.specs.Reassembly.{IsReassembled, IsBetweenFrames}
 use Rattle.wsn_events.proofs.LentMessages.{lends_part}
 use Rattle.wsn_events.proofs.TakenParts.{place_of}
 
-module _ {A : Type 0} (role : Role) (limits : Limits) (reading : EventReader A) (came : List ℕ) (given : List MeantEvent) (has : HasGiven role limits reading came given) (reader : FrameReader) (kind : Kind) (place : ℕ)
-    (message : TakesMessage role limits reader kind place came has.frames has.position) (g : Reassembly A)
-    (passed : g ≡ record reading.reassembly { op = op_of kind; place = place }) where
+module _ {A : Type 0} (role : Role) (limits : Limits) (reading : EventReader A) (came : List ℕ) (given : List MeantEvent) (has : HasGiven role limits reading came given) (reader : FrameReader) (kind : Kind) (offset : ℕ)
+    (message : TakesMessage role limits reader kind offset came has.frames has.position) (g : Reassembly A)
+    (passed : g ≡ record reading.reassembly { op = op_of kind; frame_offset = offset }) where
   pub lends_next : LendsMessage role limits (record { reader = reader; reassembly = g; answer = reading.answer }) came given kind
   lends_next =
       let part = message.part in
@@ -30,7 +30,7 @@ module _ {A : Type 0} (role : Role) (limits : Limits) (reading : EventReader A) 
       let fs = has.frames in
       let taken : IsTakenOf role limits came takes.frames takes.position = reported_of role limits reader came takes.frames takes.position takes.has_taken in
       let begins = begins_at has.position part takes.is_part.before takes.is_part.is_at message.whole.begins in
-      let at : place ≡ length (stream fs) = sym message.place_is ∙ place_of role limits came fs has.position part (held_payload reader) takes.frames takes.position takes.is_part taken in
+      let at : offset ≡ length (stream fs) = sym message.offset_is ∙ place_of role limits came fs has.position part (held_payload reader) takes.frames takes.position takes.is_part taken in
       let between : IsBetweenFrames reading.reassembly fs = subst (IsReassembled reading.reassembly fs) begins.0 has.reassembly in
       lends_part role limits reading reader part came came given has takes taken g kind message.whole
-      (ap (λ (r : Reassembly A). r.op) passed) (ap (λ (r : Reassembly A). r.place) passed ∙ at) (ap (λ (r : Reassembly A). r.message.items) passed ∙ between.message)
+      (ap (λ (r : Reassembly A). r.op) passed) (ap (λ (r : Reassembly A). r.frame_offset) passed ∙ at) (ap (λ (r : Reassembly A). r.message.items) passed ∙ between.message)

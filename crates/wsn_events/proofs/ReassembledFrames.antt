@@ -110,7 +110,7 @@ module _ {A : Type 0} (g h : Reassembly A) (same : h ≡ record g { message = h.
     text = was.text;
     binary = was.binary;
     continued = was.continued;
-    place = was.place;
+    offset = was.offset;
     first = λ begins. begun_alike (length (stream fs)) 1 (was.first begins);
     further = λ continues some. begun_alike (open_offset fs) (length (unfinished fs) + 1) (was.further continues some);
   })

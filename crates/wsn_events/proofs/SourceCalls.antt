@@ -110,7 +110,7 @@ module _ {A : Type 0} (role : Role) (limits : Limits) (old : Incoming) (came : L
       moved g = record { reader = reader; reassembly = g; answer = reading.answer }
 
       module _ (begun : Reassembly A)
-          (begin : (before : List Frame) (at : Position) (payload : List ℕ) → length (unfinished before) + 1 < 2 ^ 64 → part.head.place ≡ length (stream before) → IsPartAt at part payload → IsReassembled reading.reassembly before at → IsInFrame begun before part.head.op payload) where
+          (begin : (before : List Frame) (at : Position) (payload : List ℕ) → length (unfinished before) + 1 < 2 ^ 64 → part.head.offset ≡ length (stream before) → IsPartAt at part payload → IsReassembled reading.reassembly before at → IsInFrame begun before part.head.op payload) where
         in_frame : IsInFrame begun fs part.head.op takes.is_part.before
         in_frame = begin fs read.has.position takes.is_part.before few (place_of role limits now fs read.has.position part (held_payload reader) takes.frames takes.position takes.is_part taken) takes.is_part.is_at read.has.reassembly
 

@@ -1,4 +1,4 @@
--- Where an event stands in a stream, as more bytes come and where the stream is accepted.
+-- Where an event is in a stream, as more bytes come and where the stream is accepted.
 use Rattle.std.proofs.Common.{◌≡◌, ℕ, ◌≤◌, true, false, Option, None, Some, Ok, List, [], ◌∷◌, ◌++◌, length, refl, ap, subst, append_assoc, arith}
 use Rattle.wsn_wire.specs.declared.endpoint.Role.{Role}
 use Rattle.wsn_wire.specs.Frame.{Frame, stream}
@@ -40,7 +40,7 @@ pub record StandsAt (without : Without) (role : Role) (limits : Limits) (came : 
   pub offset_is : offset ≡ event_offset before frame
   pub count_is : count ≡ event_frames before frame
 
--- What is kept of the event with the index k: where this event stands; or nothing, since the source has ended before.
+-- What is kept of the event with the index k: where this event is; or nothing, since the source has ended before.
 abbrev pub Stands : {A : Type 0} → Without → Role → Limits → EventReader A → List ℕ → List MeantEvent → ℕ → Option Excerpt → Option MeantEvent → Type 0
 Stands without role limits reading came events k (Some excerpt) (Some event) =
     (offset : ℕ) × (count : ℕ) × IsExcerptOf excerpt offset event count × StandsAt without role limits came k offset event count

@@ -76,7 +76,7 @@ module _ (role : Role) (limits : Limits) (came : List ℕ) (fs : List Frame) (at
   taken_within : part.ends ≡ false → IsTakenOf role limits came fs (InFrame part.head (is.before ++ payload))
   taken_within more = let on = is.goes_on.within more in taken_at fs (InFrame part.head (is.before ++ payload)) on.0 on.1
 
-  pub place_of : part.head.place ≡ length (stream fs)
+  pub place_of : part.head.offset ≡ length (stream fs)
   place_of = grind (arith, taken_within, ended_by)
 
   -- the bytes begin with the frames before it

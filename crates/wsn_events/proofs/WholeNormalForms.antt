@@ -14,12 +14,11 @@ use Rattle.wsn_rules.specs.Group.{unfinished}
 use Rattle.wsn_rules.specs.Meaning.{MeantEvent, meaning}
 use Rattle.wsn_rules.specs.NormalForm.{normal_form}
 use Rattle.wsn_rules.specs.Summary.{counted}
-use Rattle.wsn_rules.specs.Verdict.{IsVerdict}
+use Rattle.wsn_rules.specs.Verdict.{IsVerdict, IsUnrefused}
 use Rattle.wsn_rules.proofs.NormalLaws.{own_frames}
 use Rattle.wsn_rules.proofs.OneVerdict.{one_verdict}
 use Rattle.wsn_io.specs.declared.stop.Stop.{Stop}
 use Rattle.wsn_io.specs.declared.stop.Stop.TheVariants as stop
-use Rattle.wsn_scan.specs.Judging.{IsUnrefused}
 use Rattle.wsn_io.specs.Stops.{HasNoFailure}
 pub use Rattle.wsn_scan.proofs.WholeInputs.{of_all, not_past}
 use Rattle.wsn_events.specs.Normalised.{IsNormalised, IsNormalFormWritten, IsNormalisedWhole, IsWithinLimit}

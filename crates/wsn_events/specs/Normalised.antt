@@ -11,8 +11,8 @@ use Rattle.wsn_rules.specs.Meaning.{MeantEvent, meaning}
 use Rattle.wsn_rules.specs.NormalForm.{normal_form}
 use Rattle.wsn_events.specs.Sources.{IsMeaningOf, IsLast}
 use Rattle.wsn_wire.specs.Frame.{Frame, stream}
-use Rattle.wsn_rules.specs.Verdict.{IsVerdict}
-use Rattle.wsn_scan.specs.Judging.{IsUnrefused, chunk_size}
+use Rattle.wsn_rules.specs.Verdict.{IsVerdict, IsUnrefused}
+use Rattle.wsn_scan.specs.Judging.{chunk_size}
 pub use Rattle.wsn_scan.specs.Judging.{IsWithinLimit}
 
 -- A write failed in the normal form of an event, or of events after it: that of the events before was written whole. At

@@ -38,7 +38,7 @@ pub record IsInFrame {A : Type 0} (g : Reassembly A) (fs : List Frame) (o : Op) 
   pub text : o ≡ ops.Text → g.kind ≡ kinds.Text
   pub binary : o ≡ ops.Binary → g.kind ≡ kinds.Binary
   pub continued : o ≡ ops.Continue → IsKindOf g.kind (unfinished fs)
-  pub place : g.place ≡ length (stream fs)
+  pub offset : g.frame_offset ≡ length (stream fs)
   pub first : (o ≡ ops.Text) ⊎ (o ≡ ops.Binary) → HasBegun g (length (stream fs)) 1
   pub further :
       o ≡ ops.Continue → unfinished fs ≢ [] → HasBegun g (open_offset fs) (length (unfinished fs) + 1)
@@ -61,7 +61,7 @@ given_by op message frame = frame
 
 -- The offset of the first frame of the event that ended last.
 abbrev pub offset_given : {A : Type 0} → Reassembly A → ℕ
-offset_given g = given_by g.op g.start g.place
+offset_given g = given_by g.op g.start g.frame_offset
 
 -- The number of its frames.
 abbrev pub frames_given : {A : Type 0} → Reassembly A → ℕ

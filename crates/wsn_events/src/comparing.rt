@@ -7,7 +7,7 @@ ghost use Rattle.wsn_events.specs.Sources.{IsLast};
 ghost use Rattle.wsn_rules.specs.LeftOut.{events_without};
 ghost use Rattle.wsn_events.specs.Excerpts.{IsContrasted, KeepsFirst, KeepsOf, index_in};
 ghost use Rattle.wsn_events.specs.Comparing.{IsComparisonOutcome, IsAnAccepted, IsRoundOf, AreLentAlike, IsComparedBy, IsCompared, IsComparisonOfBy, IsComparisonOf};
-ghost use Rattle.wsn_events.specs.Turns.{OfEvent, IsLawfulTurn, meant_next, meant_turn};
+ghost use Rattle.wsn_events.specs.Turns.{OfEvent, IsLawfulTurn, meant_next, meant_last};
 ghost use Rattle.wsn_events.specs.LentMessages.{MayLend};
 
 use crate::equal_bytes::are_equal;
@@ -17,12 +17,13 @@ use crate::leaving_out::turn_after;
 use crate::payload::payload_of;
 use crate::payload_difference::PayloadDifference;
 use crate::source::{Next, Source};
-use crate::turn::{Turn, give_back};
+use crate::streams::ComparedStreams;
+use crate::turn::{LastTurn, Turn, give_back};
 use std::alloc::Allocator;
 use std::io::Read;
 use wsn_rules::{Compared, Without};
 use wsn_scan::{Limits, Stop, Verdict};
-use wsn_wire::{Input, Kind, Role};
+use wsn_wire::{Kind, Role};
 
 /// Compares what two streams mean, however they are framed and masked (RFC 6455 sections 5.3 and 5.4). `role` is the
 /// endpoint that sent them. Both are read to their verdicts, and one event of each is held at a time. Returns whether
@@ -34,16 +35,15 @@ use wsn_wire::{Input, Kind, Role};
 #[tactic(none)]
 pub fn same<A: Allocator + Copy, R: Read, S: Read>(
     alloc: A,
-    first: &mut Input<R>,
-    second: &mut Input<S>,
+    streams: &mut ComparedStreams<R, S>,
     role: Role,
     limits: Limits,
 ) -> Result<Compared, Stop>
-    requires first { first.old.failed ≡ false }
-    requires second { second.old.failed ≡ false }
-    ensures compared { IsCompared role limits first.old first.new second.old second.new result }
-    ensures whole { IfOk result (λ compared. (all others : List ℕ) → first.old.remaining ≡ Some all →
-        second.old.remaining ≡ Some others →
+    requires first { streams.old.first.failed ≡ false }
+    requires second { streams.old.second.failed ≡ false }
+    ensures compared { IsCompared role limits streams.old.first streams.new.first streams.old.second streams.new.second result }
+    ensures whole { IfOk result (λ compared. (all others : List ℕ) → streams.old.first.remaining ≡ Some all →
+        streams.old.second.remaining ≡ Some others →
         IsComparisonOf role limits all others compared) }
 {
     let nothing = Without {
@@ -51,7 +51,7 @@ pub fn same<A: Allocator + Copy, R: Read, S: Read>(
         pong: false,
         close: false,
     };
-    same_without(alloc, first, second, role, limits, nothing)
+    same_without(alloc, streams, role, limits, nothing)
 }
 
 /// Compares what two streams mean, as [`same`] does, but leaves the controls of these kinds out of both meanings. An
@@ -61,21 +61,20 @@ pub fn same<A: Allocator + Copy, R: Read, S: Read>(
 #[tactic(none)]
 pub fn same_without<A: Allocator + Copy, R: Read, S: Read>(
     alloc: A,
-    first: &mut Input<R>,
-    second: &mut Input<S>,
+    streams: &mut ComparedStreams<R, S>,
     role: Role,
     limits: Limits,
     without: Without,
 ) -> Result<Compared, Stop>
-    requires first { first.old.failed ≡ false }
-    requires second { second.old.failed ≡ false }
-    ensures compared { IsComparedBy (events_without without) role limits first.old first.new second.old second.new
-        result }
-    ensures whole { IfOk result (λ compared. (all others : List ℕ) → first.old.remaining ≡ Some all →
-        second.old.remaining ≡ Some others →
+    requires first { streams.old.first.failed ≡ false }
+    requires second { streams.old.second.failed ≡ false }
+    ensures compared { IsComparedBy (events_without without) role limits streams.old.first streams.new.first streams.old.second
+        streams.new.second result }
+    ensures whole { IfOk result (λ compared. (all others : List ℕ) → streams.old.first.remaining ≡ Some all →
+        streams.old.second.remaining ≡ Some others →
         IsComparisonOfBy (events_without without) role limits all others compared) }
 {
-    let (compared, _difference) = contrast(alloc, first, second, role, limits, without)?;
+    let (compared, _difference) = contrast(alloc, streams, role, limits, without)?;
     Ok(compared)
 }
 
@@ -87,15 +86,15 @@ pub fn same_without<A: Allocator + Copy, R: Read, S: Read>(
 #[inline(always)]
 pub fn contrast<A: Allocator + Copy, R: Read, S: Read>(
     alloc: A,
-    first: &mut Input<R>,
-    second: &mut Input<S>,
+    streams: &mut ComparedStreams<R, S>,
     role: Role,
     limits: Limits,
     without: Without,
 ) -> Result<(Compared, Option<FirstDifference>), Stop>
-    requires first { first.old.failed ≡ false }
-    requires second { second.old.failed ≡ false }
-    ensures { IsContrasted without role limits first.old first.new second.old second.new result }
+    requires first { streams.old.first.failed ≡ false }
+    requires second { streams.old.second.failed ≡ false }
+    ensures { IsContrasted without role limits streams.old.first streams.new.first streams.old.second
+        streams.new.second result }
 {
     let mut events = Source::new(alloc, role, limits);
     let mut others = Source::new(alloc, role, limits);
@@ -108,9 +107,20 @@ pub fn contrast<A: Allocator + Copy, R: Read, S: Read>(
             index += 1;
             continue;
         }
-        let turn = turn_after(lent, &mut events, first, without)?;
-        let other = turn_after(other_lent, &mut others, second, without)?;
-        let round = end_round(&mut difference, index, &events, &turn, &others, &other);
+        let turn = turn_after(lent, &mut events, &mut streams.first, without)?;
+        let other = turn_after(other_lent, &mut others, &mut streams.second, without)?;
+        let round = end_round(
+            &mut difference,
+            index,
+            &LastTurn {
+                source: &events,
+                turn: &turn,
+            },
+            &LastTurn {
+                source: &others,
+                turn: &other,
+            },
+        );
         if let Round::Over(verdict, other) = round {
             let compared = outcome(verdict, other, index_of(&difference));
             return Ok((compared, difference));
@@ -149,25 +159,23 @@ fn are_alike<A: Allocator + Copy>(
     }
 }
 
-/// The round that these two turns make. It keeps of the first events that differ what shows them.
+/// The round that the last turns of both sources make. It keeps of the first events that differ what shows them.
 #[inline(always)]
 fn end_round<A: Allocator + Copy>(
     difference: &mut Option<FirstDifference>,
     index: u64,
-    events: &Source<A>,
-    turn: &Turn<A>,
-    others: &Source<A>,
-    other: &Turn<A>,
+    first: &LastTurn<'_, A>,
+    second: &LastTurn<'_, A>,
 ) -> Round
-    requires turn { IsLawfulTurn (meant_turn events.now turn.now) }
-    requires other { IsLawfulTurn (meant_turn others.now other.now) }
-    ensures round { IsRoundOf (meant_turn events.now turn.now) (meant_turn others.now other.now) result }
-    ensures kept { KeepsOf result index events.now (meant_turn events.now turn.now) others.now
-        (meant_turn others.now other.now) difference.old difference.new }
+    requires first { IsLawfulTurn (meant_last first.now) }
+    requires second { IsLawfulTurn (meant_last second.now) }
+    ensures round { IsRoundOf (meant_last first.now) (meant_last second.now) result }
+    ensures kept { KeepsOf result index first.now.source.now (meant_last first.now) second.now.source.now
+        (meant_last second.now) difference.old difference.new }
 {
-    let round = round_of(events, turn, others, other);
+    let round = round_of(first, second);
     if let Round::Unlike = round {
-        keep_first(difference, index, events, turn, others, other);
+        keep_first(difference, index, first, second);
     }
     round
 }
@@ -178,27 +186,22 @@ fn end_round<A: Allocator + Copy>(
 fn keep_first<A: Allocator + Copy>(
     difference: &mut Option<FirstDifference>,
     index: u64,
-    events: &Source<A>,
-    turn: &Turn<A>,
-    others: &Source<A>,
-    other: &Turn<A>,
+    first: &LastTurn<'_, A>,
+    second: &LastTurn<'_, A>,
 )
-    requires turn { IsLawfulTurn (meant_turn events.now turn.now) }
-    requires other { IsLawfulTurn (meant_turn others.now other.now) }
-    ensures { KeepsFirst index events.now (meant_turn events.now turn.now) others.now
-        (meant_turn others.now other.now) difference.old difference.new }
+    requires first { IsLawfulTurn (meant_last first.now) }
+    requires second { IsLawfulTurn (meant_last second.now) }
+    ensures { KeepsFirst index first.now.source.now (meant_last first.now) second.now.source.now
+        (meant_last second.now) difference.old difference.new }
 {
     if difference.is_some() {
         return;
     }
-    let payloads = PayloadDifference::between(
-        &payload_of(events, turn),
-        &payload_of(others, other),
-    );
+    let payloads = PayloadDifference::between(&payload_of(first), &payload_of(second));
     *difference = Some(FirstDifference {
         index,
-        first: excerpt_of(events, turn),
-        second: excerpt_of(others, other),
+        first: excerpt_of(first),
+        second: excerpt_of(second),
         payloads,
     });
 }
@@ -227,20 +230,15 @@ enum Round {
 
 /// The round that these two turns make.
 #[inline(always)]
-fn round_of<A: Allocator + Copy>(
-    events: &Source<A>,
-    turn: &Turn<A>,
-    others: &Source<A>,
-    other: &Turn<A>,
-) -> Round
-    ensures { IsRoundOf (meant_turn events.now turn.now) (meant_turn others.now other.now) result }
+fn round_of<A: Allocator + Copy>(first: &LastTurn<'_, A>, second: &LastTurn<'_, A>) -> Round
+    ensures { IsRoundOf (meant_last first.now) (meant_last second.now) result }
 {
-    match (turn, other) {
+    match (first.turn, second.turn) {
         (Turn::Own(next), Turn::Own(other)) => round_of_own(next, other),
-        (Turn::Own(next), Turn::Lent(kind)) => round_with(next, *kind, others.taken()),
-        (Turn::Lent(kind), Turn::Own(next)) => round_with(next, *kind, events.taken()),
+        (Turn::Own(next), Turn::Lent(kind)) => round_with(next, *kind, second.source.taken()),
+        (Turn::Lent(kind), Turn::Own(next)) => round_with(next, *kind, first.source.taken()),
         (Turn::Lent(kind), Turn::Lent(other)) => {
-            if kind == other && are_equal(events.taken(), others.taken()) {
+            if kind == other && are_equal(first.source.taken(), second.source.taken()) {
                 Round::Alike
             } else {
                 Round::Unlike

@@ -7,8 +7,9 @@ use crate::source::Next;
 use crate::turn::Turn;
 use std::alloc::Allocator;
 use std::io::Read;
+use wsn_io::Input;
 use wsn_scan::{FrameReader, Limits, Part, Stop, Verdict};
-use wsn_wire::{Input, Kind, Op, Role};
+use wsn_wire::{Kind, Op, Role};
 
 /// The state of an event source: its reader, the open message so far, and the answer that it has ended with.
 #[derive(Drop)]
@@ -135,8 +136,8 @@ impl<A: Allocator + Copy> EventReader<A> {
         ensures none { IfNone result (self.new ≡ self.old) }
         ensures falls { IfSome result (λ _. events_ahead self.new < events_ahead self.old) }
     {
-        let (kind, place) = self.reader.next_message()?;
-        self.reassembly.pass_over(kind, place);
+        let (kind, offset) = self.reader.next_message()?;
+        self.reassembly.pass_over(kind, offset);
         Some(kind)
     }
 

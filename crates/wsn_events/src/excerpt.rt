@@ -32,7 +32,7 @@ impl Excerpt {
     ghost use Rattle.wsn_print.specs.ShownParts.{IsPlaced};
     ghost use Rattle.wsn_events.specs.Excerpts.{IsExcerptOf, HasPayload};
 
-    /// What is kept of an event of so many frames, whose first frame is at this offset.
+    /// What is kept of an event with this number of frames, the first of them at this offset.
     pub(crate) fn new<A: Allocator>(event: &Event<A>, offset: u64, frames: u64) -> Excerpt
         requires { IsLawfulEvent (meant event.now) }
         ensures { IsExcerptOf result offset (meant event.now) frames }

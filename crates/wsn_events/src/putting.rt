@@ -8,11 +8,12 @@ ghost use Rattle.wsn_rules.specs.NormalForm.{normal_frame, normal_key, op_of};
 ghost use Rattle.wsn_io.specs.Stops.{IsWrittenOrStops};
 
 use crate::event::{Event, Small};
-use crate::framing::put_frame;
+use crate::framing::{WireFrame, put_frame};
 use std::alloc::Allocator;
 use std::io::Write;
+use wsn_io::Output;
 use wsn_scan::Stop;
-use wsn_wire::{Form, Kind, Op, Output, Role};
+use wsn_wire::{Form, Kind, Op, Role};
 
 /// Writes an event's normal form: one final frame with its length in the shortest encoding, under a key of zeros for a
 /// client and under none for a server (RFC 6455 sections 5.2 and 5.3). The event must be lawful. `Stop::Write` if the
@@ -45,7 +46,14 @@ fn put_message<W: Write>(
     requires size { length text.now < 2 ^ 63 }
     ensures { IsWrittenOrStops to.old to.new (frame_bytes (normal_frame role (Message kind text.now))) result }
 {
-    put_frame(to, true, op_of(kind), key_of(role), Form::Shortest, text)
+    let message = WireFrame {
+        fin: true,
+        op: op_of(kind),
+        key: key_of(role),
+        form: Form::Shortest,
+        wire: text,
+    };
+    put_frame(to, &message)
 }
 
 #[tactic(none)]
@@ -54,7 +62,14 @@ fn put_control<W: Write>(to: &mut Output<W>, role: Role, op: Op, body: &[u8]) ->
     requires size { length body.now ≤ 125 }
     ensures { IsWrittenOrStops to.old to.new (frame_bytes (normal_frame role (Control op body.now))) result }
 {
-    put_frame(to, true, op, key_of(role), Form::Shortest, body)
+    let control = WireFrame {
+        fin: true,
+        op,
+        key: key_of(role),
+        form: Form::Shortest,
+        wire: body,
+    };
+    put_frame(to, &control)
 }
 
 /// The opcode and the body of a ping, a pong or a close (RFC 6455 section 5.5). The event must not be a message, and

@@ -10,7 +10,7 @@ use wsn_wire::{Kind, Op};
 pub struct Reassembly<A: Allocator> {
     op: Op,
     /// The offset of that frame.
-    place: u64,
+    frame_offset: u64,
     kind: Kind,
     message: Vec<u8, A>,
     /// The offset of the open message's first frame.
@@ -38,7 +38,7 @@ impl<A: Allocator + Copy> Reassembly<A> {
     {
         Reassembly {
             op: Op::Continue,
-            place: 0,
+            frame_offset: 0,
             kind: Kind::Binary,
             message: Vec::new(alloc),
             start: 0,
@@ -60,7 +60,7 @@ impl<A: Allocator + Copy> Reassembly<A> {
     {
         match self.op {
             Op::Continue => self.start,
-            _ => self.place,
+            _ => self.frame_offset,
         }
     }
 
@@ -99,23 +99,23 @@ impl<A: Allocator + Copy> Reassembly<A> {
     #[tactic(none)]
     pub fn begin(&mut self, part: &Part)
         ensures { (fs : List Frame) (at : Position) (before : List ℕ) → length (unfinished fs) + 1 < 2 ^ 64 →
-            part.now.head.place ≡ length (stream fs) → IsPartAt at part.now before →
+            part.now.head.offset ≡ length (stream fs) → IsPartAt at part.now before →
             IsReassembled self.old fs at → IsInFrame self.new fs part.now.head.op before }
     {
         if part.begins {
-            self.begin_frame(part.head.op, part.head.place);
+            self.begin_frame(part.head.op, part.head.offset);
         }
     }
 
     /// Begins a frame with this opcode at this offset.
     #[inline(always)]
     #[tactic(none)]
-    fn begin_frame(&mut self, op: Op, place: u64)
-        ensures { (fs : List Frame) → length (unfinished fs) + 1 < 2 ^ 64 → place ≡ length (stream fs) →
+    fn begin_frame(&mut self, op: Op, offset: u64)
+        ensures { (fs : List Frame) → length (unfinished fs) + 1 < 2 ^ 64 → offset ≡ length (stream fs) →
             IsBetweenFrames self.old fs → IsInFrame self.new fs op [] }
     {
         self.op = op;
-        self.place = place;
+        self.frame_offset = offset;
         match op {
             Op::Text => self.begin_message(Kind::Text),
             Op::Binary => self.begin_message(Kind::Binary),
@@ -126,22 +126,22 @@ impl<A: Allocator + Copy> Reassembly<A> {
 
     /// Passes over a message of this kind, of one frame at this offset, whose payload its reader holds.
     #[inline(always)]
-    pub fn pass_over(&mut self, kind: Kind, place: u64)
-        ensures { self.new ≡ record self.old { op = op_of kind; place = place } }
+    pub fn pass_over(&mut self, kind: Kind, offset: u64)
+        ensures { self.new ≡ record self.old { op = op_of kind; frame_offset = offset } }
     {
         self.op = op_of(kind);
-        self.place = place;
+        self.frame_offset = offset;
     }
 
     /// Begins a message with the frame that has begun.
     fn begin_message(&mut self, kind: Kind)
         ensures kind { self.new.kind ≡ kind }
-        ensures begun { (self.new.start ≡ self.old.place) × (self.new.frames ≡ 1) }
-        ensures same { (self.new.op ≡ self.old.op) × (self.new.place ≡ self.old.place)
+        ensures begun { (self.new.start ≡ self.old.frame_offset) × (self.new.frames ≡ 1) }
+        ensures same { (self.new.op ≡ self.old.op) × (self.new.frame_offset ≡ self.old.frame_offset)
             × (self.new.message ≡ self.old.message) × (self.new.body ≡ self.old.body) }
     {
         self.kind = kind;
-        self.start = self.place;
+        self.start = self.frame_offset;
         self.frames = 1;
     }
 

@@ -8,8 +8,9 @@ use crate::turn::Turn;
 use std::alloc::{Allocator, Global};
 use std::io::Read;
 use std::marker::Model;
+use wsn_io::Input;
 use wsn_scan::{Limits, Stop, Verdict};
-use wsn_wire::{Input, Kind, Role};
+use wsn_wire::{Kind, Role};
 
 /// What [`Source::next`] returns.
 #[derive(Drop)]

@@ -18,9 +18,9 @@ fn main(rt: HostRuntime) -> io::Result<ExitCode> {
     for role in [Role::Client, Role::Server] {
         let mut side = Input::new(SideReader::new(capture.as_slice(), role));
         match judge(&mut side, role, limits) {
-            Ok(Verdict::Refused(Refusal { place, reason })) => {
+            Ok(Verdict::Refused(Refusal { offset, reason })) => {
                 let (name, word, code) = (name_of(role), reason.word(), reason.code());
-                println!(rt; "{name} broke {word} at byte {place}: close code {code}")?;
+                println!(rt; "{name} broke {word} at byte {offset}: close code {code}")?;
                 status = 1;
             }
             Ok(_) => {}

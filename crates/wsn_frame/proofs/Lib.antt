@@ -5,3 +5,4 @@ pub mod PayloadBytes
 pub mod PayloadMore
 pub mod FramesAtOnce
 pub mod CountedFrames
+pub mod CountedKinds

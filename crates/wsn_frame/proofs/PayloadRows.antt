@@ -248,7 +248,7 @@ quiet-append group first total before begun rest n quiet quiet_after k reason so
 
 -- A fault in the bytes after the code.
 pub fault_after : (group : List Frame) (first total : ℕ) (before begun rest : List ℕ) (at : ℕ) (fault is_evident : BadByte) → IsQuiet group first total before begun (length begun) → length begun ≡ at + 1 → is_evident.at ≡ at + 1 + fault.at → is_evident.reason ≡ fault.reason → IsFirstFault (λ (reason : Reason) (k : ℕ). EvidentByPayload group reason first total ((before ++ begun) ++ take k rest)) rest fault.at fault.reason → IsChecked group first total before (begun ++ rest) (Err is_evident)
-fault_after group first total before begun rest at fault is_evident quiet count place same found =
+fault_after group first total before begun rest at fault is_evident quiet count offset same found =
     let all : length (begun ++ rest) ≡ length begun + length rest = length-append begun rest in
     let within : fault.at < length rest = found.0 in
     let place_after : is_evident.at ≡ length begun + fault.at = omega arith in

@@ -98,8 +98,8 @@ encoded_form len_form.Eight len = if nat_lt len 65536 then form.Eight else form.
 
 -- The head as it is reported, at this offset.
 abbrev pub info_at : ℕ → Head → HeadInfo
-info_at place head = record {
-  place = place;
+info_at offset head = record {
+  offset = offset;
   fin = head.first.fin;
   op = head.first.op;
   key = head.key;

@@ -45,4 +45,26 @@ impl Counts {
             pongs: self.pongs.wrapping_add(u64::from(matches!(op, Op::Pong))),
         }
     }
+
+    /// Counts one more frame, which has this FIN and this opcode. It takes fewer instructions than [`Counts::with`], which
+    /// has no branch. Fewer than 2^63 frames have been counted.
+    #[inline(always)]
+    #[tactic(none)]
+    pub fn add(&mut self, fin: bool, op: Op)
+        ensures { (fs : List Frame) (f : Frame) → AreCounts self.old fs → length fs < 2 ^ 63 → f.fin ≡ fin → f.op ≡ op →
+            AreCounts self.new (fs ++ f ∷ []) }
+    {
+        self.frames = self.frames.wrapping_add(1);
+        if !op.is_control() {
+            if fin {
+                self.messages = self.messages.wrapping_add(1);
+            }
+            return;
+        }
+        match op {
+            Op::Ping => self.pings = self.pings.wrapping_add(1),
+            Op::Pong => self.pongs = self.pongs.wrapping_add(1),
+            _ => {}
+        }
+    }
 }

@@ -18,13 +18,13 @@ pub struct Head {
 }
 
 impl Head {
-    /// The head as it is reported, for a frame at offset `place` of the stream.
+    /// The head as it is reported, for a frame at `offset` in the stream.
     #[tactic(none)]
-    pub fn info(&self, place: u64) -> HeadInfo
-        ensures { result ≡ info_at place self.now }
+    pub fn info(&self, offset: u64) -> HeadInfo
+        ensures { result ≡ info_at offset self.now }
     {
         HeadInfo {
-            place,
+            offset,
             fin: self.first.fin,
             op: self.first.op,
             key: self.key,

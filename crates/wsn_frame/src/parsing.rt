@@ -55,7 +55,7 @@ fn parse_after(byte: u8, following: &[u8], context: &FrameContext) -> Parsed
     let Some((second, following)) = following.split_first() else {
         return Parsed::Incomplete;
     };
-    match wsn_wire::second(first, context.role, *second) {
+    match wsn_wire::read_second_byte(first, context.role, *second) {
         Ok(encoded) => parse_after_two(first, encoded, following, context),
         Err(reason) => Parsed::Refused(2, reason),
     }
@@ -90,7 +90,7 @@ pub fn whole_head_after(byte: u8, chunk: &[u8], context: &FrameContext) -> Optio
     let Ok(first) = first_byte(byte, context) else {
         return None;
     };
-    let Ok(encoded) = wsn_wire::second(first, context.role, chunk[1]) else {
+    let Ok(encoded) = wsn_wire::read_second_byte(first, context.role, chunk[1]) else {
         return None;
     };
     // (with eight length bytes it is left out, so that the compiler leaves out all that is for them)
@@ -113,7 +113,7 @@ fn first_byte(byte: u8, context: &FrameContext) -> Result<FirstByte, Reason>
     ensures refused { IfErr result (λ reason. (group : List Frame) → IsOpenMessage context.now.message group →
         IsFirstEvident (λ r. EvidentByFirst context.now.limits group r byte) reason) }
 {
-    let first = match wsn_wire::first(byte) {
+    let first = match wsn_wire::read_first_byte(byte) {
         Ok(first) => first,
         Err(reason) => return Err(reason),
     };
@@ -179,11 +179,11 @@ fn length_in(encoded: LenForm, following: &[u8], lengths: Lengths) -> Option<Res
     match encoded {
         LenForm::Short(len) => Some(Ok(u64::from(len))),
         LenForm::Two => match following.first_chunk::<2>() {
-            Some(bytes) => Some(wsn_wire::two(*bytes, lengths)),
+            Some(bytes) => Some(wsn_wire::read_two_byte_length(*bytes, lengths)),
             None => None,
         },
         LenForm::Eight => match following.first_chunk::<8>() {
-            Some(bytes) => Some(wsn_wire::eight(*bytes, lengths)),
+            Some(bytes) => Some(wsn_wire::read_eight_byte_length(*bytes, lengths)),
             None => None,
         },
     }

@@ -9,25 +9,24 @@ use Rattle.wsn_rules.specs.declared.verdict.Verdict.TheVariants.{Accepted, Cut, 
 use Rattle.wsn_rules.specs.declared.verdict.Summary.{Summary}
 use Rattle.wsn_rules.specs.declared.verdict.Refusal.{Refusal}
 use Rattle.wsn_rules.specs.Limits.{Limits}
-use Rattle.wsn_rules.specs.Verdict.{IsRefused}
+use Rattle.wsn_rules.specs.Verdict.{IsRefused, IsUnrefused}
 use Rattle.wsn_rules.proofs.OneVerdict.{one_verdict}
 use Rattle.wsn_rules.proofs.StaysRefused.{stays_refused}
-use Rattle.wsn_scan.specs.Judging.{IsUnrefused}
 use Rattle.wsn_hint.specs.Hints.{HasVerdict, IsRefusedEarly}
 
 pub accepted_unrefused : (role : Role) (limits : Limits) (bytes : List ℕ) (summary : Summary) → HasVerdict role limits bytes (Accepted summary) → IsUnrefused role limits bytes
-accepted_unrefused role limits bytes summary has fs place reason refused =
-    let same : Accepted summary ≡ Refused (record { place = place; reason = reason }) = (one_verdict role limits bytes has.0 fs (Accepted summary) (Refused (record { place = place; reason = reason })) has.1 refused).1 in
+accepted_unrefused role limits bytes summary has fs offset reason refused =
+    let same : Accepted summary ≡ Refused (record { offset = offset; reason = reason }) = (one_verdict role limits bytes has.0 fs (Accepted summary) (Refused (record { offset = offset; reason = reason })) has.1 refused).1 in
     absurd (cc same)
 
 pub cut_unrefused : (role : Role) (limits : Limits) (bytes : List ℕ) (summary : Summary) → HasVerdict role limits bytes (Cut summary) → IsUnrefused role limits bytes
-cut_unrefused role limits bytes summary has fs place reason refused =
-    let same : Cut summary ≡ Refused (record { place = place; reason = reason }) = (one_verdict role limits bytes has.0 fs (Cut summary) (Refused (record { place = place; reason = reason })) has.1 refused).1 in
+cut_unrefused role limits bytes summary has fs offset reason refused =
+    let same : Cut summary ≡ Refused (record { offset = offset; reason = reason }) = (one_verdict role limits bytes has.0 fs (Cut summary) (Refused (record { offset = offset; reason = reason })) has.1 refused).1 in
     absurd (cc same)
 
 -- a refusal's offset is within the bytes
-within : (role : Role) (limits : Limits) (bytes : List ℕ) (fs : List Frame) (place : ℕ) (reason : Reason) → IsRefused role limits bytes fs place reason → place < length bytes
-within role limits bytes fs place reason refused = grind (arith, length-append)
+within : (role : Role) (limits : Limits) (bytes : List ℕ) (fs : List Frame) (offset : ℕ) (reason : Reason) → IsRefused role limits bytes fs offset reason → offset < length bytes
+within role limits bytes fs offset reason refused = grind (arith, length-append)
 
 -- What the first two bytes are refused for, every input is refused for that begins with them.
 pub refused_early : (role : Role) (limits : Limits) (first later : List ℕ) (refusal : Refusal) → HasVerdict role limits (take 2 first) (Refused refusal) → IsRefusedEarly role limits (first ++ later)
@@ -35,10 +34,10 @@ refused_early role limits first later refusal has =
     let split : take 2 first ++ (drop 2 first ++ later) ≡ first ++ later = sym (append_assoc (take 2 first) (drop 2 first) later) ∙ ap (λ (bs : List ℕ). bs ++ later) (take-append-drop 2 first) in
     record {
       frames = has.0;
-      place = refusal.place;
+      offset = refusal.offset;
       reason = refusal.reason;
-      early = omega (arith, within role limits (take 2 first) has.0 refusal.place refusal.reason has.1, length-take 2 first);
-      refused = subst (λ (bs : List ℕ). IsRefused role limits bs has.0 refusal.place refusal.reason) split (stays_refused role limits has.0 (take 2 first) (drop 2 first ++ later) refusal.place refusal.reason has.1);
+      early = omega (arith, within role limits (take 2 first) has.0 refusal.offset refusal.reason has.1, length-take 2 first);
+      refused = subst (λ (bs : List ℕ). IsRefused role limits bs has.0 refusal.offset refusal.reason) split (stays_refused role limits has.0 (take 2 first) (drop 2 first ++ later) refusal.offset refusal.reason has.1);
     }
 
 -- the first two of some bytes

@@ -32,9 +32,9 @@ module _ (text : List ℕ) where
 -- ---- a text that isn't UTF-8, and other reasons
 
 -- the offending byte, if its line is known
-pub some_byte : (role : Role) (text : List ℕ) (line : Option RefusedLine) (place : ℕ) → (byte : Option ℕ) × IsOffendingByte role text line place byte
-some_byte role text (Some line) place = (Some line.byte, refl)
-some_byte role text None place = (None, tt)
+pub some_byte : (role : Role) (text : List ℕ) (line : Option RefusedLine) (offset : ℕ) → (byte : Option ℕ) × IsOffendingByte role text line offset byte
+some_byte role text (Some line) offset = (Some line.byte, refl)
+some_byte role text None offset = (None, tt)
 
 pub unmasked_fits : (text : List ℕ) (byte : Option ℕ) → IsFirstFit (FitsSide text TextBad byte true) side_hints (Some NeverMasked)
 unmasked_fits text byte = inr ((λ fits. cc (fits.0)), inr ((λ fits. cc (fits.0)), inr ((λ fits. cc (fits.0)), inl ((refl, refl), refl))))

@@ -8,8 +8,7 @@ use Rattle.wsn_wire.specs.Frame.{Frame}
 use Rattle.wsn_rules.specs.declared.verdict.Verdict.{Verdict}
 use Rattle.wsn_rules.specs.Limits.{Limits}
 use Rattle.wsn_rules.specs.Examples.{greatest}
-use Rattle.wsn_rules.specs.Verdict.{IsRefused, IsVerdict}
-use Rattle.wsn_scan.specs.Judging.{IsUnrefused}
+use Rattle.wsn_rules.specs.Verdict.{IsRefused, IsVerdict, IsUnrefused}
 use Rattle.wsn_hint.specs.declared.hint.Hint.{Hint, TheVariants.{Empty, HttpHead, Capture, CaptureToShow, Hexadecimal, HexDump, OffsetDump, Compressed, Text, Pcap, PcapNg, Gzip, Tls, ByteOrderMark, OtherRole, Stream, Json, SmallLetters, Blanks, OtherText, Binary}}
 
 -- This is the verdict on the bytes.
@@ -19,10 +18,10 @@ HasVerdict role limits bytes verdict = (fs : List Frame) × IsVerdict role limit
 -- The bytes are refused at offset 0 or 1.
 pub record IsRefusedEarly (role : Role) (limits : Limits) (bytes : List ℕ) : Type 0 where
   pub frames : List Frame
-  pub place : ℕ
+  pub offset : ℕ
   pub reason : Reason
-  pub early : place < 2
-  pub refused : IsRefused role limits bytes frames place reason
+  pub early : offset < 2
+  pub refused : IsRefused role limits bytes frames offset reason
 
 -- The bytes begin with this mark.
 abbrev pub Begins : List ℕ → List ℕ → Type 0
@@ -131,12 +130,12 @@ abbrev pub BeginsOffsetDump : List ℕ → Type 0
 BeginsOffsetDump bytes =
     (6 ≤ digits_at_start bytes) × (digits_at_start bytes ≤ 8) × BeginsSpacedByte (after_digits bytes)
 
--- The byte is a hexadecimal digit, or stands between the digits of bytes: a space, a colon, a tab, or a line's end.
+-- The byte is a hexadecimal digit, or separates the digits of bytes: a space, a colon, a tab, or a line's end.
 abbrev pub IsHexByte : ℕ → Type 0
 IsHexByte byte =
     IsHexDigit byte ⊎ (byte ≡ 32) ⊎ (byte ≡ 58) ⊎ (byte ≡ 9) ⊎ (byte ≡ 13) ⊎ (byte ≡ 10)
 
--- At least four bytes are hexadecimal digits, and what stands between them; the first is a digit. The digits at the
+-- At least four bytes are hexadecimal digits, and what separates them; the first is a digit. The digits at the
 -- front are in pairs, or they are all there is.
 pub record IsHexText (bytes : List ℕ) : Type 0 where
   pub first : ℕ

@@ -24,7 +24,7 @@ use Rattle.wsn_hint.specs.declared.hint.Hint.{Hint, TheVariants.{Empty, Compress
 
 -- By the text's lines, this is the byte that the endpoint sent at this offset.
 abbrev pub IsSentAt : Role → List ℕ → ℕ → ℕ → Type 0
-IsSentAt role text place byte = (later : List ℕ) × (drop place (sent_in role text) ≡ byte ∷ later)
+IsSentAt role text offset byte = (later : List ℕ) × (drop offset (sent_in role text) ≡ byte ∷ later)
 
 -- ---- a text that was perhaps never masked
 
@@ -43,7 +43,7 @@ BeginsInAscii most count bytes = (text : List ℕ) × (later : List ℕ) × (byt
 
 -- A frame's key isn't zero, and its payload begins with a text in ASCII as it was sent, up to the byte at this offset or
 -- further: it was perhaps never masked [5.3].
-pub record IsSentAsText (role : Role) (limits : Limits) (sent : List ℕ) (place : ℕ) : Type 0 where
+pub record IsSentAsText (role : Role) (limits : Limits) (sent : List ℕ) (offset : ℕ) : Type 0 where
   pub head : HeadInfo
   pub has_head : HasHead role limits sent head
   pub key : List ℕ
@@ -51,8 +51,8 @@ pub record IsSentAsText (role : Role) (limits : Limits) (sent : List ℕ) (place
   pub masks : key ≢ 0 ∷ 0 ∷ 0 ∷ 0 ∷ []
   pub count : ℕ
   pub text : BeginsInAscii head.len count (drop (payload_offset head) sent)
-  pub from : payload_offset head ≤ place
-  pub up_to : place < payload_offset head + count
+  pub from : payload_offset head ≤ offset
+  pub up_to : offset < payload_offset head + count
 
 -- ---- a refused side
 
@@ -62,20 +62,20 @@ IsCompressedHead byte = (plain : ℕ) × (byte ≡ plain + 0x40) × IsDataHead p
 
 -- The offending byte of a side: in its line if that is known, otherwise, if it is known, by the text's lines.
 abbrev pub IsOffendingByte : Role → List ℕ → Option RefusedLine → ℕ → Option ℕ → Type 0
-IsOffendingByte role text (Some line) place byte = byte ≡ Some line.byte
-IsOffendingByte role text None place byte = IfSome byte (IsSentAt role text place)
+IsOffendingByte role text (Some line) offset byte = byte ≡ Some line.byte
+IsOffendingByte role text None offset byte = IfSome byte (IsSentAt role text offset)
 
 -- The same of the first bytes of the line with the offending byte, read as a stream of their own, as if a message began
 -- with the line.
 abbrev pub IsLineAsText : Role → Limits → Option RefusedLine → ℕ → Type 0
-IsLineAsText role limits (Some line) place =
-    (line.start ≤ place) × IsSentAsText role limits (kept_bytes line) (place - line.start)
-IsLineAsText role limits None place = ⊥
+IsLineAsText role limits (Some line) offset =
+    (line.start ≤ offset) × IsSentAsText role limits (kept_bytes line) (offset - line.start)
+IsLineAsText role limits None offset = ⊥
 
 -- The payload of the frame with the offending byte is a text as it was sent, by the text's lines or by the byte's line.
 abbrev pub IsTextAsSent : Role → Limits → List ℕ → Option RefusedLine → ℕ → Type 0
-IsTextAsSent role limits text line place =
-    IsSentAsText role limits (sent_in role text) place ⊎ IsLineAsText role limits line place
+IsTextAsSent role limits text line offset =
+    IsSentAsText role limits (sent_in role text) offset ⊎ IsLineAsText role limits line offset
 
 -- The hint fits a side that is refused for this reason. The offending byte is known, or may not be, and `as_text` says
 -- whether the payload is known to be a text as it was sent.
@@ -107,8 +107,8 @@ side_hints = Compressed ∷ NotAgreed ∷ MaybeCompressed ∷ NeverMasked ∷ No
 abbrev pub IsSideHint : Role → Limits → List ℕ → Option RefusedLine → Option Refusal → Option Hint → Type 0
 IsSideHint role limits text line None result = result ≡ None
 IsSideHint role limits text line (Some refusal) result = (byte : Option ℕ) × (as_text : Bool)
-    × IsOffendingByte role text line refusal.place byte
-    × (IsTrue as_text → IsTextAsSent role limits text line refusal.place)
+    × IsOffendingByte role text line refusal.offset byte
+    × (IsTrue as_text → IsTextAsSent role limits text line refusal.offset)
     × IsFirstFit (FitsSide text refusal.reason byte as_text) side_hints result
 
 -- ---- both sides
@@ -131,8 +131,8 @@ IsLikelierHint limits text refused lines result = (client : Option Hint) × (ser
 
 -- The first frame is refused for its masking, which is that of the other endpoint's frames (RFC 6455 section 5.1).
 abbrev pub IsForMask : Role → Refusal → Type 0
-IsForMask Client refusal = (refusal.place ≡ 1) × (refusal.reason ≡ MaskMissing)
-IsForMask Server refusal = (refusal.place ≡ 1) × (refusal.reason ≡ MaskPresent)
+IsForMask Client refusal = (refusal.offset ≡ 1) × (refusal.reason ≡ MaskMissing)
+IsForMask Server refusal = (refusal.offset ≡ 1) × (refusal.reason ≡ MaskPresent)
 
 -- The second byte of a head has the mask bit of the other endpoint's frames.
 abbrev pub IsOthersMask : Role → ℕ → Type 0

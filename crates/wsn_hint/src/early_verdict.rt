@@ -1,6 +1,6 @@
 ghost use Rattle.std.specs.Prelude.{◌≡◌, ◌<◌, ◌≤◌, None, true, take, length, IfSome};
 ghost use Rattle.wsn_rules.specs.declared.verdict.Verdict.TheVariants.{Refused};
-ghost use Rattle.wsn_scan.specs.Judging.{IsUnrefused};
+ghost use Rattle.wsn_rules.specs.Verdict.{IsUnrefused};
 ghost use Rattle.wsn_hint.specs.Hints.{HasVerdict};
 
 use wsn_io::Input;

@@ -18,29 +18,29 @@ const CHUNK: usize = 512;
 
 /// Whether the frame with this offset in its payload has a key that isn't zero, and its payload is a text in ASCII as it
 /// was sent, as far as it is within the lines of these bytes (RFC 6455 section 5.3).
-pub fn is_sent_as_text(first: &[u8], role: Role, limits: Limits, place: u64) -> bool
-    ensures { result ≡ true → IsSentAsText role limits (sent_in role first.now) place }
+pub fn is_sent_as_text(first: &[u8], role: Role, limits: Limits, offset: u64) -> bool
+    ensures { result ≡ true → IsSentAsText role limits (sent_in role first.now) offset }
 {
     reads_as_text(
         &mut Input::new(SideReader::new(first, role)),
         &mut Input::new(SideReader::new(first, role)),
         role,
         limits,
-        place,
+        offset,
     )
 }
 
 /// The same of a line with this offset, as far as its bytes are kept, if its first byte is the first of a message.
-pub fn is_line_as_text(line: &RefusedLine, role: Role, limits: Limits, place: u64) -> bool
-    ensures { result ≡ true → IsLineAsText role limits (Some line.now) place }
+pub fn is_line_as_text(line: &RefusedLine, role: Role, limits: Limits, offset: u64) -> bool
+    ensures { result ≡ true → IsLineAsText role limits (Some line.now) offset }
 {
-    place >= line.start
+    offset >= line.start
         && reads_as_text(
             &mut Input::lent(line.bytes()),
             &mut Input::lent(line.bytes()),
             role,
             limits,
-            place - line.start,
+            offset - line.start,
         )
 }
 
@@ -50,19 +50,19 @@ fn reads_as_text<R: Read>(
     text: &mut Input<R>,
     role: Role,
     limits: Limits,
-    place: u64,
+    offset: u64,
 ) -> bool
     requires { heads.old.failed ≡ false }
     ensures { result ≡ true → (sent : List ℕ) → heads.old.remaining ≡ Some sent → text.old.remaining ≡ Some sent →
-        IsSentAsText role limits sent place }
+        IsSentAsText role limits sent offset }
 {
-    let Some((head, start)) = head_before(heads, role, limits, place) else {
+    let Some((head, start)) = head_before(heads, role, limits, offset) else {
         return false;
     };
     match head.key {
         Some(key) if key != [0; 4] => {
             let len = text_len(text, start, head.len);
-            start <= place && place - start < len
+            start <= offset && offset - start < len
         }
         _ => false,
     }
@@ -73,7 +73,7 @@ fn head_before<R: Read>(
     side: &mut Input<R>,
     role: Role,
     limits: Limits,
-    place: u64,
+    offset: u64,
 ) -> Option<(HeadInfo, u64)>
     requires { side.old.failed ≡ false }
     ensures head { IfSome result (λ found. (sent : List ℕ) → side.old.remaining ≡ Some sent →
@@ -85,7 +85,7 @@ fn head_before<R: Read>(
     loop {
         match reader.next(side, &mut part) {
             Ok(None) => {
-                if let Some(start) = start_before(&part, place) {
+                if let Some(start) = start_before(&part, offset) {
                     return Some((part.head, start));
                 }
             }
@@ -96,12 +96,12 @@ fn head_before<R: Read>(
 
 /// The offset at which the payload begins of the frame that this is a part of, if the frame isn't whole and its payload
 /// has the byte at this offset.
-fn start_before(part: &Part, place: u64) -> Option<u64>
+fn start_before(part: &Part, offset: u64) -> Option<u64>
     ensures unfinished { IfSome result (λ _. part.now.ends ≡ false) }
     ensures start { IfSome part.now.head.key IsKey → IfSome result (λ start. start ≡ payload_offset part.now.head) }
 {
-    let start = part.head.place.checked_add(part.head.size())?;
-    if part.ends || place < start || place - start >= part.head.len {
+    let start = part.head.offset.checked_add(part.head.size())?;
+    if part.ends || offset < start || offset - start >= part.head.len {
         return None;
     }
     Some(start)

@@ -108,8 +108,8 @@ fn is_for_mask(refusal: Refusal, role: Role) -> bool
     ensures { IsTrue result ↔ IsForMask role refusal }
 {
     match role {
-        Role::Client => refusal.place == 1 && refusal.reason == Reason::MaskMissing,
-        Role::Server => refusal.place == 1 && refusal.reason == Reason::MaskPresent,
+        Role::Client => refusal.offset == 1 && refusal.reason == Reason::MaskMissing,
+        Role::Server => refusal.offset == 1 && refusal.reason == Reason::MaskPresent,
     }
 }
 
@@ -147,9 +147,9 @@ fn side_hint(
     };
     match refusal.reason {
         Reason::ReservedBits => {
-            bits_hint(first, offending_byte(first, role, line, refusal.place))
+            bits_hint(first, offending_byte(first, role, line, refusal.offset))
         }
-        Reason::TextBad if is_text_as_sent(first, role, limits, line, refusal.place) => {
+        Reason::TextBad if is_text_as_sent(first, role, limits, line, refusal.offset) => {
             Some(Hint::NeverMasked)
         }
         Reason::TextBad => Some(Hint::NotUtf8),
@@ -159,12 +159,12 @@ fn side_hint(
 
 /// The offending byte of a side, which has this offset: in its line if that is given, otherwise by the lines of the first
 /// bytes.
-fn offending_byte(first: &[u8], role: Role, line: Option<RefusedLine>, place: u64) -> Option<u8>
-    ensures { IsOffendingByte role first.now line place result }
+fn offending_byte(first: &[u8], role: Role, line: Option<RefusedLine>, offset: u64) -> Option<u8>
+    ensures { IsOffendingByte role first.now line offset result }
 {
     match line {
         Some(line) => Some(line.byte),
-        None => byte_at(first, role, place),
+        None => byte_at(first, role, offset),
     }
 }
 
@@ -175,13 +175,13 @@ fn is_text_as_sent(
     role: Role,
     limits: Limits,
     line: Option<RefusedLine>,
-    place: u64,
+    offset: u64,
 ) -> bool
-    ensures { result ≡ true → IsTextAsSent role limits first.now line place }
+    ensures { result ≡ true → IsTextAsSent role limits first.now line offset }
 {
     match line {
-        Some(line) if is_line_as_text(&line, role, limits, place) => true,
-        _ => is_sent_as_text(first, role, limits, place),
+        Some(line) if is_line_as_text(&line, role, limits, offset) => true,
+        _ => is_sent_as_text(first, role, limits, offset),
     }
 }
 
@@ -218,12 +218,12 @@ fn is_compressed_head(byte: u8) -> bool
 }
 
 /// The byte at this offset of what the endpoint sent, by the lines of these bytes.
-fn byte_at(first: &[u8], role: Role, place: u64) -> Option<u8>
-    ensures { IfSome result (IsSentAt role first.now place) }
+fn byte_at(first: &[u8], role: Role, offset: u64) -> Option<u8>
+    ensures { IfSome result (IsSentAt role first.now offset) }
 {
     let mut side = Input::new(SideReader::new(first, role));
     let mut chunk = [0; CHUNK];
-    let mut before = place;
+    let mut before = offset;
     loop {
         let count = side.read(&mut chunk)?;
         if before < count as u64 {

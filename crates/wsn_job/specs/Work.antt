@@ -38,8 +38,8 @@ IsDone (Redact role limits) old new before after (done.Redact answer) =
 IsDone (Plan role limits) old new before after (done.Plan answer) = IsPlanPrinted role limits old new before after answer
 IsDone (Recut role limits how) old new before after (done.Recut answer) =
     IsRecut role limits (planned_by how) old new before after answer
-IsDone (Payload role limits at) old new before after (done.Payload place answer) =
-    (place ≡ at) × IsPayloadTaken role limits at old new before after answer
+IsDone (Payload role limits at) old new before after (done.Payload offset answer) =
+    (offset ≡ at) × IsPayloadTaken role limits at old new before after answer
 IsDone (ShowStream role limits style) old new before after (done.ShowStream answer) =
     IsStreamShown role limits style old new before after answer
 IsDone (Closing limits format) old new before after (done.Closing answer) =

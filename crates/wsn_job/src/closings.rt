@@ -1,4 +1,5 @@
 ghost use Rattle.std.specs.Prelude.{◌≡◌, ◌⊎◌, false, true};
+ghost use Rattle.std.specs.Str.{IsUtf8};
 ghost use Rattle.wsn_job.specs.Channels.{channels};
 ghost use Rattle.wsn_job.specs.Closings.{IsReportPrinted, IsNamedReportPrinted, IsNamedClosingRun, IsClosingDiagnosed, closing_status, closing_stop_line};
 ghost use Rattle.wsn_job.specs.Diagnostics.{IsDiagnosed};
@@ -11,30 +12,40 @@ use wsn_print::{Format, put_named_report, put_report_as, status_of_outcome};
 use wsn_scan::Limits;
 use wsn_show::ShowStop;
 
+/// What is asked of one of several captures: how its connection closed.
+#[derive(Clone, Copy)]
+pub struct NamedClosing<'a> {
+    /// The name of its file.
+    pub name: &'a str,
+    /// The limits for reading the streams of both endpoints.
+    pub limits: Limits,
+    /// The format of the report.
+    pub format: Format,
+    ghost text: { ∥ IsUtf8 name.now ∥₁ },
+}
+
 /// Judges one of several captures, and prints the report in one line with the name of its file; returns the program's exit
 /// status for this capture.
 ///
 /// 0: both sides of the connection sent a Close. 1: any other report. 2: a stop, which is reported in one line on
 /// `errors`, as [`run`](crate::run) reports it. What can't be written to `errors` is dropped.
 pub fn run_named_closing<R: Read, W: Write, E: Write>(
-    name: &str,
-    limits: Limits,
-    format: Format,
+    closing: &NamedClosing<'_>,
     input: &mut Input<R>,
     output: &mut Output<W>,
     errors: &mut Output<E>,
 ) -> u8
     requires readable { input.old.failed ≡ false }
     requires writable { output.old.failed ≡ false }
-    ensures done { IsNamedClosingRun format name.now limits (channels input.old output.old errors.old)
-        (channels input.new output.new errors.new) result }
+    ensures done { IsNamedClosingRun closing.now.format closing.now.name.now closing.now.limits
+        (channels input.old output.old errors.old) (channels input.new output.new errors.new) result }
     ensures status { (result ≡ 0) ⊎ (result ≡ 1) ⊎ (result ≡ 2) }
 
     // A failed read or write always gives status 2.
     ensures read { input.new.failed ≡ true → result ≡ 2 }
     ensures write { output.new.failed ≡ true → result ≡ 2 }
 {
-    let done = print_named_report(name, input, limits, format, output);
+    let done = print_named_report(closing, input, output);
     diagnose_closing(done, errors);
     status(done)
 }
@@ -42,18 +53,17 @@ pub fn run_named_closing<R: Read, W: Write, E: Write>(
 /// Prints the report of the capture on the input, in one line with the name of its file.
 #[tactic(none)]
 fn print_named_report<R: Read, W: Write>(
-    name: &str,
+    closing: &NamedClosing<'_>,
     input: &mut Input<R>,
-    limits: Limits,
-    format: Format,
     output: &mut Output<W>,
 ) -> Result<CaptureReport, ShowStop>
     requires readable { input.old.failed ≡ false }
     requires writable { output.old.failed ≡ false }
-    ensures { IsNamedReportPrinted format name.now limits input.old input.new output.old output.new result }
+    ensures { IsNamedReportPrinted closing.now.format closing.now.name.now closing.now.limits input.old input.new
+        output.old output.new result }
 {
-    let read = read_capture(input, limits).map_err(ShowStop::Capture)?;
-    match put_named_report(output, format, name, &read.report) {
+    let read = read_capture(input, closing.limits).map_err(ShowStop::Capture)?;
+    match put_named_report(output, closing.format, closing.name, &read.report) {
         Ok(()) => Ok(read),
         Err(_) => Err(ShowStop::Write),
     }

@@ -14,11 +14,11 @@ use crate::diagnostics::diagnose_if_stopped;
 use std::alloc::Allocator;
 use std::io::{Read, Write};
 use wsn_command::{Comparison, Ran};
-use wsn_events::{Compared, FirstDifference, contrast};
+use wsn_events::{Compared, ComparedStreams, FirstDifference, contrast};
+use wsn_io::Output;
 use wsn_print::{ViewLimit, put_compared_as, status_of_comparison};
 use wsn_scan::Stop;
 use wsn_shown_text::put_difference_as;
-use wsn_wire::{Input, Output};
 
 /// Compares the meaning of two streams that endpoints of one role sent, prints the answer, and returns the program's exit
 /// status and the answer.
@@ -32,28 +32,27 @@ use wsn_wire::{Input, Output};
 #[tactic(none)]
 pub fn run_same<A: Allocator + Copy, R: Read, S: Read, W: Write, E: Write>(
     alloc: A,
-    first: &mut Input<R>,
-    second: &mut Input<S>,
+    streams: &mut ComparedStreams<R, S>,
     comparison: Comparison,
     output: &mut Output<W>,
     errors: &mut Output<E>,
 ) -> Ran
-    requires first { first.old.failed ≡ false }
-    requires second { second.old.failed ≡ false }
+    requires first { streams.old.first.failed ≡ false }
+    requires second { streams.old.second.failed ≡ false }
     requires writable { output.old.failed ≡ false }
     ensures done { (done : Result Compared Stop)
-        × IsComparisonPrinted comparison (compared_channels first.old second.old output.old)
-        (compared_channels first.new second.new output.new) done
+        × IsComparisonPrinted comparison (compared_channels streams.old.first streams.old.second output.old)
+        (compared_channels streams.new.first streams.new.second output.new) done
         × (result ≡ ran_with (comparison_status done) (compared_answer done))
         × IsStopDiagnosed done errors.old errors.new }
     ensures status { (result.status ≡ 0) ⊎ (result.status ≡ 1) ⊎ (result.status ≡ 2) }
 
     // A failed read or write always gives status 2.
-    ensures read { first.new.failed ≡ true → result.status ≡ 2 }
-    ensures read_second { second.new.failed ≡ true → result.status ≡ 2 }
+    ensures read { streams.new.first.failed ≡ true → result.status ≡ 2 }
+    ensures read_second { streams.new.second.failed ≡ true → result.status ≡ 2 }
     ensures write { output.new.failed ≡ true → result.status ≡ 2 }
 {
-    let done = print_comparison(alloc, first, second, comparison, output);
+    let done = print_comparison(alloc, streams, comparison, output);
     diagnose_if_stopped(done, errors);
     Ran {
         status: status_of_comparison(done),
@@ -65,16 +64,15 @@ pub fn run_same<A: Allocator + Copy, R: Read, S: Read, W: Write, E: Write>(
 #[tactic(none)]
 pub(crate) fn print_comparison<A: Allocator + Copy, R: Read, S: Read, W: Write>(
     alloc: A,
-    first: &mut Input<R>,
-    second: &mut Input<S>,
+    streams: &mut ComparedStreams<R, S>,
     comparison: Comparison,
     output: &mut Output<W>,
 ) -> Result<Compared, Stop>
-    requires first { first.old.failed ≡ false }
-    requires second { second.old.failed ≡ false }
+    requires first { streams.old.first.failed ≡ false }
+    requires second { streams.old.second.failed ≡ false }
     requires writable { output.old.failed ≡ false }
-    ensures { IsComparisonPrinted comparison (compared_channels first.old second.old output.old)
-        (compared_channels first.new second.new output.new) result }
+    ensures { IsComparisonPrinted comparison (compared_channels streams.old.first streams.old.second output.old)
+        (compared_channels streams.new.first streams.new.second output.new) result }
 {
     let Comparison {
         role,
@@ -82,7 +80,7 @@ pub(crate) fn print_comparison<A: Allocator + Copy, R: Read, S: Read, W: Write>(
         without,
         ..
     } = comparison;
-    let (compared, difference) = contrast(alloc, first, second, role, limits, without)?;
+    let (compared, difference) = contrast(alloc, streams, role, limits, without)?;
     put_answer(output, comparison, compared, &difference)?;
     Ok(compared)
 }

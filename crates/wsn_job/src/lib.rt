@@ -23,10 +23,11 @@ mod sides;
 pub mod status_examples;
 mod verdicts;
 
-pub use closings::run_named_closing;
+pub use closings::{NamedClosing, run_named_closing};
 pub use comparisons::run_same;
 pub use running::run;
 pub use sides::{run_on_side, run_same_on_sides};
 pub use wsn_command::{Answer, Comparison, How, Job, Ran};
+pub use wsn_events::ComparedStreams;
 pub use wsn_print::Format;
 pub use wsn_rules::Without;

@@ -7,10 +7,11 @@ use crate::diagnostics::{diagnose, diagnose_stop, diagnose_verdict};
 use std::alloc::Allocator;
 use std::io::{Read, Write};
 use wsn_command::How;
+use wsn_io::{Input, Output};
 use wsn_plan::{RecutAnswer, recut, recut_uniform};
 use wsn_print::line_of_recut_fault;
 use wsn_scan::{Limits, Stop};
-use wsn_wire::{Input, Output, Role};
+use wsn_wire::Role;
 
 /// Writes the stream's meaning in other frames, by a plan or by size.
 pub(crate) fn recut_input<A: Allocator + Copy, R: Read, W: Write>(

@@ -12,11 +12,11 @@ use std::alloc::Allocator;
 use std::io::{Read, Write};
 use wsn_command::{Job, Ran};
 use wsn_events::normalise;
+use wsn_io::{Input, Output};
 use wsn_list::list_as;
 use wsn_payload::payload;
 use wsn_redact::{redact, redact_capture};
 use wsn_show::{show, show_stream};
-use wsn_wire::{Input, Output};
 
 /// Does a command's work and returns the program's exit status and the answer.
 ///

@@ -14,10 +14,10 @@ use std::alloc::Allocator;
 use std::io::{Read, Write};
 use wsn_capture::{CaptureStop, LineFault, SideReader};
 use wsn_command::{Answer, Comparison, Job, Ran};
-use wsn_events::Compared;
+use wsn_events::{Compared, ComparedStreams};
+use wsn_io::{Input, Output};
 use wsn_print::status_of_comparison;
 use wsn_scan::Stop;
-use wsn_wire::{Input, Output};
 
 /// A line of a capture that isn't accepted: its number, counted from 1, and its first fault.
 #[derive(Clone, Copy)]
@@ -88,30 +88,29 @@ pub fn run_on_side<A: Allocator + Copy, R: Read, W: Write, E: Write>(
 #[tactic(none)]
 pub fn run_same_on_sides<A: Allocator + Copy, R: Read, S: Read, W: Write, E: Write>(
     alloc: A,
-    first: &mut Input<SideReader<R>>,
-    second: &mut Input<SideReader<S>>,
+    sides: &mut ComparedStreams<SideReader<R>, SideReader<S>>,
     comparison: Comparison,
     output: &mut Output<W>,
     errors: &mut Output<E>,
 ) -> Ran
-    requires first { first.old.failed ≡ false }
-    requires second { second.old.failed ≡ false }
+    requires first { sides.old.first.failed ≡ false }
+    requires second { sides.old.second.failed ≡ false }
     requires writable { output.old.failed ≡ false }
     ensures done { (done : Result Compared Stop)
-        × IsComparisonPrinted comparison (compared_channels first.old second.old output.old)
-        (compared_channels first.new second.new output.new) done
+        × IsComparisonPrinted comparison (compared_channels sides.old.first sides.old.second output.old)
+        (compared_channels sides.new.first sides.new.second output.new) done
         × (result.status ≡ comparison_status done)
-        × IsSameDiagnosed first.new second.new done result.answer errors.old errors.new }
+        × IsSameDiagnosed sides.new.first sides.new.second done result.answer errors.old errors.new }
     ensures status { (result.status ≡ 0) ⊎ (result.status ≡ 1) ⊎ (result.status ≡ 2) }
 
     // A failed read, as at a faulty line, or a failed write always gives status 2.
-    ensures read { first.new.failed ≡ true → result.status ≡ 2 }
-    ensures read_second { second.new.failed ≡ true → result.status ≡ 2 }
+    ensures read { sides.new.first.failed ≡ true → result.status ≡ 2 }
+    ensures read_second { sides.new.second.failed ≡ true → result.status ≡ 2 }
     ensures write { output.new.failed ≡ true → result.status ≡ 2 }
 {
-    let done = print_comparison(alloc, first, second, comparison, output);
+    let done = print_comparison(alloc, sides, comparison, output);
     let status = status_of_comparison(done);
-    match faulty_line_of_two(done, first, second) {
+    match faulty_line_of_two(done, &sides.first, &sides.second) {
         Some(line) => {
             line.diagnose(errors);
             Ran {

@@ -59,16 +59,16 @@ module _ (format : Format) (role : Role) (limits : Limits) where
 
   -- the verdict was reached
   reached_soon : (new : Incoming) (came : List ℕ) (verdict : Verdict) → IsReached role limits new came verdict → (new.failed ≡ false) × IsReadUpToRefusal role limits came
-  reached_soon new came (Accepted s) reached = (reached.4, λ fs place reason refused. let one = (one_verdict role limits came reached.0 fs (Accepted s) (Refused (record { place = place; reason = reason })) reached.1 refused).1 in absurd cc)
-  reached_soon new came (Cut s) reached = (reached.4, λ fs place reason refused. let one = (one_verdict role limits came reached.0 fs (Cut s) (Refused (record { place = place; reason = reason })) reached.1 refused).1 in absurd cc)
+  reached_soon new came (Accepted s) reached = (reached.4, λ fs offset reason refused. let one = (one_verdict role limits came reached.0 fs (Accepted s) (Refused (record { offset = offset; reason = reason })) reached.1 refused).1 in absurd cc)
+  reached_soon new came (Cut s) reached = (reached.4, λ fs offset reason refused. let one = (one_verdict role limits came reached.0 fs (Cut s) (Refused (record { offset = offset; reason = reason })) reached.1 refused).1 in absurd cc)
   reached_soon new came (Refused r) reached = (reached.4, soon)
     where
       soon : IsReadUpToRefusal role limits came
-      soon fs place reason refused =
-          let here : IsRefused role limits came reached.0 r.place r.reason = subst (λ (bs : List ℕ). IsRefused role limits bs reached.0 r.place r.reason) (append-nil came) (reached.1 []) in
-          let one : Refused r ≡ Refused (record { place = place; reason = reason }) = (one_verdict role limits came reached.0 fs (Refused r) (Refused (record { place = place; reason = reason })) here refused).1 in
-          let same : r ≡ record { place = place; reason = reason } = cc in
-          let at : r.place ≡ place = ap (λ (x : Refusal). x.place) same in
+      soon fs offset reason refused =
+          let here : IsRefused role limits came reached.0 r.offset r.reason = subst (λ (bs : List ℕ). IsRefused role limits bs reached.0 r.offset r.reason) (append-nil came) (reached.1 []) in
+          let one : Refused r ≡ Refused (record { offset = offset; reason = reason }) = (one_verdict role limits came reached.0 fs (Refused r) (Refused (record { offset = offset; reason = reason })) here refused).1 in
+          let same : r ≡ record { offset = offset; reason = reason } = cc in
+          let at : r.offset ≡ offset = ap (λ (x : Refusal). x.offset) same in
           omega (arith, reached.2, at)
 
   -- ---- the answers
@@ -188,10 +188,10 @@ module _ (format : Format) (role : Role) (limits : Limits) where
 
     -- the bytes before the chunk are not refused
     read_up : IsReadUpToRefusal role limits all_came
-    read_up fs place reason refused =
+    read_up fs offset reason refused =
         omega (
           arith,
-          place_after role limits came (chunk ++ come.past) fs place reason (none_refused role limits old mid chunks scan came heads read) (subst (λ (bs : List ℕ). IsRefused role limits bs fs place reason) after_came refused),
+          place_after role limits came (chunk ++ come.past) fs offset reason (none_refused role limits old mid chunks scan came heads read) (subst (λ (bs : List ℕ). IsRefused role limits bs fs offset reason) after_came refused),
           length-append (came ++ chunk) come.past,
           length-append came chunk,
           short,

@@ -10,14 +10,14 @@ use Rattle.wsn_rules.specs.declared.verdict.Verdict.{Verdict}
 use Rattle.wsn_rules.specs.declared.verdict.Verdict.TheVariants.{Accepted, Cut, Refused}
 use Rattle.wsn_rules.specs.Limits.{Limits}
 use Rattle.wsn_rules.specs.Heads.{AreHeads}
-use Rattle.wsn_rules.specs.Verdict.{IsVerdict}
+use Rattle.wsn_rules.specs.Verdict.{IsVerdict, IsUnrefused}
 use Rattle.wsn_rules.proofs.OneVerdict.{one_verdict}
 use Rattle.wsn_rules.proofs.HeadsGoOn.{one_heads, heads_stay}
 use Rattle.wsn_io.specs.declared.stop.Stop.{Stop}
 use Rattle.wsn_io.specs.declared.stop.Stop.TheVariants as stop
 use Rattle.wsn_print.specs.declared.format.Format.{Format}
 use Rattle.wsn_print.specs.Formats.{heads_text}
-use Rattle.wsn_scan.specs.Judging.{HasVerdictAndHeads, IsReached, IsUnrefused, IsWithinLimit}
+use Rattle.wsn_scan.specs.Judging.{HasVerdictAndHeads, IsReached, IsWithinLimit}
 use Rattle.wsn_list.specs.Listing.{listing, IsPrinted, IsListAnswer, IsListedAs, IsListedWholeAs}
 use Rattle.wsn_io.specs.Stops.{HasNoFailure}
 use Rattle.wsn_scan.proofs.WholeInputs.{of_all, not_past}
@@ -42,7 +42,7 @@ module _ (role : Role) (limits : Limits) where
           subst (λ (bs : List ℕ). AreHeads role limits bs has.frames heads) (sym (append-nil came) ∙ ap (λ (bs : List ℕ). came ++ bs) (sym nothing)) has.are_heads
 
       of : (v : Verdict) → IsReached role limits new came v → IsVerdict role limits came has.frames v → AreHeads role limits (came ++ rest) has.frames heads
-      of (Refused r) is refused = heads_stay role limits came rest has.frames r.place r.reason heads refused has.are_heads
+      of (Refused r) is refused = heads_stay role limits came rest has.frames r.offset r.reason heads refused has.are_heads
       of (Accepted s) is accepted = nothing_more (subst IsAtEnd left is.2)
       of (Cut s) is cut = nothing_more (subst IsAtEnd left is.2)
 

@@ -11,11 +11,11 @@ use Rattle.wsn_io.specs.declared.stop.Stop.TheVariants as stop
 use Rattle.wsn_rules.specs.declared.verdict.Refusal.{Refusal}
 use Rattle.wsn_scan.specs.declared.scan.Scan.{Scan}
 use Rattle.wsn_rules.specs.Limits.{Limits}
-use Rattle.wsn_rules.specs.Verdict.{IsRefused}
+use Rattle.wsn_rules.specs.Verdict.{IsRefused, IsUnrefused}
 use Rattle.wsn_print.specs.declared.format.Format.{Format, TheVariants.{Text}}
 use Rattle.wsn_print.specs.Formats.{heads_text, verdict_text}
 use Rattle.wsn_scan.specs.Feeding.{HasFed}
-use Rattle.wsn_scan.specs.Judging.{HasVerdictAndHeads, IsJudgeAnswer, IsUnrefused, IsWithinLimit, chunk_size}
+use Rattle.wsn_scan.specs.Judging.{HasVerdictAndHeads, IsJudgeAnswer, IsWithinLimit, chunk_size}
 
 -- the lines of the heads, and then the verdict's line
 abbrev pub listing : Format → List HeadInfo → Verdict → List ℕ
@@ -71,8 +71,8 @@ IsPrinted format role limits came before after (Err stopped) =
 -- If the bytes that came are refused, at most `chunk_size` - 1 of them came after the offending byte.
 abbrev pub IsReadUpToRefusal : Role → Limits → List ℕ → Type 0
 IsReadUpToRefusal role limits came =
-    (fs : List Frame) (place : ℕ) (reason : Reason) → IsRefused role limits came fs place reason
-    → length came ≤ place + chunk_size
+    (fs : List Frame) (offset : ℕ) (reason : Reason) → IsRefused role limits came fs offset reason
+    → length came ≤ offset + chunk_size
 
 -- The answer is right for the bytes that came, as a judge's is. If a write failed, no read has, and the bytes that came
 -- end as soon after a refusal as a judge's do.

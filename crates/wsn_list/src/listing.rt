@@ -6,11 +6,11 @@ ghost use Rattle.wsn_scan.specs.Scans.{room_of};
 ghost use Rattle.wsn_list.specs.Listing.{ListsMore, IsEnded, IsListedChunk, PrintsMore, PrintsHeld, IsListed, IsListedAs, IsListedWhole, IsListedWholeAs};
 
 use std::io::{Read, Write};
-use wsn_io::{Stop, put_line};
+use wsn_io::{Input, Output, Stop, put_line};
 use wsn_print::{Format, HeadLines, put_verdict_as};
 use wsn_rules::{Limits, Refusal, Verdict};
 use wsn_scan::{CHUNK, ChunkReader, Part, Scan, Taken};
-use wsn_wire::{Input, Output, Role};
+use wsn_wire::Role;
 
 /// Prints a line for each frame of an input and then the verdict's line, and returns the verdict (RFC 6455 section
 /// 5.2). It reads as [`judge`](wsn_scan::judge) does. A frame's line is printed as soon as its head is complete, if the

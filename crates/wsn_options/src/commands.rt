@@ -2,7 +2,8 @@ use crate::help;
 use crate::help::{captures, plans, streams};
 use crate::options::{
     file, role, with_at, with_capture, with_color, with_events_view, with_file, with_files,
-    with_json, with_limits, with_role, with_text_color, with_view, with_wire, with_without,
+    with_json, with_layout, with_limits, with_role, with_text_color, with_view, with_wire,
+    with_without,
 };
 use crate::recut_options::with_recuts;
 use clap::{Arg, ArgAction, Command};
@@ -177,10 +178,11 @@ fn with_streams<'a>(alloc: Global, command: Command<'a>) -> Result<Command<'a>, 
     command.arg(file(alloc, "second", "SECOND", help).required(true))
 }
 
-/// Adds `--role`, which isn't required, `--view`, `--wire` and the name of a file.
+/// Adds `--role`, which isn't required, `--view`, `--wire`, `--layout` and the name of a file.
 fn with_shown<'a>(alloc: Global, command: Command<'a>) -> Result<Command<'a>, AllocError> {
     let command = command.arg(role(alloc, NO_CAPTURE))?;
-    with_file(alloc, with_wire(alloc, with_view(alloc, command)?)?)
+    let command = with_wire(alloc, with_view(alloc, command)?)?;
+    with_file(alloc, with_layout(alloc, command)?)
 }
 
 /// Adds `--role`, which isn't required, `--capture` and the name of a file.

@@ -8,6 +8,8 @@ static ENCODINGS: [&str; 2] = ["shortest", "any"];
 
 static CONTROLS: [&str; 3] = ["ping", "pong", "close"];
 
+static LAYOUTS: [&str; 2] = ["lines", "people"];
+
 static COLORS: [&str; 3] = ["auto", "always", "never"];
 
 /// An option that takes a value.
@@ -88,6 +90,14 @@ pub fn with_wire<'a>(alloc: Global, command: Command<'a>) -> Result<Command<'a>,
         .long("wire")
         .action(ArgAction::SetTrue);
     command.arg(wire.help("Show frames, as frames lists them, in place of\nevents"))
+}
+
+/// Adds `--layout`, which isn't for JSON.
+pub fn with_layout<'a>(alloc: Global, command: Command<'a>) -> Result<Command<'a>, AllocError> {
+    let help =
+        "Print entries as lines of words, or for people\nin columns\n[default: people on a terminal with colours,\nelse lines]";
+    let layout = option(alloc, "layout", "lines|people", help);
+    command.arg(one_of(layout, &LAYOUTS).conflicts_with("json")?)
 }
 
 /// Adds `--without`.

@@ -12,7 +12,7 @@ use Rattle.wsn_page.specs.declared.settings.Settings.{Settings}
 abbrev pub role_asked : Settings → Role
 role_asked settings = if settings.role == 0 then Client else Server
 
--- the limits: 0 stands for any number of frames in a message, and an input may have 2^40 bytes
+-- the limits: 0 means any number of frames in a message, and an input may have 2^40 bytes
 abbrev pub limits_asked : Settings → Limits
 limits_asked settings = record {
   message = min settings.limit 16777216;

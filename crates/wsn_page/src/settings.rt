@@ -7,7 +7,7 @@ use wsn_wire::{Lengths, Role};
 #[repr(C)]
 #[derive(Clone, Copy)]
 pub struct Settings {
-    /// The maximum number of bytes in a message. A number over 16,777,216 stands for that.
+    /// The maximum number of bytes in a message. A greater number than 16,777,216 means 16,777,216.
     pub limit: u32,
     /// The maximum number of frames in a message; 0 for any number.
     pub frames: u32,

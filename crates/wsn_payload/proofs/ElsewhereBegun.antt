@@ -36,7 +36,7 @@ past_elsewhere fs f at from to differs = record { over = to; other = by (cases_B
     by (inr other) (inr more) some is = differs (offset_of_data fs f other ∙ sym (offset_after_fragment fs f (ap not other) more) ∙ is)
 
 -- The offset of an event isn't in another frame of these.
-elsewhere : (before later front rest : List Frame) (f x : Frame) (info : HeadInfo) → before ++ f ∷ later ≡ front ++ x ∷ rest → f.fin ≡ true → info ≡ info_of (length (stream front)) x → info.place ≤ event_offset before f → event_offset before f < end_of info
+elsewhere : (before later front rest : List Frame) (f x : Frame) (info : HeadInfo) → before ++ f ∷ later ≡ front ++ x ∷ rest → f.fin ≡ true → info ≡ info_of (length (stream front)) x → info.offset ≤ event_offset before f → event_offset before f < end_of info
     → event_offset front (frame_so_far info []) ≢ event_offset before f → ⊥
 elsewhere before later front rest f x info same final info_is from to differs =
     elim (split before front later rest f x same) [
@@ -52,7 +52,7 @@ elsewhere before later front rest f x info same final info_is from to differs =
     at = event_offset before f
 
     from_front : length (stream front) ≤ event_offset before f
-    from_front = subst (λ (i : HeadInfo). i.place ≤ event_offset before f) info_is from
+    from_front = subst (λ (i : HeadInfo). i.offset ≤ event_offset before f) info_is from
 
     to_front : event_offset before f < length (stream (front ++ x ∷ []))
     to_front = let there = subst (λ (i : HeadInfo). event_offset before f < end_of i) info_is to in omega (arith, there, frame_end front x)
@@ -60,9 +60,9 @@ elsewhere before later front rest f x info same final info_is from to differs =
     own_differs : event_offset front x ≢ event_offset before f
     own_differs = subst (λ (i : HeadInfo). event_offset front (frame_so_far i []) ≢ event_offset before f) info_is differs
 
-heads_prefix : (place : ℕ) (fs gs : List Frame) → (more : List HeadInfo) × (heads_from place (fs ++ gs) ≡ heads_from place fs ++ more)
-heads_prefix place [] gs = (heads_from place gs, refl)
-heads_prefix place (f ∷ fs) gs = let r = heads_prefix (place + length (frame_bytes f)) fs gs in (r.0, ap (λ (hs : List HeadInfo). info_of place f ∷ hs) r.1)
+heads_prefix : (offset : ℕ) (fs gs : List Frame) → (more : List HeadInfo) × (heads_from offset (fs ++ gs) ≡ heads_from offset fs ++ more)
+heads_prefix offset [] gs = (heads_from offset gs, refl)
+heads_prefix offset (f ∷ fs) gs = let r = heads_prefix (offset + length (frame_bytes f)) fs gs in (r.0, ap (λ (hs : List HeadInfo). info_of offset f ∷ hs) r.1)
 
 -- The head after those of the frames `front` is that of the next frame.
 next_head : (front : List Frame) (g : Frame) (gs : List Frame) (begun : List HeadInfo) (info : HeadInfo) → heads_of front ++ info ∷ [] ≡ heads_of (front ++ g ∷ gs) ++ begun → info ≡ info_of (length (stream front)) g
@@ -131,15 +131,15 @@ module _ (role : Role) (limits : Limits) (bytes : List ℕ) where
   -- ---- the offset of an event
 
   module _ (fs before later : List Frame) (f : Frame) (parts : fs ≡ before ++ f ∷ later) (final : f.fin ≡ true) (lawful : IsLawful role limits fs) (after : List ℕ) (whole : bytes ≡ stream fs ++ after) where
-    abbrev place : ℕ
-    place = event_offset before f
+    abbrev offset : ℕ
+    offset = event_offset before f
 
-    pub never_inside : (start : EventStart) (w : IsInsideAt role limits bytes place start) (extra : List Frame) → fs ≡ w.before ++ extra → ⊥
+    pub never_inside : (start : EventStart) (w : IsInsideAt role limits bytes offset start) (extra : List Frame) → fs ≡ w.before ++ extra → ⊥
     never_inside start w [] goes =
-        let past = (subst (λ (hs : List Frame). ArePast hs place) (sym parts ∙ goes ∙ append-nil w.before) (past_within before later f place final refl)).over in
+        let past = (subst (λ (hs : List Frame). ArePast hs offset) (sym parts ∙ goes ∙ append-nil w.before) (past_within before later f offset final refl)).over in
         let from = w.elsewhere.from in
-        let there = (head_of_inside place start w).head.place in
+        let there = (head_of_inside offset start w).head.offset in
         omega (arith, past, from, there)
     never_inside start w (x ∷ rest) goes =
-        let is = head_of_next w.before w.info (head_of_inside place start w) x rest after (subst (IsLawful role limits) goes lawful) (whole ∙ ap (λ (hs : List Frame). stream hs ++ after) goes) in
+        let is = head_of_next w.before w.info (head_of_inside offset start w) x rest after (subst (IsLawful role limits) goes lawful) (whole ∙ ap (λ (hs : List Frame). stream hs ++ after) goes) in
         elsewhere before later w.before rest f x w.info (sym parts ∙ goes) final is w.elsewhere.from w.elsewhere.to (λ same. w.elsewhere.other (w.elsewhere.is_start.offset ∙ same))

@@ -48,8 +48,8 @@ module _ (role : Role) (limits : Limits) (bytes : List ℕ) (fs : List Frame) (a
       let used : s.used ≡ length bytes = ap (λ (t : Summary). t.used) is.1 in
       (is.0.no_close, omega (arith, used, ltb-true at s.used judged))
   judged_after (Refused r) is after judged =
-      let size = length-take-le (r.place + 1) bytes (place_within role limits fs bytes r.place r.reason is.is_evident) in
-      (is.no_close, omega (arith, size, leb-true at r.place judged))
+      let size = length-take-le (r.offset + 1) bytes (place_within role limits fs bytes r.offset r.reason is.is_evident) in
+      (is.no_close, omega (arith, size, leb-true at r.offset judged))
 
   -- One that it doesn't: after a Close, or after all that came.
   not_judged : (v : Verdict) → IsVerdict role limits bytes fs v → length (stream fs) ≤ at → is_judged v at ≡ false → EndsWithClose fs ⊎ (length (judged_bytes v bytes) ≤ at)
@@ -62,8 +62,8 @@ module _ (role : Role) (limits : Limits) (bytes : List ℕ) (fs : List Frame) (a
       let used : s.used ≡ length bytes = ap (λ (t : Summary). t.used) is.1 in
       inr (omega (arith, used, ltb-false at s.used judged))
   not_judged (Refused r) is after judged =
-      let size = length-take-le (r.place + 1) bytes (place_within role limits fs bytes r.place r.reason is.is_evident) in
-      inr (omega (arith, size, leb-false at r.place judged))
+      let size = length-take-le (r.offset + 1) bytes (place_within role limits fs bytes r.offset r.reason is.is_evident) in
+      inr (omega (arith, size, leb-false at r.offset judged))
 
   module _ (kept : EventAt) (position : Position) (payload : List ℕ) (k : KeepsEventAt kept at fs position payload) (v : Verdict) (a : AreApart role limits bytes v fs position) (end : EndBefore fs position at) where
     abbrev ends : EndsBefore role limits bytes v at

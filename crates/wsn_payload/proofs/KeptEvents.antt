@@ -50,10 +50,10 @@ continue_other op is = (λ same. let both : Continue ≡ Text = sym is ∙ same 
 
 -- What the code has of it: the first frame of the open message, and that of the frame's event.
 pub record HasStarts (kept : EventAt) (info : HeadInfo) (message start : EventStart) : Type 0 where
-  pub first : (info.op ≡ Text) ⊎ (info.op ≡ Binary) → (message.op ≡ info.op) × (message.offset ≡ info.place)
+  pub first : (info.op ≡ Text) ⊎ (info.op ≡ Binary) → (message.op ≡ info.op) × (message.offset ≡ info.offset)
   pub other : info.op ≢ Text → info.op ≢ Binary → message ≡ kept.message
   pub op : start.op ≡ (if is_control info.op then info.op else message.op)
-  pub offset : start.offset ≡ (if is_control info.op then info.place else message.offset)
+  pub offset : start.offset ≡ (if is_control info.op then info.offset else message.offset)
 
 module _ (kept : EventAt) (at : ℕ) (fs : List Frame) (info : HeadInfo) (text : List ℕ) (may : MayBegin fs info) (k : KeepsEventAt kept at fs BetweenFrames text)
     (message start : EventStart) (s : HasStarts kept info message start) where
@@ -77,7 +77,7 @@ module _ (kept : EventAt) (at : ℕ) (fs : List Frame) (info : HeadInfo) (text :
       by (inr begins) =
           let none = may.begins begins in
           let is = s.first begins in
-          (is.1 ∙ may.place ∙ sym (offset_of_none fs none), is.0 ∙ ap (λ (gs : List Frame). first_op (gs ++ f ∷ [])) (sym none))
+          (is.1 ∙ may.offset ∙ sym (offset_of_none fs none), is.0 ∙ ap (λ (gs : List Frame). first_op (gs ++ f ∷ [])) (sym none))
 
   kept_open : is_control info.op ≡ true → IsOpen fs → (message.offset ≡ open_offset fs) × (message.op ≡ first_op (unfinished fs))
   kept_open control = let differs = control_other info.op control in same_open (s.other differs.0 differs.1)
@@ -85,8 +85,8 @@ module _ (kept : EventAt) (at : ℕ) (fs : List Frame) (info : HeadInfo) (text :
   offset_is : start.offset ≡ event_offset fs f
   offset_is =
       elim (cases_Bool (is_control info.op)) [
-        | inl control ↦ s.offset ∙ cond-true (is_control info.op) info.place message.offset control ∙ may.place ∙ sym (offset_of_control fs f control)
-        | inr other ↦ s.offset ∙ cond-false (is_control info.op) info.place message.offset other ∙ (joined other).0 ∙ sym (offset_of_data fs f other)
+        | inl control ↦ s.offset ∙ cond-true (is_control info.op) info.offset message.offset control ∙ may.offset ∙ sym (offset_of_control fs f control)
+        | inr other ↦ s.offset ∙ cond-false (is_control info.op) info.offset message.offset other ∙ (joined other).0 ∙ sym (offset_of_data fs f other)
       ]
 
   op_is : start.op ≡ (if is_control info.op then info.op else first_op (unfinished fs ++ f ∷ []))
@@ -155,7 +155,7 @@ module _ (kept : EventAt) (at : ℕ) (fs : List Frame) (info : HeadInfo) (text :
         let was : EndBefore fs BetweenFrames at × (text ≡ []) = subst (λ (b : Bool). HasBegunAt b fs BetweenFrames at text) none k.begun in
         let there = was.0 in (
           record {
-            from = let place = may.place in omega (arith, there, place);
+            from = let offset = may.offset in omega (arith, there, offset);
             to = subst (λ (n : ℕ). n < end_of info) k.sought ends;
             is_start = record { op = op_is; offset = offset_is };
             other = λ same. no_false own (own_frame.1 (sym offset_is ∙ same)) fails;
@@ -182,8 +182,8 @@ module _ (kept : EventAt) (at : ℕ) (fs : List Frame) (info : HeadInfo) (part m
             ∙ ap (λ (bs : List ℕ). bs ++ more) (sym (content_of_data fs here other))
       ]
 
-  pub goes_on : info.place ≡ length (stream fs) → KeepsEventAt kept at fs (InFrame info part) text → KeepsEventAt kept at fs (InFrame info (part ++ more)) (text ++ own_part kept more)
-  goes_on place k = record {
+  pub goes_on : info.offset ≡ length (stream fs) → KeepsEventAt kept at fs (InFrame info part) text → KeepsEventAt kept at fs (InFrame info (part ++ more)) (text ++ own_part kept more)
+  goes_on offset k = record {
     sought = k.sought;
     frame = (k.frame.0, λ other. ((k.frame.1 other).0, (k.frame.1 other).1 ∙ first_alike (unfinished fs) here longer refl), k.frame.2);
     next = k.next;
@@ -207,7 +207,7 @@ module _ (kept : EventAt) (at : ℕ) (fs : List Frame) (info : HeadInfo) (part m
       by false is =
           let ends = is.0 in
           let within = offset_within fs here in
-          (is.0, none_more (not_own (λ same. omega (arith, ends, within, same, place))) ∙ is.1)
+          (is.0, none_more (not_own (λ same. omega (arith, ends, within, same, offset))) ∙ is.1)
 
 -- ---- a frame ends
 

@@ -96,16 +96,16 @@ not_begun fs BetweenFrames at payload past is = past.other is.some is.begins
 not_begun fs (InFrame info part) at payload past (inl is) = past.other is.1.some is.1.begins
 not_begun fs (InFrame info part) at payload past (inr is) = past_differs fs (frame_so_far info part) at past is.0
 
-pub not_before : (fs : List Frame) (position : Position) (at : ℕ) → ArePast fs at → ((info : HeadInfo) (part : List ℕ) → position ≡ InFrame info part → info.place ≡ length (stream fs)) → EndBefore fs position at → ⊥
-not_before fs BetweenFrames at past place ends = let over = past.over in omega (arith, over, ends)
-not_before fs (InFrame info part) at past place ends = let over = past.over in let there = place info part refl in omega (arith, over, ends, there)
+pub not_before : (fs : List Frame) (position : Position) (at : ℕ) → ArePast fs at → ((info : HeadInfo) (part : List ℕ) → position ≡ InFrame info part → info.offset ≡ length (stream fs)) → EndBefore fs position at → ⊥
+not_before fs BetweenFrames at past offset ends = let over = past.over in omega (arith, over, ends)
+not_before fs (InFrame info part) at past offset ends = let over = past.over in let there = offset info part refl in omega (arith, over, ends, there)
 
 -- ---- of a stream
 
 -- A frame that has begun begins where the whole frames end.
-pub place_of : (role : Role) (limits : Limits) (bytes : List ℕ) (verdict : Verdict) (fs : List Frame) (position : Position) → AreApart role limits bytes verdict fs position → (info : HeadInfo) (part : List ℕ) → position ≡ InFrame info part → info.place ≡ length (stream fs)
+pub place_of : (role : Role) (limits : Limits) (bytes : List ℕ) (verdict : Verdict) (fs : List Frame) (position : Position) → AreApart role limits bytes verdict fs position → (info : HeadInfo) (part : List ℕ) → position ≡ InFrame info part → info.offset ≡ length (stream fs)
 place_of role limits bytes verdict fs BetweenFrames a info part is_at = let both : BetweenFrames ≡ InFrame info part = is_at in cc
-place_of role limits bytes verdict fs (InFrame own taken) a info part is_at = let own_is : own ≡ info = cc in ap (λ (i : HeadInfo). i.place) (sym own_is) ∙ a.is_rest.1.0.place
+place_of role limits bytes verdict fs (InFrame own taken) a info part is_at = let own_is : own ≡ info = cc in ap (λ (i : HeadInfo). i.offset) (sym own_is) ∙ a.is_rest.1.0.offset
 
 module _ (role : Role) (limits : Limits) (bytes : List ℕ) (fs before later : List Frame) (f : Frame) (verdict : Verdict) (is : IsVerdict role limits bytes fs verdict) (parts : fs ≡ before ++ f ∷ later) (final : f.fin ≡ true)
     (lawful : IsLawful role limits fs) where

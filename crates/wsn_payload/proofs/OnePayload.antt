@@ -68,14 +68,14 @@ module _ (role : Role) (limits : Limits) (bytes : List ℕ) where
   one_begun_payload fs (InFrame info part) at payload other (inr is) (inr also) = is.1 ∙ sym also.1
 
   -- A frame ends after its first byte.
-  after_place : (info : HeadInfo) → info.place < end_of info
+  after_place : (info : HeadInfo) → info.offset < end_of info
   after_place info = omega arith
 
   -- What has begun begins before the end of what is there.
-  begun_not_before : (fs : List Frame) (position : Position) (at : ℕ) (payload : List ℕ) → ((info : HeadInfo) (part : List ℕ) → position ≡ InFrame info part → info.place ≡ length (stream fs)) → IsBegunAt fs position at payload → EndBefore fs position at → ⊥
-  begun_not_before fs BetweenFrames at payload place is ends = omega (arith, open_before fs is.some, is.begins, ends)
-  begun_not_before fs (InFrame info part) at payload place (inl is) ends = omega (arith, open_before fs is.1.some, is.1.begins, ends, after_place info, place info part refl)
-  begun_not_before fs (InFrame info part) at payload place (inr is) ends = omega (arith, offset_within fs (frame_so_far info part), is.0, ends, after_place info, place info part refl)
+  begun_not_before : (fs : List Frame) (position : Position) (at : ℕ) (payload : List ℕ) → ((info : HeadInfo) (part : List ℕ) → position ≡ InFrame info part → info.offset ≡ length (stream fs)) → IsBegunAt fs position at payload → EndBefore fs position at → ⊥
+  begun_not_before fs BetweenFrames at payload offset is ends = omega (arith, open_before fs is.some, is.begins, ends)
+  begun_not_before fs (InFrame info part) at payload offset (inl is) ends = omega (arith, open_before fs is.1.some, is.1.begins, ends, after_place info, offset info part refl)
+  begun_not_before fs (InFrame info part) at payload offset (inr is) ends = omega (arith, offset_within fs (frame_so_far info part), is.0, ends, after_place info, offset info part refl)
 
   -- One verdict, one list of frames and one position fit the bytes.
   one_apart : (v w : Verdict) (fs gs : List Frame) (p q : Position) → AreApart role limits bytes v fs p → AreApart role limits bytes w gs q → (v ≡ w) × (fs ≡ gs) × (p ≡ q)
@@ -185,7 +185,7 @@ module _ (role : Role) (limits : Limits) (bytes : List ℕ) where
         is = head_of_next role limits bytes w.before w.info (head_of_inside role limits bytes at start w) x xs after lawful whole
 
         from : length (stream w.before) ≤ at
-        from = subst (λ (i : HeadInfo). i.place ≤ at) is w.elsewhere.from
+        from = subst (λ (i : HeadInfo). i.offset ≤ at) is w.elsewhere.from
 
         to : at < length (stream (w.before ++ x ∷ []))
         to = let there = subst (λ (i : HeadInfo). at < end_of i) is w.elsewhere.to in omega (arith, there, frame_end w.before x)
@@ -221,9 +221,9 @@ module _ (role : Role) (limits : Limits) (bytes : List ℕ) where
         let k = head_of_inside role limits bytes at other v in
         let past = past_frame start w x xs k.rest (subst (IsLawful role limits) goes k.lawful) (k.whole ∙ ap (λ (hs : List Frame). stream hs ++ k.rest) goes) in
         let over = (subst (λ (hs : List Frame). ArePast hs at) (sym goes) past).over in
-        let place = k.head.place in
+        let offset = k.head.offset in
         let from = v.elsewhere.from in
-        absurd (omega (arith, over, place, from))
+        absurd (omega (arith, over, offset, from))
 
     -- The offset is inside one event.
     pub one_inside : (start other : EventStart) → IsInsideAt role limits bytes at start → IsInsideAt role limits bytes at other → start ≡ other
@@ -252,13 +252,13 @@ module _ (role : Role) (limits : Limits) (bytes : List ℕ) where
         later : List ℕ
         later = is.is_evident.later
 
-        size : length (stream fs ++ seen) ≡ r.place + 1
-        size = length-append (stream fs) seen ∙ sym is.is_evident.at_place
+        size : length (stream fs ++ seen) ≡ r.offset + 1
+        size = length-append (stream fs) seen ∙ sym is.is_evident.at_offset
 
-        judged : drop (length (stream fs)) (take (r.place + 1) bytes) ≡ seen
+        judged : drop (length (stream fs)) (take (r.offset + 1) bytes) ≡ seen
         judged =
-            ap (λ (bs : List ℕ). drop (length (stream fs)) (take (r.place + 1) bs)) (is.is_evident.whole ∙ sym (append_assoc (stream fs) seen later))
-            ∙ ap (λ (bs : List ℕ). drop (length (stream fs)) bs) (take_at (stream fs ++ seen) later (r.place + 1) size) ∙ drop_at (stream fs) seen (length (stream fs)) refl
+            ap (λ (bs : List ℕ). drop (length (stream fs)) (take (r.offset + 1) bs)) (is.is_evident.whole ∙ sym (append_assoc (stream fs) seen later))
+            ∙ ap (λ (bs : List ℕ). drop (length (stream fs)) bs) (take_at (stream fs ++ seen) later (r.offset + 1) size) ∙ drop_at (stream fs) seen (length (stream fs)) refl
 
         rest_is : seen ++ later ≡ b.head ++ b.following
         rest_is = append_cancel (stream fs) (seen ++ later) (b.head ++ b.following) (sym is.is_evident.whole ∙ h.whole ∙ ap (λ (bs : List ℕ). stream fs ++ bs) b.whole)
@@ -267,7 +267,7 @@ module _ (role : Role) (limits : Limits) (bytes : List ℕ) where
         begins =
             elim (two_fronts seen b.head later b.following rest_is) [
               | inl p ↦ absurd (b.has_no_evidence.none seen p.0 r.reason p.1 is.is_evident.evidence)
-              | inr p ↦ record { head = b.head; following = p.0; whole = p.1; place = b.place; encoded = b.encoded; key = b.key; form = b.form; size = b.size; has_no_evidence = b.has_no_evidence }
+              | inr p ↦ record { head = b.head; following = p.0; whole = p.1; offset = b.offset; encoded = b.encoded; key = b.key; form = b.form; size = b.size; has_no_evidence = b.has_no_evidence }
             ]
 
     -- After these frames the position is in the frame with this head.
@@ -298,17 +298,17 @@ module _ (role : Role) (limits : Limits) (bytes : List ℕ) where
       differs same = w.elsewhere.other (w.elsewhere.is_start.offset ∙ same)
 
       from : length (stream w.before) ≤ at
-      from = let place = head.head.place in let first = w.elsewhere.from in omega (arith, place, first)
+      from = let offset = head.head.offset in let first = w.elsewhere.from in omega (arith, offset, first)
 
       -- If the frame in which the offset is isn't whole, the event hasn't begun, and that frame doesn't end before the offset.
       there_is_no_part : (v : Verdict) (fs : List Frame) (position : Position) (payload : List ℕ) → AreApart role limits bytes v fs position → fs ≡ w.before → IsBegunAt fs position at payload ⊎ EndBefore fs position at → ⊥
-      there_is_no_part v fs position payload a same is = by (subst (λ (p : Position). IsBegunAt fs p at payload ⊎ EndBefore fs p at) place.1 is)
+      there_is_no_part v fs position payload a same is = by (subst (λ (p : Position). IsBegunAt fs p at payload ⊎ EndBefore fs p at) offset.1 is)
         where
-          place : (part : List ℕ) × (position ≡ InFrame w.info part)
-          place = in_frame v fs position w.info a (subst (λ (hs : List Frame). IsHeadAfter role limits bytes hs w.info) (sym same) head)
+          offset : (part : List ℕ) × (position ≡ InFrame w.info part)
+          offset = in_frame v fs position w.info a (subst (λ (hs : List Frame). IsHeadAfter role limits bytes hs w.info) (sym same) head)
 
-          by : IsBegunAt fs (InFrame w.info place.0) at payload ⊎ (end_of w.info ≤ at) → ⊥
-          by (inl begun) = begun_elsewhere w.before w.info place.0 payload from differs (subst (λ (hs : List Frame). IsBegunAt hs (InFrame w.info place.0) at payload) same begun)
+          by : IsBegunAt fs (InFrame w.info offset.0) at payload ⊎ (end_of w.info ≤ at) → ⊥
+          by (inl begun) = begun_elsewhere w.before w.info offset.0 payload from differs (subst (λ (hs : List Frame). IsBegunAt hs (InFrame w.info offset.0) at payload) same begun)
           by (inr ends) = let to = w.elsewhere.to in omega (arith, ends, to)
 
       -- The same, whether that frame is whole or not.

@@ -13,12 +13,12 @@ use Rattle.wsn_rules.specs.declared.verdict.Verdict.{Verdict}
 use Rattle.wsn_rules.specs.declared.verdict.Verdict.TheVariants.{Accepted, Cut, Refused}
 use Rattle.wsn_rules.specs.Accepted.{EndsWithClose}
 use Rattle.wsn_rules.specs.Limits.{Limits}
-use Rattle.wsn_rules.specs.Verdict.{IsRefused, IsVerdict, judged_bytes}
+use Rattle.wsn_rules.specs.Verdict.{IsRefused, IsVerdict, judged_bytes, IsUnrefused}
 use Rattle.wsn_rules.proofs.StaysRefused.{place_within}
 use Rattle.wsn_scan.specs.declared.chunk_reader.ChunkReader.{ChunkReader}
 use Rattle.wsn_scan.specs.declared.scan.Scan.{Scan}
 use Rattle.wsn_scan.specs.ChunkReaders.{HasCome, IsEndOf, IsHaltOf}
-use Rattle.wsn_scan.specs.Judging.{IsReached, IsUnrefused, IsWithinLimit, chunk_size}
+use Rattle.wsn_scan.specs.Judging.{IsReached, IsWithinLimit, chunk_size}
 use Rattle.wsn_scan.specs.Positions.{Position, BetweenFrames}
 use Rattle.wsn_scan.specs.Scans.{HasScanned}
 use Rattle.wsn_scan.proofs.ChunksSoFar.{received}
@@ -128,7 +128,7 @@ module _ (role : Role) (limits : Limits) (at : ℕ) where
       reached : (w : Verdict) → IsVerdict role limits came h.frames w → IsReached role limits new came w
       reached (Accepted s) is_w = (h.frames, is_w, end.at_end, end.within, end.unfailed)
       reached (Cut s) is_w = (h.frames, is_w, end.at_end, end.within, end.unfailed)
-      reached (Refused r) is_w = absurd (none_refused h.frames r.place r.reason is_w)
+      reached (Refused r) is_w = absurd (none_refused h.frames r.offset r.reason is_w)
 
       pub ended : (answer : Payload) → answer ≡ ended_answer kept v → IsPayloadTaken role limits at old new first now (Ok answer)
       ended answer answer_is = record {
@@ -199,15 +199,15 @@ module _ (role : Role) (limits : Limits) (at : ℕ) where
       refused_reached : (n : ℕ) (v : Verdict) → length (came ++ take n chunk) ≤ limits.input → IsRefusedHere role limits (came ++ take n chunk) v → IsReached role limits new all_came v
       refused_reached n v most r =
           let rest = drop n chunk ++ come.past in
-          let place = r.place in
-          let after_came : length came ≤ r.refusal.place =
-          place_after role limits came (take n chunk) r.frames r.refusal.place r.refusal.reason none_refused (subst (λ (bs : List ℕ). IsRefused role limits bs r.frames r.refusal.place r.refusal.reason) (append-nil (came ++ take n chunk)) (r.refused [])) in
+          let offset = r.offset in
+          let after_came : length came ≤ r.refusal.offset =
+          place_after role limits came (take n chunk) r.frames r.refusal.offset r.refusal.reason none_refused (subst (λ (bs : List ℕ). IsRefused role limits bs r.frames r.refusal.offset r.refusal.reason) (append-nil (came ++ take n chunk)) (r.refused [])) in
           subst (λ (w : Verdict). IsReached role limits new all_came w) (sym r.is) (
             r.frames,
-            λ more. subst (λ (bs : List ℕ). IsRefused role limits bs r.frames r.refusal.place r.refusal.reason)
+            λ more. subst (λ (bs : List ℕ). IsRefused role limits bs r.frames r.refusal.offset r.refusal.reason)
                 (sym (append_assoc (came ++ take n chunk) rest more) ∙ ap (λ (bs : List ℕ). bs ++ more) (sym (after_first n))) (r.refused (rest ++ more)),
             omega (arith, length-append (came ++ chunk) come.past, length-append came chunk, short, after_came),
-            omega (arith, most, place),
+            omega (arith, most, offset),
             come.unfailed,
           )
 
@@ -247,7 +247,7 @@ module _ (role : Role) (limits : Limits) (at : ℕ) (old new : Incoming) (before
       -- and the bytes of which it takes account are the same
       same_judged : (rest : List ℕ) (v : Verdict) (fs : List Frame) → new.remaining ≡ Some rest → all ≡ came ++ rest → IsVerdict role limits came fs v → IsReached role limits new came v → judged_bytes v all ≡ judged_bytes v came
       same_judged rest (Refused r) fs left is is_verdict reached =
-          ap (λ (bs : List ℕ). take (r.place + 1) bs) is ∙ take-append-le (r.place + 1) came rest (place_within role limits fs came r.place r.reason is_verdict.is_evident)
+          ap (λ (bs : List ℕ). take (r.offset + 1) bs) is ∙ take-append-le (r.offset + 1) came rest (place_within role limits fs came r.offset r.reason is_verdict.is_evident)
       same_judged rest (Accepted s) fs left is is_verdict reached =
           let nothing : rest ≡ [] = subst IsAtEnd left reached.2 in
           is ∙ ap (λ (bs : List ℕ). came ++ bs) nothing ∙ append-nil came

@@ -57,7 +57,7 @@ module _ (role : Role) (limits : Limits) (scan : Scan) (came : List ℕ) (done :
   all_judged : (v : Verdict) → IsVerdict role limits came done v → judged_bytes v came ≡ came
   all_judged (Accepted s) is = refl
   all_judged (Cut s) is = refl
-  all_judged (Refused r) is = absurd (unrefused_so_far role limits scan came done position rest h done r.place r.reason is)
+  all_judged (Refused r) is = absurd (unrefused_so_far role limits scan came done position rest h done r.offset r.reason is)
 
   pub apart : (v : Verdict) → IsVerdict role limits came done v → AreApart role limits came v done position
   apart v is = record {
@@ -75,15 +75,15 @@ module _ (role : Role) (limits : Limits) (scan : Scan) (came : List ℕ) (done :
       let field = (first_byte_fields info.fin info.op).opcode_is in
       let most = few role limits scan came done position rest h in
       let size = rest_few role limits scan came done position rest h in
-      let place = b.place in
+      let offset = b.offset in
       record {
         continues = λ op none. b.has_no_evidence.none (first ∷ []) _ NothingToContinue b.encoded (ByFirst first refl (field ∙ ap opcode op, none));
         begins = λ op. elim (open_or_not done) [
           | inl none ↦ none
           | inr some ↦ absurd (b.has_no_evidence.none (first ∷ []) _ MessageOpen b.encoded (ByFirst first refl (elim op [ inl text ↦ inl (field ∙ ap opcode text) | inr binary ↦ inr (field ∙ ap opcode binary) ], some)))
         ];
-        place = b.place;
-        few = omega (arith, most, size, place);
+        offset = b.offset;
+        few = omega (arith, most, size, offset);
         size = b.size;
         key = b.key;
       }
@@ -122,7 +122,7 @@ whole_may role limits done f lawful few_bytes =
         | inl none ↦ none
         | inr some ↦ absurd (differs op ((law.group (data_of f.op (inr op))).continues.1 some))
       ];
-      place = refl;
+      offset = refl;
       few = few_bytes;
       size = can.size;
       key = can.key;
@@ -315,14 +315,14 @@ module _ (role : Role) (limits : Limits) (at : ℕ) (old new : Scan) (chunk afte
           ),
         )
 
-    place_is : refusal.place + 1 ≡ length (came ++ share)
-    place_is = reaches.1.place
+    offset_is : refusal.offset + 1 ≡ length (came ++ share)
+    offset_is = reaches.1.offset
 
     refused_apart : (later : List ℕ) → AreApart role limits ((came ++ share) ++ later) (Refused refusal) done (with_evidence h.position evidence)
     refused_apart later =
-        let front : take (refusal.place + 1) ((came ++ share) ++ later) ≡ came ++ share =
-        take-append-le (refusal.place + 1) (came ++ share) later (omega (arith, place_is)) ∙ take_all (refusal.place + 1) (came ++ share) (omega (arith, place_is)) in
-        let seen : drop (length (stream done)) (take (refusal.place + 1) ((came ++ share) ++ later)) ≡ longer =
+        let front : take (refusal.offset + 1) ((came ++ share) ++ later) ≡ came ++ share =
+        take-append-le (refusal.offset + 1) (came ++ share) later (omega (arith, offset_is)) ∙ take_all (refusal.offset + 1) (came ++ share) (omega (arith, offset_is)) in
+        let seen : drop (length (stream done)) (take (refusal.offset + 1) ((came ++ share) ++ later)) ≡ longer =
         ap (λ (bs : List ℕ). drop (length (stream done)) bs) (front ∙ reaches.0.has_consumed.whole) ∙ drop_at (stream done) longer (length (stream done)) refl in
         record {
           is_verdict = reaches.1.refused later;
@@ -336,13 +336,13 @@ module _ (role : Role) (limits : Limits) (at : ℕ) (old new : Scan) (chunk afte
     with_it : (p : Position) → h.position ≡ p → KeepsEventAt kept at done p h.payload → KeepsEventAt kept at done (with_evidence p evidence) text
     with_it BetweenFrames here k = subst (KeepsEventAt kept at done BetweenFrames) (sym (ap (λ (bs : List ℕ). h.payload ++ bs) (cond-false kept.own evidence [] k.frame.1) ∙ append-nil h.payload)) k
     with_it (InFrame info payload) here k =
-        goes_on kept at done info payload evidence h.payload (in_frame role limits old came done h.position h.rest h.followed info payload here).begins.place k
+        goes_on kept at done info payload evidence h.payload (in_frame role limits old came done h.position h.rest h.followed info payload here).begins.offset k
 
     kept_here : KeepsEventAt kept at done (with_evidence h.position evidence) text
     kept_here = with_it h.position refl h.keeps
 
     here_refused : IsRefusedHere role limits (came ++ share) (Refused refusal)
-    here_refused = record { refusal = refusal; is = refl; frames = done; refused = reaches.1.refused; place = place_is }
+    here_refused = record { refusal = refusal; is = refl; frames = done; refused = reaches.1.refused; offset = offset_is }
 
     most_refused : length (came ++ share) ≤ limits.input
     most_refused = let room = reaches.0.has_consumed.room in omega (arith, room)
@@ -383,8 +383,8 @@ module _ (role : Role) (limits : Limits) (at : ℕ) (old new : Scan) (chunk afte
         has_begun BetweenFrames here k = let both : true ≡ false = sym own ∙ k.frame.1 in absurd cc
         has_begun (InFrame info payload) here k = of kept.begun k.begun
           where
-            place : info.place ≡ length (stream done)
-            place = (subst (IsRestAt role limits done longer) here (rest_is_at h.position refl begun)).1.0.place
+            offset : info.offset ≡ length (stream done)
+            offset = (subst (IsRestAt role limits done longer) here (rest_is_at h.position refl begun)).1.0.offset
 
             of : (b : Bool) → HasBegunAt b done (InFrame info payload) at text → IsBegunAt done (InFrame info payload) at text
             of true has = has
@@ -392,7 +392,7 @@ module _ (role : Role) (limits : Limits) (at : ℕ) (old new : Scan) (chunk afte
                 let ends = has.0 in
                 let within = offset_within done (frame_so_far info payload) in
                 let same = k.frame.2.0 own in
-                absurd (omega (arith, ends, within, same, place))
+                absurd (omega (arith, ends, within, same, offset))
 
         in_refused : IsPayloadInFront role limits (came ++ chunk) at text
         in_refused = record {

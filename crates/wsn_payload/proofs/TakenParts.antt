@@ -30,13 +30,13 @@ pub begins_between : (kept : EventAt) (at : ℕ) (fs : List Frame) (from : Posit
 begins_between kept at fs from part before text begins is_at k = let is = begins_at from part before is_at begins in (subst (λ (p : Position). KeepsEventAt kept at fs p text) is.0 k, is.1)
 
 module _ (role : Role) (limits : Limits) (kept : EventAt) (at : ℕ) (fs frames : List Frame) (position : Position) (rest before share since text : List ℕ) (part : Part) (payload : List ℕ)
-    (t : IsTaken role limits fs rest before part payload share frames position since) (place : part.head.place ≡ length (stream fs))
+    (t : IsTaken role limits fs rest before part payload share frames position since) (offset : part.head.offset ≡ length (stream fs))
     (k : KeepsEventAt kept at fs (InFrame part.head before) text) where
   abbrev more : List ℕ
   more = own_part kept payload
 
   further : KeepsEventAt kept at fs (InFrame part.head (before ++ payload)) (text ++ more)
-  further = goes_on kept at fs part.head before payload text place k
+  further = goes_on kept at fs part.head before payload text offset k
 
   -- the frame isn't complete
   pub within_frame : part.ends ≡ false → KeepsEventAt kept at frames position (text ++ more)
@@ -84,7 +84,7 @@ module _ (role : Role) (limits : Limits) (kept : EventAt) (at : ℕ) (fs frames 
           absurd (before_it begun_so.0)
         where
           before_it : EndBefore fs (InFrame part.head before) at → ⊥
-          before_it after = let within = offset_within fs (frame_so_far part.head before) in omega (arith, after, within, same, place)
+          before_it after = let within = offset_within fs (frame_so_far part.head before) in omega (arith, after, within, same, offset)
 
       by : (part.ends ≡ true) ⊎ (part.ends ≡ false) → IsBegunAt frames position at (text ++ more) ⊎ ((f : Frame) × (frames ≡ fs ++ f ∷ []) × EndsEvent fs f at (text ++ more))
       by (inr goes) =

@@ -62,7 +62,7 @@ IsBegunAt fs (InFrame info part) at payload =
 
 -- The offset at which a frame with this head ends.
 abbrev pub end_of : HeadInfo → ℕ
-end_of info = info.place + length (head_bytes info.fin info.op info.key info.form info.len) + info.len
+end_of info = info.offset + length (head_bytes info.fin info.op info.key info.form info.len) + info.len
 
 -- The whole frames, and the one that has begun, end before the offset or at it.
 abbrev pub EndBefore : List Frame → Position → ℕ → Type 0
@@ -118,7 +118,7 @@ pub record IsStartOf (before : List Frame) (info : HeadInfo) (start : EventStart
 
 -- The offset is in the frame with this head, after the frames fs, and its event begins elsewhere.
 pub record IsElsewhere (fs : List Frame) (info : HeadInfo) (at : ℕ) (start : EventStart) : Type 0 where
-  pub from : info.place ≤ at
+  pub from : info.offset ≤ at
   pub to : at < end_of info
   pub is_start : IsStartOf fs info start
   pub other : start.offset ≢ at

@@ -62,8 +62,8 @@ pub record KeepsEventAt (kept : EventAt) (at : ℕ) (fs : List Frame) (position 
 pub record MayBegin (fs : List Frame) (info : HeadInfo) : Type 0 where
   pub continues : info.op ≡ Continue → IsOpen fs
   pub begins : (info.op ≡ Text) ⊎ (info.op ≡ Binary) → unfinished fs ≡ []
-  pub place : info.place ≡ length (stream fs)
-  pub few : info.place ≤ 2 ^ 40
+  pub offset : info.offset ≡ length (stream fs)
+  pub few : info.offset ≤ 2 ^ 40
   pub size : info.len < 2 ^ 63
   pub key : IfSome info.key IsKey
 
@@ -107,7 +107,7 @@ TakesPart kept at fs info frames position payload before after (Err stopped) =
 abbrev pub is_judged : Verdict → ℕ → Bool
 is_judged (Accepted summary) at = nat_lt at summary.used
 is_judged (Cut summary) at = nat_lt at summary.used
-is_judged (Refused refusal) at = nat_le at refusal.place
+is_judged (Refused refusal) at = nat_le at refusal.offset
 
 -- The answer of an offset at which no event has begun: in the head of the next frame, or after all that came.
 abbrev pub answer_without_event : Option ℕ → Bool → Verdict → Payload
@@ -148,8 +148,8 @@ pub record IsRefusedHere (role : Role) (limits : Limits) (bytes : List ℕ) (ver
   pub refusal : Refusal
   pub is : verdict ≡ Refused refusal
   pub frames : List Frame
-  pub refused : (later : List ℕ) → IsRefused role limits (bytes ++ later) frames refusal.place refusal.reason
-  pub place : refusal.place + 1 ≡ length bytes
+  pub refused : (later : List ℕ) → IsRefused role limits (bytes ++ later) frames refusal.offset refusal.reason
+  pub offset : refusal.offset + 1 ≡ length bytes
 
 -- The answer is right for these bytes, whatever follows, and this was written.
 abbrev pub IsAnsweredAt : Role → Limits → ℕ → List ℕ → Outgoing → Outgoing → Payload → Type 0

@@ -6,7 +6,8 @@ use Rattle.wsn_io.specs.declared.stop.Stop.TheVariants as stop
 use Rattle.wsn_wire.specs.declared.endpoint.Role.{Role}
 use Rattle.wsn_rules.specs.declared.verdict.Verdict.{Verdict}
 use Rattle.wsn_rules.specs.Limits.{Limits}
-use Rattle.wsn_scan.specs.Judging.{IsReached, IsStopped, IsUnrefused, IsWithinLimit, chunk_size}
+use Rattle.wsn_rules.specs.Verdict.{IsUnrefused}
+use Rattle.wsn_scan.specs.Judging.{IsReached, IsStopped, IsWithinLimit, chunk_size}
 use Rattle.wsn_payload.specs.declared.answer.Payload.{Payload, TheVariants.{Whole, Unfinished, Inside, Head, Nothing}}
 use Rattle.wsn_payload.specs.EventsAt.{IsWholeAt, IsUnfinishedAt, EndsBefore, IsInHeadAt, IsAfterAll, IsInsideAt}
 

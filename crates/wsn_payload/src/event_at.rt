@@ -105,7 +105,7 @@ impl EventAt {
     /// The first frame of the open message, once a frame with this head has begun.
     fn joined(&self, head: &HeadInfo) -> EventStart
         ensures first { (head.now.op ≡ Op.Text) ⊎ (head.now.op ≡ Op.Binary) →
-            (result.op ≡ head.now.op) × (result.offset ≡ head.now.place) }
+            (result.op ≡ head.now.op) × (result.offset ≡ head.now.offset) }
         ensures other { head.now.op ≢ Op.Text → head.now.op ≢ Op.Binary → result ≡ self.now.message }
     {
         match head.op {
@@ -117,7 +117,7 @@ impl EventAt {
     /// Where the event begins to which the frame belongs.
     fn start_of(&self, head: &HeadInfo) -> EventStart
         ensures op { result.op ≡ (if is_control head.now.op then head.now.op else self.now.message.op) }
-        ensures offset { result.offset ≡ (if is_control head.now.op then head.now.place else self.now.message.offset) }
+        ensures offset { result.offset ≡ (if is_control head.now.op then head.now.offset else self.now.message.offset) }
     {
         if head.op.is_control() {
             start_at(head)
@@ -171,20 +171,20 @@ impl EventAt {
 /// The event that a frame with this head begins.
 fn start_at(head: &HeadInfo) -> EventStart
     ensures op { result.op ≡ head.now.op }
-    ensures offset { result.offset ≡ head.now.place }
+    ensures offset { result.offset ≡ head.now.offset }
 {
     EventStart {
         op: head.op,
-        offset: head.place,
+        offset: head.offset,
     }
 }
 
 /// The offset at which a frame with this head ends.
 fn end_of(head: &HeadInfo) -> u64
-    ensures { head.now.place ≤ 2 ^ 40 → head.now.len < 2 ^ 63 → IfSome head.now.key IsKey →
+    ensures { head.now.offset ≤ 2 ^ 40 → head.now.len < 2 ^ 63 → IfSome head.now.key IsKey →
         result ≡ end_of_frame head.now }
 {
-    head.place
+    head.offset
         .saturating_add(head.size())
         .saturating_add(head.len)
 }
@@ -196,6 +196,6 @@ fn is_judged(verdict: &Verdict, at: u64) -> bool
 {
     match verdict {
         Verdict::Accepted(summary) | Verdict::Cut(summary) => at < summary.used,
-        Verdict::Refused(refusal) => at <= refusal.place,
+        Verdict::Refused(refusal) => at <= refusal.offset,
     }
 }

@@ -32,9 +32,9 @@ pub record IsPlannedTo (old scan : Scan) (chunk here : List ℕ) (before plan : 
 -- ---- a plan and a chunk
 
 -- the plan of one frame more
-one_more : (plan kept : List Step) (frames after : List Frame) (f : Frame) (place : ℕ) (head : HeadInfo) (step : Step) → plan ≡ plan_of frames → head ≡ info_of place f → step ≡ step_of_head head → kept ≡ plan ++ step ∷ []
+one_more : (plan kept : List Step) (frames after : List Frame) (f : Frame) (offset : ℕ) (head : HeadInfo) (step : Step) → plan ≡ plan_of frames → head ≡ info_of offset f → step ≡ step_of_head head → kept ≡ plan ++ step ∷ []
     → after ≡ frames ++ f ∷ [] → kept ≡ plan_of after
-one_more plan kept frames after f place head step steps head_is step_is kept_is after_is = grind (arith, map-append)
+one_more plan kept frames after f offset head step steps head_is step_is kept_is after_is = grind (arith, map-append)
 
 no_frame : (before : List Frame) (f : Frame) → before ++ f ∷ [] ≡ [] → ⊥
 no_frame [] f is = cc

@@ -106,7 +106,7 @@ module _ (role : Role) (limits : Limits) (old : Incoming) where
           let judged = refuses_input role limits old mid chunks scan so_far.came so_far.heads so_far.read new later next chunk come short refusal fed in
           let reached = judged.answer in
           let all = (so_far.came ++ chunk) ++ come.past in
-          let is = subst (λ (bs : List ℕ). IsRefused role limits bs reached.0 refusal.place refusal.reason) (append-nil all) (reached.1 []) in
+          let is = subst (λ (bs : List ℕ). IsRefused role limits bs reached.0 refusal.offset refusal.reason) (append-nil all) (reached.1 []) in
           record { came = all; received = judged.received; of_bytes = (Refused refusal, reached.0, reached, is, (refl, λ no. no)) }
 
       -- an allocation failed

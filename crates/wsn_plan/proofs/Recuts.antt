@@ -12,11 +12,11 @@ use Rattle.wsn_rules.specs.Limits.{Limits}
 use Rattle.wsn_rules.specs.LawfulEvents.{AreLawful}
 use Rattle.wsn_rules.specs.Accepted.{IsAccepted}
 use Rattle.wsn_rules.specs.Meaning.{MeantEvent, meaning}
-use Rattle.wsn_rules.specs.Verdict.{IsVerdict}
+use Rattle.wsn_rules.specs.Verdict.{IsVerdict, IsUnrefused}
 use Rattle.wsn_rules.proofs.LawfulMeaning.{lawful_meaning}
 use Rattle.wsn_io.specs.declared.stop.Stop.{Stop}
 use Rattle.wsn_io.specs.declared.stop.Stop.TheVariants as stop
-use Rattle.wsn_scan.specs.Judging.{IsReached, IsUnrefused}
+use Rattle.wsn_scan.specs.Judging.{IsReached}
 use Rattle.wsn_plan.specs.Gathering.{kept_meant, HasWholeFrame, IsStoppedAfter, IsGathered}
 use Rattle.wsn_events.specs.Normalised.{IsWithinLimit}
 use Rattle.wsn_events.specs.Sources.{IsMeaningOf}

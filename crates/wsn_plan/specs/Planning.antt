@@ -10,12 +10,12 @@ use Rattle.wsn_rules.specs.declared.verdict.Verdict.{Verdict, TheVariants.{Accep
 use Rattle.wsn_rules.specs.Group.{unfinished, IsOpen}
 use Rattle.wsn_rules.specs.Limits.{Limits}
 use Rattle.wsn_rules.specs.Recut.{plan_of}
-use Rattle.wsn_rules.specs.Verdict.{IsVerdict}
+use Rattle.wsn_rules.specs.Verdict.{IsVerdict, IsUnrefused}
 use Rattle.wsn_io.specs.declared.stop.Stop.{Stop}
 use Rattle.wsn_io.specs.declared.stop.Stop.TheVariants as stop
 use Rattle.wsn_scan.specs.declared.scan.Scan.{Scan}
 use Rattle.wsn_scan.specs.Feeding.{HasScannedBytes, HasFed}
-use Rattle.wsn_scan.specs.Judging.{IsReached, IsStopped, IsUnrefused, IsWithinLimit}
+use Rattle.wsn_scan.specs.Judging.{IsReached, IsStopped, IsWithinLimit}
 use Rattle.wsn_scan.specs.Positions.{Position}
 use Rattle.wsn_scan.specs.Scans.{HasScanned}
 use Rattle.wsn_events.specs.Comparing.{IsAnAccepted}

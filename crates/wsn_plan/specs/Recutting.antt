@@ -8,13 +8,12 @@ use Rattle.wsn_rules.specs.declared.verdict.Verdict.{Verdict}
 use Rattle.wsn_rules.specs.Limits.{Limits, InRange}
 use Rattle.wsn_rules.specs.LawfulEvents.{AreLawful}
 use Rattle.wsn_rules.specs.Meaning.{MeantEvent, meaning}
-use Rattle.wsn_rules.specs.Verdict.{IsVerdict}
+use Rattle.wsn_rules.specs.Verdict.{IsVerdict, IsUnrefused}
 use Rattle.wsn_rules.specs.Fitting.{Fits}
 use Rattle.wsn_rules.specs.Fault.{IsFault}
 use Rattle.wsn_rules.specs.Recut.{recut_bytes}
 use Rattle.wsn_io.specs.declared.stop.Stop.{Stop}
 use Rattle.wsn_io.specs.declared.stop.Stop.TheVariants as stop
-use Rattle.wsn_scan.specs.Judging.{IsUnrefused}
 use Rattle.wsn_events.specs.Comparing.{IsAnAccepted}
 use Rattle.wsn_events.specs.Normalised.{IsWithinLimit}
 use Rattle.wsn_events.specs.Sources.{IsLast}

@@ -18,11 +18,12 @@ use crate::kept::Kept;
 use crate::walking::Walk;
 use std::alloc::Allocator;
 use std::io::Write;
-use wsn_events::put_frame;
+use wsn_events::{WireFrame, put_frame};
 use wsn_frame::unmask;
+use wsn_io::Output;
 use wsn_rules::Step;
 use wsn_scan::Stop;
-use wsn_wire::{Form, Kind, Op, Output};
+use wsn_wire::{Form, Kind, Op};
 
 /// Writes the frame of a plan's next step. The events are masked in place and are unchanged afterwards. `Write` if the
 /// writer fails: a prefix of the frame is written.
@@ -166,7 +167,14 @@ fn put_masked<W: Write>(
 {
     let mask = changing(key);
     unmask(mask, 0, payload);
-    let done = put_frame(output, fin, op, key, form, payload);
+    let frame = WireFrame {
+        fin,
+        op,
+        key,
+        form,
+        wire: payload,
+    };
+    let done = put_frame(output, &frame);
     unmask(mask, 0, payload);
     done
 }

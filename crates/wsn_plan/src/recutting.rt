@@ -20,9 +20,10 @@ use crate::walking::Walk;
 use bumpalo::Bump;
 use std::alloc::Allocator;
 use std::io::{Read, Write};
+use wsn_io::{Input, Output};
 use wsn_rules::{Step, Why};
 use wsn_scan::{Limits, Stop, Verdict};
-use wsn_wire::{Input, Output, Role};
+use wsn_wire::Role;
 
 /// What [`recut`] and [`recut_uniform`] return.
 #[derive(Clone, Copy, Debug)]

@@ -1,4 +1,4 @@
--- The line of a step, whose parts are written from the first to the last, behind other lines.
+-- The line of a step, whose parts are written from the first to the last, after other lines.
 use Rattle.std.proofs.Common.{◌≡◌, ℕ, Option, List, ◌++◌, sym, ap, ◌∙◌, codes, decimal, append_assoc}
 use Rattle.wsn_wire.specs.declared.length_forms.Form.{Form}
 use Rattle.wsn_rules.specs.declared.step.Step.TheVariants as step

@@ -6,7 +6,7 @@ use crate::plan_fault::PlanFault;
 use crate::reading_plans::read_plan;
 use std::alloc::{AllocError, Allocator};
 use std::io::Read;
-use wsn_wire::Input;
+use wsn_io::Input;
 
 /// The maximum size of a plan file in bytes.
 const FILE_MAX: usize = 67_108_864;

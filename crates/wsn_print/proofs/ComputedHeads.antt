@@ -52,7 +52,7 @@ module _ (role : Role) (limits : Limits) (bytes : List ℕ) (fs : List Frame) (r
   of_close summary is closed = record { rest = rest; begun = []; lawful = is.0.lawful; whole = whole; is_begun = inl (refl, closed); all = sym (append-nil (heads_of fs)) }
 
   -- One of the first two bytes of a frame is the offending byte.
-  of_refused_head : (refusal : Refusal) → IsVerdict role limits bytes fs (Refused refusal) → refusal.place < length (stream fs) + 2 → AreHeads role limits bytes fs (heads_of fs)
+  of_refused_head : (refusal : Refusal) → IsVerdict role limits bytes fs (Refused refusal) → refusal.offset < length (stream fs) + 2 → AreHeads role limits bytes fs (heads_of fs)
   of_refused_head refusal is early = record { rest = rest; begun = []; lawful = is.lawful; whole = whole; is_begun = inr (inl (refl, is.no_close, none)); all = sym (append-nil (heads_of fs)) }
     where
       seen : List ℕ
@@ -70,20 +70,20 @@ module _ (role : Role) (limits : Limits) (bytes : List ℕ) (fs : List Frame) (r
             | inl p ↦ b.has_no_evidence.none seen p.0 refusal.reason p.1 is.is_evident.evidence
             | inr p ↦
                 let size : length seen ≡ length b.head + length p.0 = ap (λ (bs : List ℕ). length bs) p.1 ∙ length-append b.head p.0 in
-                let same : seen ≡ b.head = p.1 ∙ ap (λ (bs : List ℕ). b.head ++ bs) (empty p.0 (omega (arith, size, at_least_two info b, is.is_evident.at_place, early))) ∙ append-nil b.head in
+                let same : seen ≡ b.head = p.1 ∙ ap (λ (bs : List ℕ). b.head ++ bs) (empty p.0 (omega (arith, size, at_least_two info b, is.is_evident.at_offset, early))) ∙ append-nil b.head in
                 b.has_no_evidence.none seen [] refusal.reason (sym same ∙ sym (append-nil seen)) is.is_evident.evidence
           ]
 
   -- The offending byte comes after a complete head.
   of_refused_payload : (refusal : Refusal) → IsVerdict role limits bytes fs (Refused refusal) → (info : HeadInfo) (following : List ℕ) → rest ≡ head_bytes info.fin info.op info.key info.form info.len ++ following
-      → info.place ≡ length (stream fs) → IfSome info.key IsKey → FormFits info.form info.len → info.len < 2 ^ 63
-      → length (stream fs) + length (head_bytes info.fin info.op info.key info.form info.len) ≤ refusal.place → AreHeads role limits bytes fs (heads_of fs ++ info ∷ [])
-  of_refused_payload refusal is info following begins place key form size late = record {
+      → info.offset ≡ length (stream fs) → IfSome info.key IsKey → FormFits info.form info.len → info.len < 2 ^ 63
+      → length (stream fs) + length (head_bytes info.fin info.op info.key info.form info.len) ≤ refusal.offset → AreHeads role limits bytes fs (heads_of fs ++ info ∷ [])
+  of_refused_payload refusal is info following begins offset key form size late = record {
     rest = rest;
     begun = info ∷ [];
     lawful = is.lawful;
     whole = whole;
-    is_begun = inr (inr (is.no_close, (info, refl, record { head = head; following = following; whole = begins; place = place; encoded = refl; key = key; form = form; size = size; has_no_evidence = record { none = has_no_evidence } })));
+    is_begun = inr (inr (is.no_close, (info, refl, record { head = head; following = following; whole = begins; offset = offset; encoded = refl; key = key; form = form; size = size; has_no_evidence = record { none = has_no_evidence } })));
     all = refl;
   }
     where
@@ -98,7 +98,7 @@ module _ (role : Role) (limits : Limits) (bytes : List ℕ) (fs : List Frame) (r
             seen = seen;
             later = later ++ following;
             whole = whole ∙ ap (λ (bs : List ℕ). stream fs ++ bs) (begins ∙ ap (λ (bs : List ℕ). bs ++ following) parts ∙ append_assoc seen later following);
-            at_place = omega (arith, some);
+            at_offset = omega (arith, some);
             evidence = evidence;
           }) in
           elim first [ inl less ↦ omega (arith, less, late, size, some) | inr same ↦ let at = same.0 in omega (arith, at, late, size, some) ]
@@ -114,12 +114,12 @@ is_accepted (Accepted summary) = true
 is_accepted verdict = false
 
 abbrev pub refused_before : ℕ → Verdict → Bool
-refused_before place (Refused refusal) = nat_lt refusal.place place
-refused_before place verdict = false
+refused_before offset (Refused refusal) = nat_lt refusal.offset offset
+refused_before offset verdict = false
 
 abbrev pub refused_from : ℕ → Verdict → Bool
-refused_from place (Refused refusal) = nat_le place refusal.place
-refused_from place verdict = false
+refused_from offset (Refused refusal) = nat_le offset refusal.offset
+refused_from offset verdict = false
 
 module _ (role : Role) (limits : Limits) (bytes text : List ℕ) (range : in_range limits ≡ true) (in_bytes : all_bytes bytes ≡ true) (rest : List ℕ) where
   abbrev v : HasVerdict role limits (range_by_test limits range) bytes
@@ -152,20 +152,20 @@ module _ (role : Role) (limits : Limits) (bytes text : List ℕ) (range : in_ran
       early = length (stream v.frames) + 2
 
       of : (verdict : Verdict) → IsVerdict role limits bytes v.frames verdict → refused_before early verdict ≡ true → AreHeads role limits bytes v.frames (heads_of v.frames)
-      of (Refused refusal) is before = of_refused_head role limits bytes v.frames rest whole refusal is (ltb-true refusal.place early before)
+      of (Refused refusal) is before = of_refused_head role limits bytes v.frames rest whole refusal is (ltb-true refusal.offset early before)
       of (Accepted summary) is before = absurd (false≢true before)
       of (Cut summary) is before = absurd (false≢true before)
 
   pub lists_to_a_payload : (info : HeadInfo) (following : List ℕ) → bytes ≡ stream v.frames ++ rest → rest ≡ head_bytes info.fin info.op info.key info.form info.len ++ following
-      → info.place ≡ length (stream v.frames) → IfSome info.key IsKey → FormFits info.form info.len → nat_lt info.len (2 ^ 63) ≡ true
+      → info.offset ≡ length (stream v.frames) → IfSome info.key IsKey → FormFits info.form info.len → nat_lt info.len (2 ^ 63) ≡ true
       → refused_from (length (stream v.frames) + length (head_bytes info.fin info.op info.key info.form info.len)) v.verdict ≡ true → head_lines (heads_of v.frames ++ info ∷ []) ≡ text → Lists role limits bytes text
-  lists_to_a_payload info following whole begins place key form size test lines = lists (heads_of v.frames ++ info ∷ []) (of v.verdict v.is test) lines
+  lists_to_a_payload info following whole begins offset key form size test lines = lists (heads_of v.frames ++ info ∷ []) (of v.verdict v.is test) lines
     where
       late : ℕ
       late = length (stream v.frames) + length (head_bytes info.fin info.op info.key info.form info.len)
 
       of : (verdict : Verdict) → IsVerdict role limits bytes v.frames verdict → refused_from late verdict ≡ true → AreHeads role limits bytes v.frames (heads_of v.frames ++ info ∷ [])
       of (Refused refusal) is from =
-          of_refused_payload role limits bytes v.frames rest whole refusal is info following begins place key form (ltb-true info.len (2 ^ 63) size) (leb-true late refusal.place from)
+          of_refused_payload role limits bytes v.frames rest whole refusal is info following begins offset key form (ltb-true info.len (2 ^ 63) size) (leb-true late refusal.offset from)
       of (Accepted summary) is from = absurd (false≢true from)
       of (Cut summary) is from = absurd (false≢true from)

@@ -81,7 +81,7 @@ fields_whole : (t0 place space fin op key len form end : List ℕ)
 fields_whole t0 place space fin op key len form end = simp append_assoc
 
 -- The texts after the offset and the fields.
-pub line_of_parts : (h : HeadInfo) (t0 t1 t2 : List ℕ) → t1 ≡ t0 ++ decimal h.place → t2 ≡ t1 ++ (codes " " ++ head_fields h ++ codes "\n") → t2 ≡ t0 ++ head_line h
+pub line_of_parts : (h : HeadInfo) (t0 t1 t2 : List ℕ) → t1 ≡ t0 ++ decimal h.offset → t2 ≡ t1 ++ (codes " " ++ head_fields h ++ codes "\n") → t2 ≡ t0 ++ head_line h
 line_of_parts h t0 t1 t2 is1 is2 =
-    two t0 t1 t2 (decimal h.place) (codes " " ++ head_fields h ++ codes "\n") is1 is2
-    ∙ fields_whole t0 (decimal h.place) (codes " ") (fin_word h.fin) (op_word h.op) (key_text h.key) (decimal h.len) (form_text h.form) (codes "\n")
+    two t0 t1 t2 (decimal h.offset) (codes " " ++ head_fields h ++ codes "\n") is1 is2
+    ∙ fields_whole t0 (decimal h.offset) (codes " ") (fin_word h.fin) (op_word h.op) (key_text h.key) (decimal h.len) (form_text h.form) (codes "\n")

@@ -54,28 +54,28 @@ part_length n place event = place - view_start place event + n / 2
 abbrev pub part_at : ℕ → ℕ → MeantEvent → List ℕ
 part_at n place event = take (part_length n place event) (payload_on place event)
 
--- ---- what the argument of the functions stands for
+-- ---- what the argument of the functions represents
 
 -- The event is a text message.
 abbrev pub is_text : MeantEvent → Bool
 is_text (Message kinds.Text text) = true
 is_text event = false
 
--- For a view of n bytes this stands for an event's payload around a place.
+-- For a view of n bytes this represents an event's payload around a place.
 pub record IsPartOf (n place : ℕ) (part : PayloadPart) (event : MeantEvent) : Type 0 where
   pub text : part.is_text ≡ is_text event
   pub start : part.from ≡ view_start place event
   pub before : part.before ≡ place - view_start place event
   pub holds : IsFrontOf (place - view_start place event + n) (payload_on place event) part.bytes
 
--- For a view of n bytes this stands for the place in two events' payloads and for both; or there is none.
+-- For a view of n bytes this represents the place in two events' payloads and for both; or there is none.
 abbrev pub StandsForPlace : ℕ → Option DifferingPayloads → Option ℕ → Option MeantEvent → Option MeantEvent → Type 0
 StandsForPlace n (Some differing) (Some place) (Some event) (Some other) =
     (differing.place ≡ place) × IsPartOf n place differing.first event × IsPartOf n place differing.second other
 StandsForPlace n None None event other = ⊤
 StandsForPlace n differing place event other = ⊥
 
--- For a view of n bytes this stands for where the payloads of two items differ.
+-- For a view of n bytes this represents where the payloads of two items differ.
 abbrev pub StandsForPayloads : ℕ → Option DifferingPayloads → Option Item → Option Item → Type 0
 StandsForPayloads n differing one other =
     StandsForPlace n differing (place_in (event_in one) (event_in other)) (event_in one) (event_in other)

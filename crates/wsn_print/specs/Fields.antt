@@ -14,7 +14,7 @@ number_text (Some n) = decimal n
 -- A refusal: the offset of the offending byte, the reason, the close code.
 abbrev pub refusal_text : Refusal → List ℕ
 refusal_text refusal =
-    codes "refused " ++ decimal refusal.place ++ codes " " ++ word_of refusal.reason ++ codes " "
+    codes "refused " ++ decimal refusal.offset ++ codes " " ++ word_of refusal.reason ++ codes " "
     ++ decimal (code_of refusal.reason)
 
 -- Whether a frame has FIN.

@@ -11,7 +11,7 @@ head_fields h =
 
 -- The frame's offset, and the fields.
 abbrev pub head_line : HeadInfo → List ℕ
-head_line h = decimal h.place ++ codes " " ++ head_fields h ++ codes "\n"
+head_line h = decimal h.offset ++ codes " " ++ head_fields h ++ codes "\n"
 
 -- The lines of heads, in order.
 abbrev pub head_lines : List HeadInfo → List ℕ

@@ -3,6 +3,8 @@ pub mod Fields
 pub mod VerdictText
 pub mod HeadText
 pub mod ReportText
+pub mod Sentences
+pub mod PeopleReport
 pub mod FaultText
 pub mod PayloadText
 pub mod Statuses

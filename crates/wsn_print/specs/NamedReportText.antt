@@ -1,7 +1,7 @@
 -- The report on one of several captures, in one line, with the name of its file.
 use Rattle.std.specs.Prelude.{ℕ, List, ◌++◌, drop, codes}
 use Rattle.wsn_rules.specs.declared.report.Report.{Report}
-use Rattle.wsn_print.specs.declared.format.Format.{Format, TheVariants.{Text, Json}}
+use Rattle.wsn_print.specs.declared.format.Format.{Format, TheVariants.{Text, People, Json}}
 use Rattle.wsn_print.specs.Objects.{report_object}
 use Rattle.wsn_print.specs.ReportText.{side_text, outcome_word}
 use Rattle.wsn_print.specs.EscapedText.{comment_text, quoted}
@@ -24,4 +24,5 @@ named_report_object name report =
 -- The report on the capture with this name.
 abbrev pub named_report_text : Format → List ℕ → Report → List ℕ
 named_report_text Text = named_report_line
+named_report_text People = named_report_line
 named_report_text Json = named_report_object

@@ -32,7 +32,7 @@ close_value (Some code) = codes "{\"code\":" ++ number_or_null code ++ codes "}"
 -- A refusal: the offset of the offending byte, under this key, the reason, the close code.
 abbrev pub refusal_fields : List ℕ → Refusal → List ℕ
 refusal_fields key refusal =
-    number_field key refusal.place ++ string_field (codes "reason") (word_of refusal.reason)
+    number_field key refusal.offset ++ string_field (codes "reason") (word_of refusal.reason)
     ++ number_field (codes "code") (code_of refusal.reason)
 
 -- The members of a verdict, without the type.
@@ -71,12 +71,12 @@ head_members h =
     ++ string_field (codes "form") (form_word h.form)
 
 -- The head of a frame: its offset, and these members.
-abbrev pub head_fields : HeadInfo → List ℕ
-head_fields h = number_field (codes "offset") h.place ++ head_members h
+abbrev pub frame_fields : HeadInfo → List ℕ
+frame_fields h = number_field (codes "offset") h.offset ++ head_members h
 
 -- A frame.
 abbrev pub frame_object : HeadInfo → List ℕ
-frame_object h = codes "{\"type\":\"frame\"" ++ head_fields h ++ codes "}\n"
+frame_object h = codes "{\"type\":\"frame\"" ++ frame_fields h ++ codes "}\n"
 
 -- ---- reports
 

@@ -89,7 +89,7 @@ abbrev pub HoldsPayload : ℕ → MeantEvent → List ℕ → Type 0
 HoldsPayload n (Message kind payload) held = HoldsFirst n payload held
 HoldsPayload n (Control op body) held = held ≡ body
 
--- For a view of n bytes this stands for the event.
+-- For a view of n bytes this represents the event.
 pub record Represents (n : ℕ) (shown : ShownEvent) (event : MeantEvent) : Type 0 where
   pub payload : List ℕ
   pub is : event ≡ event_of shown.op payload
@@ -111,14 +111,14 @@ abbrev pub HasText : MeantEvent → Type 0
 HasText (Message kind payload) = HasTextPayload (Message kind payload)
 HasText (Control op body) = HasTextReason (Control op body)
 
--- For a view of n bytes this stands for the event of these frames at this offset.
+-- For a view of n bytes this represents the event of these frames at this offset.
 pub record IsPlaced (n : ℕ) (placed : PlacedEvent) (offset : ℕ) (event : MeantEvent) (frames : ℕ) : Type 0 where
   pub offset_is : placed.offset ≡ offset
   pub frames_are : placed.event.frames ≡ frames
   pub represents : Represents n placed.event event
   pub text : HasText event
 
--- For a view of n bytes this stands for the item, which is an event; or there is neither.
+-- For a view of n bytes this represents the item, which is an event; or there is neither.
 abbrev pub StandsFor : ℕ → Option PlacedEvent → Option Item → Type 0
 StandsFor n None None = ⊤
 StandsFor n (Some placed) (Some (Event offset event frames)) = IsPlaced n placed offset event frames
@@ -126,7 +126,7 @@ StandsFor n placed item = ⊥
 
 -- ---- bad characters, and bytes in no frame
 
--- The bad character for which this stands.
+-- The bad character that this represents.
 abbrev pub character_of : ShownCharacter → BadCharacter
 character_of shown = record {
   offset = shown.offset;
@@ -135,7 +135,7 @@ character_of shown = record {
   earlier = shown.earlier.now;
 }
 
--- The bad character for which this stands, if there is one.
+-- The bad character that this represents, if there is one.
 abbrev pub character_in : Option ShownCharacter → Option BadCharacter
 character_in None = None
 character_in (Some shown) = Some (character_of shown)

@@ -4,6 +4,7 @@ ghost use Rattle.wsn_print.specs.Formats.{verdict_text, report_text, comparison_
 
 use crate::comparisons::put_compared;
 use crate::objects::{put_compared_object, put_report_object, put_verdict_object};
+use crate::people_reports::put_people_report;
 use crate::reports::put_report;
 use crate::verdicts::put_verdict;
 use std::io::Write;
@@ -15,6 +16,8 @@ use wsn_rules::{Compared, Report, Verdict};
 pub enum Format {
     /// Lines of words.
     Text,
+    /// What `show` prints in columns and sentences, for people; any other answer in lines of words.
+    People,
     /// One JSON object a line.
     Json,
 }
@@ -29,7 +32,7 @@ pub fn put_verdict_as<W: Write>(
     ensures { IsWrittenOrStops to.old to.new (verdict_text format verdict.now) result }
 {
     match format {
-        Format::Text => put_verdict(to, verdict),
+        Format::Text | Format::People => put_verdict(to, verdict),
         Format::Json => put_verdict_object(to, verdict),
     }
 }
@@ -45,6 +48,7 @@ pub fn put_report_as<W: Write>(
 {
     match format {
         Format::Text => put_report(to, report),
+        Format::People => put_people_report(to, report),
         Format::Json => put_report_object(to, report),
     }
 }
@@ -59,7 +63,7 @@ pub fn put_compared_as<W: Write>(
     ensures { IsWrittenOrStops to.old to.new (comparison_text format compared) result }
 {
     match format {
-        Format::Text => put_compared(to, compared),
+        Format::Text | Format::People => put_compared(to, compared),
         Format::Json => put_compared_object(to, &compared),
     }
 }

@@ -60,7 +60,9 @@ impl HeadLines {
     {
         let text = &mut self.text;
         text.len = match format {
-            Format::Text => put_head_at(head, &mut self.above, &mut text.bytes, text.len),
+            Format::Text | Format::People => {
+                put_head_at(head, &mut self.above, &mut text.bytes, text.len)
+            }
             Format::Json => put_object_at(head, &mut self.above, &mut text.bytes, text.len),
         };
     }
@@ -90,7 +92,7 @@ fn put_head_at(head: &HeadInfo, above: &mut KeptDigits, text: &mut [u8], at: usi
     ensures end { (at ≤ result) × (result ≤ at + 69) }
     ensures written { take result text.new ≡ take at text.old ++ head_line head.now }
 {
-    let at = put_offset(head.place, above, text, at);
+    let at = put_offset(head.offset, above, text, at);
     put_fields(head, text, at)
 }
 
@@ -102,7 +104,7 @@ fn put_object_at(head: &HeadInfo, above: &mut KeptDigits, text: &mut [u8], at: u
     ensures written { take result text.new ≡ take at text.old ++ frame_object head.now }
 {
     let at = put(*b"{\"type\":\"frame\",\"offset\":", text, at);
-    let at = put_offset(head.place, above, text, at);
+    let at = put_offset(head.offset, above, text, at);
     put_members(head, text, at)
 }
 

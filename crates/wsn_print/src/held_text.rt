@@ -8,7 +8,7 @@ use crate::parts::{put, put_front, put_hex, put_slice};
 use std::simd::prelude::*;
 
 /// The maximum length in bytes of the text that is held.
-const HELD_MAX: usize = 256;
+pub const HELD_MAX: usize = 256;
 
 /// The most bytes of a character that is shown: two surrogates, each `\u` and four digits.
 pub(crate) const CHARACTER_MAX: usize = 12;
@@ -20,7 +20,7 @@ const PLAIN_MAX: usize = 32;
 pub(crate) const TURN_MAX: usize = 44;
 
 /// Text as it is written, held until then, at most 256 bytes.
-pub(crate) type HeldText = KeptBytes<HELD_MAX>;
+pub type HeldText = KeptBytes<HELD_MAX>;
 
 impl HeldText {
     /// Adds bytes at the start of a text: some that begin no hidden character, and one character after them, if it is

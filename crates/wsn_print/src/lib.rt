@@ -9,18 +9,20 @@
 //! answer. [`KeptBytes`] keeps bytes in an array, until they are written or forgotten. Nothing here allocates.
 //!
 //! Each answer can also be a JSON object in one line: `put_.._object` writes it, and [`put_verdict_as`],
-//! [`put_report_as`] and [`put_compared_as`] write an answer in a [`Format`], and [`put_named_report`] the report on one of
-//! several captures. `push_.._field` appends a member to a [`Line`].
+//! [`put_report_as`] and [`put_compared_as`] write an answer in a [`Format`], and [`put_named_report`] the report on one
+//! of several captures. For people, [`put_people_report`] says in sentences what a report means. `push_.._field` appends
+//! a member to a [`Line`].
 //!
 //! [`put_quoted`] writes a text between quotation marks and [`put_comment`] a comment, with their hidden characters
 //! escaped. A [`Style`] says how a stream or a capture is shown, an [`EntryFront`] where an entry is, and a [`Difference`]
 //! where two streams differ first.
 //!
-//! `specs/Fields.antt` defines the fields of lines; `VerdictText`, `HeadText`, `ReportText`,
-//! `FaultText`, `PayloadText` and `NamedReportText` define the lines, `EscapedText` quoted texts and comments,
-//! `Json` and `Objects` the objects, `Formats` the texts in each format, and `Statuses` the exit statuses. `ShownParts`
-//! says what the arguments of the functions that show an entry stand for, and `DifferingPayloads` where the payloads of two
-//! events differ. [`printed_lines`] has examples of printed lines, computed from the definitions.
+//! `specs/Fields.antt` defines the fields of lines; `VerdictText`, `HeadText`, `ReportText`, `FaultText`, `PayloadText`
+//! and `NamedReportText` define the lines, `PeopleReport` and `Sentences` what a report says to people, `EscapedText`
+//! quoted texts and comments, `Json` and `Objects` the objects, `Formats` the texts in each format, and `Statuses` the
+//! exit statuses. `ShownParts` says what the arguments of the functions that show an entry represent, and
+//! `DifferingPayloads` where the payloads of two events differ. [`printed_lines`] and [`printed_reports`] have examples
+//! of printed lines, computed from the definitions.
 #![tactic(auto)]
 
 mod comparisons;
@@ -39,9 +41,12 @@ mod named_reports;
 mod objects;
 mod parts;
 mod payloads;
+mod people_reports;
 pub mod printed_lines;
+pub mod printed_reports;
 mod quoted;
 mod reports;
+mod sentences;
 mod shown;
 mod statuses;
 mod stops;
@@ -54,6 +59,7 @@ pub use faults::{line_of_line_fault, line_of_recut_fault, line_of_unfinished};
 pub use format::{Format, put_compared_as, put_report_as, put_verdict_as};
 pub use head_lines::HeadLines;
 pub use heads::op_word;
+pub use held_text::{HELD_MAX, HeldText};
 pub use json::{push_number_field, push_number_or_null_field, push_string_field};
 pub use kept_bytes::KeptBytes;
 pub use line::Line;
@@ -61,7 +67,8 @@ pub use named_reports::put_named_report;
 pub use objects::{push_refusal, put_compared_object, put_report_object, put_verdict_object};
 pub use parts::{put, put_form, put_key, put_number};
 pub use payloads::{line_of_begun_head, line_of_inside, line_of_nothing};
-pub use quoted::{put_comment, put_quoted, put_quoted_characters};
+pub use people_reports::put_people_report;
+pub use quoted::{hold_quoted, put_comment, put_comment_text, put_quoted, put_quoted_characters};
 pub use reports::put_report;
 pub use shown::{
     Difference, DifferingPayloads, EntryFront, Front, HeldBytes, Origin, PayloadPart, PlacedEvent,

@@ -1,4 +1,4 @@
-ghost use Rattle.std.specs.Prelude.{◌≡◌, ℕ, ◌+◌, ◌*◌, ◌≤◌, List, [], ◌∷◌, ◌++◌, length, take, codes, decimal};
+ghost use Rattle.std.specs.Prelude.{◌≡◌, ◌+◌, ◌*◌, ◌≤◌, [], ◌∷◌, ◌++◌, length, codes, decimal};
 ghost use Rattle.hex.specs.Hex.{encode_lower};
 ghost use Rattle.wsn_print.specs.Fields.{number_text, refusal_text};
 ghost use Rattle.wsn_print.specs.HeadText.{head_fields};
@@ -6,44 +6,20 @@ ghost use Rattle.wsn_print.specs.Objects.{head_members};
 
 use crate::frame_members::put_members;
 use crate::heads::put_fields;
+use crate::kept_bytes::KeptBytes;
 use crate::parts::{put, put_number, put_slice};
-use std::marker::Model;
 use wsn_rules::{HeadInfo, Refusal};
 
 /// A line that is being built: its bytes so far, at most `MAX`.
-#[derive(Drop)]
-pub struct Line<const MAX: usize> {
-    text: [u8; MAX],
-    /// The first `len` bytes are those of the line.
-    len: usize,
-}
-
-impl<const MAX: usize> Model for Line<MAX> {
-    ghost Value = { List ℕ };
-
-    ghost view = { λ line. take line.len line.text };
-
-    ghost invariant = { λ line. line.len ≤ length line.text };
-}
+pub type Line<const MAX: usize> = KeptBytes<MAX>;
 
 impl<const MAX: usize> Line<MAX> {
-    /// An empty line.
-    #[inline(always)]
-    pub fn new() -> Self
-        ensures { result ≡ [] }
-    {
-        Line {
-            text: [0; MAX],
-            len: 0,
-        }
-    }
-
     /// The bytes so far.
     #[inline(always)]
     pub fn bytes(&self) -> &[u8]
         ensures { result.now ≡ self.now }
     {
-        &self.text[..self.len]
+        &self.bytes[..self.len]
     }
 
     /// Appends a text.
@@ -53,7 +29,17 @@ impl<const MAX: usize> Line<MAX> {
         ensures text { self.new ≡ self.old ++ text.now }
         ensures len { length self.new ≡ length self.old + length text.now }
     {
-        self.len = put_slice(text.as_bytes(), &mut self.text, self.len);
+        self.len = put_slice(text.as_bytes(), &mut self.bytes, self.len);
+    }
+
+    /// Appends bytes as they are.
+    #[inline(always)]
+    pub fn push_bytes(&mut self, bytes: &[u8])
+        requires { length self.old + length bytes.now ≤ MAX }
+        ensures text { self.new ≡ self.old ++ bytes.now }
+        ensures len { length self.new ≡ length self.old + length bytes.now }
+    {
+        self.len = put_slice(bytes, &mut self.bytes, self.len);
     }
 
     /// Appends another line.
@@ -62,7 +48,7 @@ impl<const MAX: usize> Line<MAX> {
         ensures text { self.new ≡ self.old ++ other.now }
         ensures len { length self.new ≤ length self.old + OTHER }
     {
-        self.len = put_slice(&other.text[..other.len], &mut self.text, self.len);
+        self.len = put_slice(&other.bytes[..other.len], &mut self.bytes, self.len);
     }
 
     /// Appends a number in decimal digits, at most 20.
@@ -71,7 +57,7 @@ impl<const MAX: usize> Line<MAX> {
         ensures text { self.new ≡ self.old ++ decimal n }
         ensures len { length self.new ≤ length self.old + 20 }
     {
-        self.len = put_number(n, &mut self.text, self.len);
+        self.len = put_number(n, &mut self.bytes, self.len);
     }
 
     /// Appends a number in decimal digits, or a dash for `None`.
@@ -93,7 +79,7 @@ impl<const MAX: usize> Line<MAX> {
         ensures text { self.new ≡ self.old ++ b ∷ [] }
         ensures len { length self.new ≡ length self.old + 1 }
     {
-        self.len = put([b], &mut self.text, self.len);
+        self.len = put([b], &mut self.bytes, self.len);
     }
 
     /// Appends bytes, at most 32, as two lower-case hexadecimal digits each.
@@ -106,7 +92,7 @@ impl<const MAX: usize> Line<MAX> {
         let mut digits = [0; 64];
         let digits = &mut digits[..2 * bytes.len()];
         let _fits = hex::encode_to_slice(bytes, digits);
-        self.len = put_slice(digits, &mut self.text, self.len);
+        self.len = put_slice(digits, &mut self.bytes, self.len);
     }
 
     /// Appends a space, the fields of a head and the LF, at most 49 bytes.
@@ -115,7 +101,7 @@ impl<const MAX: usize> Line<MAX> {
         ensures text { self.new ≡ self.old ++ (codes " " ++ head_fields head.now ++ codes "\n") }
         ensures len { length self.new ≤ length self.old + 49 }
     {
-        self.len = put_fields(head, &mut self.text, self.len);
+        self.len = put_fields(head, &mut self.bytes, self.len);
     }
 
     /// Appends the members of a head after its offset, the end of the object and the LF, at most 97 bytes.
@@ -124,7 +110,7 @@ impl<const MAX: usize> Line<MAX> {
         ensures text { self.new ≡ self.old ++ (head_members head.now ++ codes "}\n") }
         ensures len { length self.new ≤ length self.old + 97 }
     {
-        self.len = put_members(head, &mut self.text, self.len);
+        self.len = put_members(head, &mut self.bytes, self.len);
     }
 
     /// Appends a refusal: `refused`, the offset of the offending byte, the reason's word and the close code.
@@ -136,7 +122,7 @@ impl<const MAX: usize> Line<MAX> {
     {
         let reason = refusal.reason;
         self.push("refused ");
-        self.push_number(refusal.place);
+        self.push_number(refusal.offset);
         self.push(" ");
         self.push(reason.word());
         self.push(" ");

@@ -30,7 +30,7 @@ pub fn put_named_report<W: Write>(
     ensures { IsWrittenOrStops to.old to.new (named_report_text format name.now report.now) result }
 {
     match format {
-        Format::Text => put_named_line(to, name, report),
+        Format::Text | Format::People => put_named_line(to, name, report),
         Format::Json => put_named_object(to, name, report),
     }
 }

@@ -151,7 +151,7 @@ pub fn push_refusal<const MAX: usize>(line: &mut Line<MAX>, key: &str, refusal: 
     ensures len { length line.new ≤ length line.old + length key.now + 90 }
 {
     let reason = refusal.reason;
-    push_number_field(line, key, refusal.place);
+    push_number_field(line, key, refusal.offset);
     push_string_field(line, "reason", reason.word());
     push_number_field(line, "code", u64::from(reason.code()));
 }

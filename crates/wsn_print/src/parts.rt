@@ -14,7 +14,7 @@ static DECIMAL_PAIRS: [u8; 200] =
     *b"00010203040506070809101112131415161718192021222324252627282930313233343536373839404142434445464748495051525354555657585960616263646566676869707172737475767778798081828384858687888990919293949596979899";
 
 /// Writes a part of a line at `at`, and returns where it ends. The parts of a line are written from the first to the
-/// last; what stands behind a part is still to be written.
+/// last; what comes after a part is still to be written.
 #[inline(always)]
 pub fn put<const N: usize>(part: [u8; N], text: &mut [u8], at: usize) -> usize
     requires { at + length part ≤ length text.old }
@@ -114,7 +114,7 @@ fn put_pair(n: u64, text: &mut [u8], at: usize) -> usize
     put([DECIMAL_PAIRS[from], DECIMAL_PAIRS[from + 1]], text, at)
 }
 
-/// Writes a number behind the digits of another, as its last four digits, at `at`: of `n` those of `n % 10_000`. Returns
+/// Writes a number after the digits of another, as its last four digits, at `at`: of `n` those of `n % 10_000`. Returns
 /// where they end.
 #[inline(always)]
 pub(crate) fn put_last_four(n: u64, text: &mut [u8], at: usize) -> usize

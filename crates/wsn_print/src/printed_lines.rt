@@ -1,7 +1,7 @@
 //! Examples of printed lines and of exit statuses, computed from the definitions in `specs/`.
 
 ghost use Rattle.std.specs.Prelude.{◌≡◌, ℕ, true, false, None, Some, Ok, Err, [], ◌∷◌, codes};
-ghost use Rattle.wsn_wire.specs.declared.endpoint.Role.TheVariants.{Client, Server};
+ghost use Rattle.wsn_wire.specs.declared.endpoint.Role.TheVariants.{Server};
 ghost use Rattle.wsn_wire.specs.declared.opcode.Op.TheVariants.{Continue, Text, Binary, Close, Ping, Pong};
 ghost use Rattle.wsn_wire.specs.declared.length_forms.Form.TheVariants.{Shortest, Two, Eight};
 ghost use Rattle.wsn_wire.specs.declared.refusal.Reason.TheVariants as reason;
@@ -15,14 +15,11 @@ ghost use Rattle.wsn_rules.specs.declared.verdict.Refusal.{Refusal};
 ghost use Rattle.wsn_rules.specs.declared.verdict.Verdict.TheVariants.{Accepted, Cut, Refused};
 ghost use Rattle.wsn_rules.specs.declared.compared.Compared.TheVariants.{Equal, Different, NotAccepted};
 ghost use Rattle.wsn_rules.specs.declared.why.Why.TheVariants as why;
-ghost use Rattle.wsn_rules.specs.declared.report.Side.TheVariants as side;
 ghost use Rattle.wsn_rules.specs.declared.report.Outcome.TheVariants as outcome;
 ghost use Rattle.wsn_rules.specs.declared.verdict.Verdict.{Verdict};
 ghost use Rattle.wsn_io.specs.declared.stop.Stop.{Stop};
 ghost use Rattle.wsn_io.specs.declared.stop.Stop.TheVariants as stop;
 ghost use Rattle.wsn_print.specs.FaultText.{recut_fault_line, unfinished_line, line_fault_line, stop_line};
-ghost use Rattle.wsn_print.specs.NamedReportText.{named_report_line, named_report_object};
-ghost use Rattle.wsn_print.specs.ReportText.{report_lines};
 ghost use Rattle.wsn_print.specs.Statuses.{verdict_status, comparison_status, outcome_status};
 
 /// The lines of verdicts, whatever the summary's other counts are.
@@ -40,16 +37,16 @@ pub fn of_verdicts()
       unfinished = None;
     })) ≡ codes "accepted 8 tail 1099511627768 unfinished -\n" }
     ensures cut { (s : Summary) → verdict_line (Cut (record s { used = 2 })) ≡ codes "cut 2\n" }
-    ensures refused { verdict_line (Refused (record { place = 5; reason = TextBad }))
+    ensures refused { verdict_line (Refused (record { offset = 5; reason = TextBad }))
         ≡ codes "refused 5 text-bad 1007\n" }
-    ensures refused_late { verdict_line (Refused (record { place = 65545; reason = LengthTopBit }))
+    ensures refused_late { verdict_line (Refused (record { offset = 65545; reason = LengthTopBit }))
         ≡ codes "refused 65545 length-top-bit 1002\n" }
 {}
 
 /// The lines of heads.
 pub fn of_heads()
     ensures masked { head_line (record {
-      place = 0;
+      offset = 0;
       fin = true;
       op = Text;
       key = Some (0x37 ∷ 0xfa ∷ 0x21 ∷ 0x3d ∷ []);
@@ -57,7 +54,7 @@ pub fn of_heads()
       len = 5;
     }) ≡ codes "0 fin text 37fa213d 5\n" }
     ensures small_key { head_line (record {
-      place = 13;
+      offset = 13;
       fin = true;
       op = Ping;
       key = Some
@@ -65,23 +62,23 @@ pub fn of_heads()
       form = Shortest;
       len = 0;
     }) ≡ codes "13 fin ping 00000001 0\n" }
-    ensures not_final { head_line (record { place = 0; fin = false; op = Text; key = None; form = Shortest; len = 3 })
+    ensures not_final { head_line (record { offset = 0; fin = false; op = Text; key = None; form = Shortest; len = 3 })
         ≡ codes "0 more text - 3\n" }
     ensures continued { head_line (record {
-      place = 7;
+      offset = 7;
       fin = true;
       op = Continue;
       key = None;
       form = Shortest;
       len = 2;
     }) ≡ codes "7 fin cont - 2\n" }
-    ensures two { head_line (record { place = 0; fin = true; op = Binary; key = None; form = Two; len = 0 })
+    ensures two { head_line (record { offset = 0; fin = true; op = Binary; key = None; form = Two; len = 0 })
         ≡ codes "0 fin binary - 0 two\n" }
-    ensures eight { head_line (record { place = 0; fin = true; op = Binary; key = None; form = Eight; len = 65535 })
+    ensures eight { head_line (record { offset = 0; fin = true; op = Binary; key = None; form = Eight; len = 65535 })
         ≡ codes "0 fin binary - 65535 eight\n" }
-    ensures close { head_line (record { place = 300; fin = true; op = Close; key = None; form = Shortest; len = 2 })
+    ensures close { head_line (record { offset = 300; fin = true; op = Close; key = None; form = Shortest; len = 2 })
         ≡ codes "300 fin close - 2\n" }
-    ensures pong { head_line (record { place = 2; fin = true; op = Pong; key = None; form = Shortest; len = 125 })
+    ensures pong { head_line (record { offset = 2; fin = true; op = Pong; key = None; form = Shortest; len = 125 })
         ≡ codes "2 fin pong - 125\n" }
 {}
 
@@ -104,39 +101,39 @@ pub fn of_streams()
 
 /// The line of a refusal for each reason, with its word and its close code.
 pub fn of_refusals()
-    ensures reserved_bits { verdict_line (Refused (record { place = 0; reason = reason.ReservedBits }))
+    ensures reserved_bits { verdict_line (Refused (record { offset = 0; reason = reason.ReservedBits }))
         ≡ codes "refused 0 reserved-bits 1002\n" }
-    ensures reserved_opcode { verdict_line (Refused (record { place = 0; reason = reason.ReservedOpcode }))
+    ensures reserved_opcode { verdict_line (Refused (record { offset = 0; reason = reason.ReservedOpcode }))
         ≡ codes "refused 0 reserved-opcode 1002\n" }
-    ensures control_not_final { verdict_line (Refused (record { place = 2; reason = reason.ControlNotFinal }))
+    ensures control_not_final { verdict_line (Refused (record { offset = 2; reason = reason.ControlNotFinal }))
         ≡ codes "refused 2 control-not-final 1002\n" }
-    ensures nothing_to_continue { verdict_line (Refused (record { place = 0; reason = reason.NothingToContinue }))
+    ensures nothing_to_continue { verdict_line (Refused (record { offset = 0; reason = reason.NothingToContinue }))
         ≡ codes "refused 0 nothing-to-continue 1002\n" }
-    ensures message_open { verdict_line (Refused (record { place = 2; reason = reason.MessageOpen }))
+    ensures message_open { verdict_line (Refused (record { offset = 2; reason = reason.MessageOpen }))
         ≡ codes "refused 2 message-open 1002\n" }
-    ensures mask_missing { verdict_line (Refused (record { place = 1; reason = reason.MaskMissing }))
+    ensures mask_missing { verdict_line (Refused (record { offset = 1; reason = reason.MaskMissing }))
         ≡ codes "refused 1 mask-missing 1002\n" }
-    ensures mask_present { verdict_line (Refused (record { place = 1; reason = reason.MaskPresent }))
+    ensures mask_present { verdict_line (Refused (record { offset = 1; reason = reason.MaskPresent }))
         ≡ codes "refused 1 mask-present 1002\n" }
-    ensures control_too_long { verdict_line (Refused (record { place = 1; reason = reason.ControlTooLong }))
+    ensures control_too_long { verdict_line (Refused (record { offset = 1; reason = reason.ControlTooLong }))
         ≡ codes "refused 1 control-too-long 1002\n" }
-    ensures close_one_byte { verdict_line (Refused (record { place = 1; reason = reason.CloseOneByte }))
+    ensures close_one_byte { verdict_line (Refused (record { offset = 1; reason = reason.CloseOneByte }))
         ≡ codes "refused 1 close-one-byte 1002\n" }
-    ensures length_top_bit { verdict_line (Refused (record { place = 9; reason = reason.LengthTopBit }))
+    ensures length_top_bit { verdict_line (Refused (record { offset = 9; reason = reason.LengthTopBit }))
         ≡ codes "refused 9 length-top-bit 1002\n" }
-    ensures length_not_minimal { verdict_line (Refused (record { place = 3; reason = reason.LengthNotMinimal }))
+    ensures length_not_minimal { verdict_line (Refused (record { offset = 3; reason = reason.LengthNotMinimal }))
         ≡ codes "refused 3 length-not-minimal 1002\n" }
-    ensures message_too_big { verdict_line (Refused (record { place = 6; reason = reason.MessageTooBig }))
+    ensures message_too_big { verdict_line (Refused (record { offset = 6; reason = reason.MessageTooBig }))
         ≡ codes "refused 6 message-too-big 1009\n" }
-    ensures close_code { verdict_line (Refused (record { place = 3; reason = reason.CloseCode }))
+    ensures close_code { verdict_line (Refused (record { offset = 3; reason = reason.CloseCode }))
         ≡ codes "refused 3 close-code 1002\n" }
-    ensures close_reason { verdict_line (Refused (record { place = 4; reason = reason.CloseReason }))
+    ensures close_reason { verdict_line (Refused (record { offset = 4; reason = reason.CloseReason }))
         ≡ codes "refused 4 close-reason 1007\n" }
-    ensures text_bad { verdict_line (Refused (record { place = 5; reason = reason.TextBad }))
+    ensures text_bad { verdict_line (Refused (record { offset = 5; reason = reason.TextBad }))
         ≡ codes "refused 5 text-bad 1007\n" }
-    ensures text_cut { verdict_line (Refused (record { place = 2; reason = reason.TextCut }))
+    ensures text_cut { verdict_line (Refused (record { offset = 2; reason = reason.TextCut }))
         ≡ codes "refused 2 text-cut 1007\n" }
-    ensures too_many_frames { verdict_line (Refused (record { place = 4; reason = reason.TooManyFrames }))
+    ensures too_many_frames { verdict_line (Refused (record { offset = 4; reason = reason.TooManyFrames }))
         ≡ codes "refused 4 too-many-frames 1008\n" }
 {}
 
@@ -149,9 +146,9 @@ pub fn of_comparisons()
         ≡ codes "first cut 1\n" }
     ensures second_cut { (s : Summary) → comparison_line (NotAccepted true (Cut (record s { used = 5 })))
         ≡ codes "second cut 5\n" }
-    ensures first_refused { comparison_line (NotAccepted false (Refused (record { place = 5; reason = TextBad })))
+    ensures first_refused { comparison_line (NotAccepted false (Refused (record { offset = 5; reason = TextBad })))
         ≡ codes "first refused 5 text-bad 1007\n" }
-    ensures second_refused { comparison_line (NotAccepted true (Refused (record { place = 0; reason = reason.ReservedBits })))
+    ensures second_refused { comparison_line (NotAccepted true (Refused (record { offset = 0; reason = reason.ReservedBits })))
         ≡ codes "second refused 0 reserved-bits 1002\n" }
 {}
 
@@ -182,104 +179,6 @@ pub fn of_stops()
     ensures input_limit { stop_line stop.InputLimit ≡ codes "input limit\n" }
     ensures memory { stop_line stop.Memory ≡ codes "out of memory\n" }
     ensures write { stop_line stop.Write ≡ codes "write failed\n" }
-{}
-
-/// The line and the object of a report on one of several captures; a line feed in the file's name is escaped.
-pub fn of_named_reports()
-    ensures line { named_report_line (codes "a\nb.capture") (record {
-      client = side.Closed (Some 1000);
-      server = side.Refused (record { place = 11; reason = TextBad });
-      first = Some Client;
-      echo = None;
-      client_sees = Some 1006;
-      server_sees = Some 1000;
-      outcome = outcome.Failed;
-    }) ≡ codes "a\\u000ab.capture\tfailed\tclosed 1000\trefused 11 text-bad 1007\n" }
-    ensures running { named_report_line (codes "b") (record {
-      client = side.Closed None;
-      server = side.Running;
-      first = Some Client;
-      echo = None;
-      client_sees = None;
-      server_sees = Some 1005;
-      outcome = outcome.Half;
-    }) ≡ codes "b\thalf\tclosed -\trunning\n" }
-    ensures object { named_report_object (codes "a\"b") (record {
-      client = side.Cut;
-      server = side.Ended;
-      first = None;
-      echo = None;
-      client_sees = Some 1006;
-      server_sees = Some 1006;
-      outcome = outcome.Abnormal;
-    }) ≡ codes "{\"file\":\"a\\\"b\",\"type\":\"report\",\"client\":{\"state\":\"cut\"},\"server\":{\"state\":\"ended\"},\"first\":null,\"echo\":null,\"client_sees\":1006,\"server_sees\":1006,\"outcome\":\"abnormal\"}\n" }
-{}
-
-/// The seven lines of reports: each word of each field.
-pub fn of_reports()
-    ensures clean { report_lines (record {
-      client = side.Closed (Some 1000);
-      server = side.Closed (Some 1000);
-      first = Some Client;
-      echo = Some true;
-      client_sees = Some 1000;
-      server_sees = Some 1000;
-      outcome = outcome.Clean;
-    }) ≡ codes "client closed 1000\nserver closed 1000\nfirst client\necho yes\nclient-sees 1000\nserver-sees 1000\noutcome clean\n" }
-    ensures complete { report_lines (record {
-      client = side.Closed (Some 1000);
-      server = side.Closed None;
-      first = Some Server;
-      echo = Some false;
-      client_sees = Some 1005;
-      server_sees = Some 1000;
-      outcome = outcome.Complete;
-    }) ≡ codes "client closed 1000\nserver closed -\nfirst server\necho no\nclient-sees 1005\nserver-sees 1000\noutcome complete\n" }
-    ensures ended { report_lines (record {
-      client = side.Running;
-      server = side.Ended;
-      first = None;
-      echo = None;
-      client_sees = Some 1006;
-      server_sees = None;
-      outcome = outcome.Abnormal;
-    }) ≡ codes "client running\nserver ended\nfirst -\necho -\nclient-sees 1006\nserver-sees -\noutcome abnormal\n" }
-    ensures cut { report_lines (record {
-      client = side.Cut;
-      server = side.Running;
-      first = None;
-      echo = None;
-      client_sees = None;
-      server_sees = Some 1006;
-      outcome = outcome.Abnormal;
-    }) ≡ codes "client cut\nserver running\nfirst -\necho -\nclient-sees -\nserver-sees 1006\noutcome abnormal\n" }
-    ensures half { report_lines (record {
-      client = side.Running;
-      server = side.Closed (Some 1001);
-      first = Some Server;
-      echo = None;
-      client_sees = Some 1001;
-      server_sees = None;
-      outcome = outcome.Half;
-    }) ≡ codes "client running\nserver closed 1001\nfirst server\necho -\nclient-sees 1001\nserver-sees -\noutcome half\n" }
-    ensures refused { report_lines (record {
-      client = side.Closed None;
-      server = side.Refused (record { place = 3; reason = reason.CloseCode });
-      first = Some Client;
-      echo = None;
-      client_sees = Some 1006;
-      server_sees = Some 1005;
-      outcome = outcome.Failed;
-    }) ≡ codes "client closed -\nserver refused 3 close-code 1002\nfirst client\necho -\nclient-sees 1006\nserver-sees 1005\noutcome failed\n" }
-    ensures nothing { report_lines (record {
-      client = side.Running;
-      server = side.Running;
-      first = None;
-      echo = None;
-      client_sees = None;
-      server_sees = None;
-      outcome = outcome.Live;
-    }) ≡ codes "client running\nserver running\nfirst -\necho -\nclient-sees -\nserver-sees -\noutcome open\n" }
 {}
 
 /// The exit statuses of verdicts, and of a stop before one.

@@ -29,7 +29,9 @@ pub fn put_comment<W: Write>(to: &mut Output<W>, text: &[u8]) -> Result<(), Stop
     put_line(to, b"\n")
 }
 
-pub(crate) fn put_comment_text<W: Write>(to: &mut Output<W>, text: &[u8]) -> Result<(), Stop>
+/// Writes the text of a comment without a line feed, as [`put_comment`] does. `Stop::Write` if the writer fails: a prefix of
+/// the text was written.
+pub fn put_comment_text<W: Write>(to: &mut Output<W>, text: &[u8]) -> Result<(), Stop>
     requires { to.old.failed ≡ false }
     ensures { IsWrittenOrStops to.old to.new (comment_text text.now) result }
 {
@@ -47,11 +49,30 @@ pub fn put_quoted<W: Write>(to: &mut Output<W>, text: &[u8]) -> Result<(), Stop>
     ensures unfailed { IfOk result (λ done. to.new.failed ≡ false) }
 {
     let mut held = HeldText::new();
+    hold_quoted(to, &mut held, text)?;
+    put_line(to, held.as_slice())
+}
+
+/// Adds a text in UTF-8 between quotation marks to what is held, and writes what is held where there is no room for more;
+/// then 40 bytes more have room. The text isn't validated. `Stop::Write` if the writer fails: a prefix of what was held and
+/// of the text was written.
+#[inline(never)]
+pub fn hold_quoted<W: Write>(
+    to: &mut Output<W>,
+    held: &mut HeldText,
+    text: &[u8],
+) -> Result<(), Stop>
+    requires unfailed { to.old.failed ≡ false }
+    requires room { length held.old + 1 ≤ 256 }
+    ensures text { IsUtf8 text.now → IsHeldOrStops to.old to.new held.old held.new (quoted text.now) result }
+    ensures unfailed { IfOk result (λ done. to.new.failed ≡ false) }
+    ensures room { IfOk result (λ done. length held.new + 40 ≤ 256) }
+{
     held.add_mark();
-    hold_escaped(to, &mut held, Escapes::Quoted, text)?;
+    hold_escaped(to, held, Escapes::Quoted, text)?;
     held.make_room(to, TURN_MAX)?;
     held.add_mark();
-    put_line(to, held.as_slice())
+    Ok(())
 }
 
 /// Writes the characters of a text that is quoted.

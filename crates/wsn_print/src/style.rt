@@ -11,7 +11,7 @@ pub struct Style {
     pub view: ViewLimit,
     /// What is shown of a stream's frames.
     pub detail: Detail,
-    /// Whether lines of words or JSON objects are printed.
+    /// Whether lines of words, lines for people or JSON objects are printed.
     pub format: Format,
     ghost in_range: { view ≤ 4096 },
 }

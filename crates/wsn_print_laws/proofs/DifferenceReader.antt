@@ -7,48 +7,42 @@ use Rattle.std.proofs.lemmas.Bool.Decides.{nat_tests}
 use Rattle.hex.specs.Hex.{encode_lower}
 use Rattle.wsn_wire.specs.declared.endpoint.Role.{Role}
 use Rattle.wsn_wire.specs.declared.opcode.Kind.TheVariants as kinds
-use Rattle.wsn_rules.specs.declared.head_info.HeadInfo.{HeadInfo}
 use Rattle.wsn_rules.specs.Meaning.{MeantEvent, Message, Control}
 use Rattle.wsn_rules.specs.ShownStream.{Item}
-use Rattle.wsn_rules.specs.ShownStream.Item.{Head}
-use Rattle.wsn_print.specs.Json.{field, string_field, number_field}
-use Rattle.wsn_shown_text.specs.ShownText.{hex_text, seen_text, offset_of}
-use Rattle.wsn_shown_text.specs.ShownObjects.{object_front, item_type}
+use Rattle.wsn_rules.specs.ShownOffsets.{offset_of}
+use Rattle.wsn_shown_text.specs.Members.{item_type}
+use Rattle.wsn_shown_text.specs.ShownText.{hex_text, seen_text}
 use Rattle.wsn_print.specs.ShownParts.EntryPosition.{InStream}
 use Rattle.wsn_print.specs.DifferingPayloads.{place_in, view_start, part_at, event_in}
-use Rattle.wsn_shown_text.specs.DifferingText.{view_at, differ_field}
+use Rattle.wsn_shown_text.specs.DifferingText.{view_at}
 use Rattle.wsn_shown_text.specs.AsciiText.{ascii_character, ascii_quoted}
 use Rattle.wsn_shown_text.specs.Views.{view_of_part}
 use Rattle.wsn_shown_text.specs.Views.Shown.{Hex}
-use Rattle.wsn_shown_text.specs.DifferenceText.{event_value, difference_object}
+use Rattle.wsn_shown_text.specs.DifferenceText.{difference_object}
 use Rattle.wsn_shown_text.proofs.DifferingParts.{no_view, view_is}
 use Rattle.wsn_shown_text.proofs.HeldViews.{not_zero, as_view}
 use Rattle.wsn_print_laws.specs.JsonText.{Null, String, Object, Members, Member, IsJsonLine}
 use Rattle.wsn_print_laws.specs.Answers.{IsInU64}
 use Rattle.wsn_print_laws.specs.ShownItems.{IsItemInRange}
-use Rattle.wsn_print_laws.specs.ShownDifferences.{IsDifferenceInRange, IsNoFrame, AreNoFrames, BothLookAlike, HaveLikeViews, DifferAlike}
+use Rattle.wsn_print_laws.specs.ShownDifferences.{IsDifferenceInRange, BothLookAlike, HaveLikeViews, DifferAlike}
 use Rattle.wsn_print_laws.proofs.Fields.{number, one_number, one_line}
 use Rattle.wsn_print_laws.proofs.ShownJson.{view_json, item_json, offset_fits}
 use Rattle.wsn_print_laws.proofs.ShownReader.{has_more, dots, dash_for_none, more_by, dash_is, after_first, one_place, look_alike}
-use Rattle.wsn_print_laws.proofs.Differences.{short_json, stream_members, stream_json, view_members, around_json, start_fits, place_json, IsEventInRange, place_fits, event_fits, differ_json, difference_members, difference_json_line}
+use Rattle.wsn_print_laws.proofs.Differences.{stream_members, stream_json, view_members, around_json, start_fits, place_json, IsEventInRange, place_fits, event_fits, differ_json, difference_members, difference_json_line}
 
 -- ---- an item of one of the streams
 
-whole : (n : ℕ) (item : Item) → IsNoFrame item → short_json n item ≡ item_json n item
-whole n (Head h) is = absurd is
-whole n item is = refl
-
-one_stream : (n : ℕ) (role other : Role) (one another : Option Item) → IfSome one IsItemInRange → IfSome another IsItemInRange → IfSome one IsNoFrame → IfSome another IsNoFrame
+one_stream : (n : ℕ) (role other : Role) (one another : Option Item) → IfSome one IsItemInRange → IfSome another IsItemInRange
     → stream_json n role one ≡ stream_json n other another → BothLookAlike n one another × (one ≢ None → role ≡ other)
-one_stream n role other None None fits also is too same = (tt, λ some. absurd (some refl))
-one_stream n role other None (Some another) fits also is too same = absurd cc
-one_stream n role other (Some item) None fits also is too same = absurd cc
-one_stream n role other (Some item) (Some another) fits also is too same =
+one_stream n role other None None fits also same = (tt, λ some. absurd (some refl))
+one_stream n role other None (Some another) fits also same = absurd cc
+one_stream n role other (Some item) None fits also same = absurd cc
+one_stream n role other (Some item) (Some another) fits also same =
     let types : item_type item ≡ item_type another = cc in
     let members : stream_members n role item ≡ stream_members n other another = cc in
-    let placed = one_place role other InStream InStream (offset_of item) (offset_of another) (short_json n item) (short_json n another) tt tt members in
+    let placed = one_place role other InStream InStream (offset_of item) (offset_of another) (item_json n item) (item_json n another) tt tt members in
     let offsets = one_number (offset_of item) (offset_of another) (offset_fits item fits) (offset_fits another also) placed.2 in
-    (look_alike n item another fits also types offsets (sym (whole n item is) ∙ placed.3 ∙ whole n another too), λ some. placed.0)
+    (look_alike n item another fits also types offsets placed.3, λ some. placed.0)
 
 -- ---- the view around a place
 
@@ -138,9 +132,9 @@ one_place_in n place (Some other) one two (Some another_one) None is too fits al
 -- ---- the whole
 
 pub one_difference : (n : ℕ) (role other_role : Role) (k other_k : ℕ) (one two other_one other_two : Option Item) → IsDifferenceInRange k one two → IsDifferenceInRange other_k other_one other_two
-    → AreNoFrames one two → AreNoFrames other_one other_two → difference_object n role k one two ≡ difference_object n other_role other_k other_one other_two
+    → difference_object n role k one two ≡ difference_object n other_role other_k other_one other_two
     → (k ≡ other_k) × DifferAlike n one two other_one other_two × ((one ≢ None) ⊎ (two ≢ None) → role ≡ other_role)
-one_difference n role other_role k other_k one two other_one other_two fits also are too same =
+one_difference n role other_role k other_k one two other_one other_two fits also same =
     let values : Object (difference_members n role k one two) ≡ Object (difference_members n other_role other_k other_one other_two) =
     one_line (Object (difference_members n role k one two)) (Object (difference_members n other_role other_k other_one other_two)) (difference_object n other_role other_k other_one other_two)
     (subst (λ (line : List ℕ). IsJsonLine (Object (difference_members n role k one two)) line) same (difference_json_line n role k one two fits))
@@ -149,8 +143,8 @@ one_difference n role other_role k other_k one two other_one other_two fits also
     let firsts : stream_json n role one ≡ stream_json n other_role other_one = cc in
     let seconds : stream_json n role two ≡ stream_json n other_role other_two = cc in
     let places : differ_json n one two ≡ differ_json n other_one other_two = cc in
-    let first = one_stream n role other_role one other_one fits.first also.first are.0 too.0 firsts in
-    let second = one_stream n role other_role two other_two fits.second also.second are.1 too.1 seconds in
+    let first = one_stream n role other_role one other_one fits.first also.first firsts in
+    let second = one_stream n role other_role two other_two fits.second also.second seconds in
     let place = one_place_in n (place_in (event_in one) (event_in two)) (place_in (event_in other_one) (event_in other_two)) (event_in one) (event_in two) (event_in other_one) (event_in other_two) refl refl
     (place_fits (event_in one) (event_in two) (event_fits one fits.first)) (place_fits (event_in other_one) (event_in other_two) (event_fits other_one also.first))
     (event_fits one fits.first) (event_fits two fits.second) (event_fits other_one also.first) (event_fits other_two also.second) places in (
@@ -162,13 +156,3 @@ one_difference n role other_role k other_k one two other_one other_two fits also
     of_one : (one ≢ None → role ≡ other_role) → (two ≢ None → role ≡ other_role) → (one ≢ None) ⊎ (two ≢ None) → role ≡ other_role
     of_one first second (inl some) = first some
     of_one first second (inr some) = second some
-
--- Of a frame only its place is there.
-pub frame_left_out : (n : ℕ) (role : Role) (k : ℕ) (head another : HeadInfo) (other : Option Item) → head.place ≡ another.place
-    → difference_object n role k (Some (Head head)) other ≡ difference_object n role k (Some (Head another)) other
-frame_left_out n role k head another other same = ap
-    (λ (place : ℕ).
-    (codes "{\"type\":\"comparison\"" ++ string_field (codes "answer") (codes "different") ++ number_field (codes "event") k)
-    ++ field (codes "first") ((object_front (codes "frame") role InStream ++ number_field (codes "offset") place ++ codes "") ++ codes "}")
-    ++ field (codes "second") (event_value n role other) ++ differ_field n None other ++ codes "}\n")
-    same

@@ -8,12 +8,13 @@ use Rattle.wsn_wire.specs.declared.opcode.Kind.TheVariants as kinds
 use Rattle.wsn_wire.specs.Frame.{IsBytes}
 use Rattle.wsn_rules.specs.Meaning.{MeantEvent, Message, Control, payload_in}
 use Rattle.wsn_rules.specs.ShownStream.{Item}
-use Rattle.wsn_rules.specs.ShownStream.Item.{Event, Head}
+use Rattle.wsn_rules.specs.ShownStream.Item.{Event}
+use Rattle.wsn_rules.specs.ShownOffsets.{offset_of}
 use Rattle.wsn_print.specs.Json.{field, string_field, number_field}
 use Rattle.wsn_print.specs.ShownParts.{text_part}
 use Rattle.wsn_shown_text.specs.QuotedTexts.{ShowsTextReason}
-use Rattle.wsn_shown_text.specs.ShownText.{offset_of}
-use Rattle.wsn_shown_text.specs.ShownObjects.{view_fields, side_word, item_type, item_fields}
+use Rattle.wsn_shown_text.specs.Members.{item_type}
+use Rattle.wsn_shown_text.specs.ShownObjects.{view_fields, side_word}
 use Rattle.wsn_shown_text.specs.Views.{PayloadView, view_of_part}
 use Rattle.wsn_print.specs.ShownParts.EntryPosition.{InStream}
 use Rattle.wsn_print.specs.DifferingPayloads.{common_length, place_in, view_start, payload_on, part_length, event_in}
@@ -26,27 +27,18 @@ use Rattle.wsn_print_laws.specs.ShownItems.{AreBytesInRange, IsItemInRange}
 use Rattle.wsn_print_laws.specs.ShownDifferences.{IsDifferenceInRange}
 use Rattle.wsn_print_laws.proofs.Distinct.{distinct}
 use Rattle.wsn_print_laws.proofs.Fields.{number}
-use Rattle.wsn_print_laws.proofs.Texts.{IsTextOf, AreTextsOf, none, member, last, null_text, number_text, word_text, object_text, typed_text, typed_line}
-use Rattle.wsn_print_laws.proofs.ShownJson.{view_json, item_json, placed_json, IsShownInRange, view_texts, take_bytes, drop_bytes, item_texts, plain_side, plain_type, offset_fits}
+use Rattle.wsn_print_laws.proofs.Texts.{IsTextOf, AreTextsOf, member, last, null_text, number_text, word_text, object_text, typed_text, typed_line}
+use Rattle.wsn_print_laws.proofs.ShownJson.{view_json, item_json, placed_json, IsShownInRange, view_texts, take_bytes, drop_bytes, fields_of, item_texts, plain_side, plain_type, offset_fits}
 use Rattle.wsn_print_laws.proofs.ShownNames.{new_to, view_names, IsView, view_is, IsItem, item_is, placed_distinct}
 
 -- ---- an item of one of the streams
 
--- The members after the offset: of a frame none.
-abbrev pub short_json : ℕ → Item → Members
-short_json n (Head h) = End
-short_json n item = item_json n item
-
 abbrev pub stream_members : ℕ → Role → Item → Members
-stream_members n role item = placed_json role InStream (offset_of item) (short_json n item)
+stream_members n role item = placed_json role InStream (offset_of item) (item_json n item)
 
 abbrev pub stream_json : ℕ → Role → Option Item → Value
 stream_json n role None = Null
 stream_json n role (Some item) = Object (Member (codes "type") (String (item_type item)) (stream_members n role item))
-
-short_texts : (n : ℕ) (item : Item) → IsItemInRange item → ShowsTextReason item → AreTextsOf (short_json n item) (item_fields n item)
-short_texts n (Head h) fits reason = none
-short_texts n item fits reason = item_texts n item fits reason
 
 stream_parts : (a k q s o f z : List ℕ) → a ++ (k ++ (q ++ ((s ++ (o ++ f)) ++ z))) ≡ ((a ++ k ++ q ++ [] ++ s ++ [] ++ []) ++ o ++ f) ++ z
 stream_parts a k q s o f z = simp append_assoc
@@ -54,23 +46,19 @@ stream_parts a k q s o f z = simp append_assoc
 stream_text : (n : ℕ) (role : Role) (one : Option Item) → IfSome one IsItemInRange → IfSome one ShowsTextReason → IsTextOf (stream_json n role one) (event_value n role one)
 stream_text n role None fits reason = null_text
 stream_text n role (Some item) fits reason =
-    let offset = member (codes "offset") refl (number_text (offset_of item) (offset_fits item fits)) (short_texts n item fits reason) in
+    let offset = member (codes "offset") refl (number_text (offset_of item) (offset_fits item fits)) (item_texts n item fits reason) in
     let side = member (codes "side") refl (word_text (side_word role) (plain_side role)) offset in
-    let is = typed_text (item_type item) (string_field (codes "side") (side_word role) ++ (number_field (codes "offset") (offset_of item) ++ item_fields n item)) (stream_members n role item) (plain_type item) side in
+    let is = typed_text (item_type item) (string_field (codes "side") (side_word role) ++ (number_field (codes "offset") (offset_of item) ++ fields_of n item)) (stream_members n role item) (plain_type item) side in
     record {
       is =
           subst (λ (text : List ℕ). IsValue (stream_json n role (Some item)) text)
-          (stream_parts (codes "{\"type\":\"") (item_type item) (codes "\"") (string_field (codes "side") (side_word role)) (number_field (codes "offset") (offset_of item)) (item_fields n item) (codes "}"))
+          (stream_parts (codes "{\"type\":\"") (item_type item) (codes "\"") (string_field (codes "side") (side_word role)) (number_field (codes "offset") (offset_of item)) (fields_of n item) (codes "}"))
           is.is;
     }
 
-short_is : (n : ℕ) (item : Item) → IsItem (short_json n item)
-short_is n (Head h) = record { names = tt; are_distinct = tt }
-short_is n item = item_is n item
-
 stream_distinct : (n : ℕ) (role : Role) (one : Option Item) → HasDistinctNames (stream_json n role one)
 stream_distinct n role None = tt
-stream_distinct n role (Some item) = placed_distinct role InStream (offset_of item) (item_type item) (short_json n item) (short_is n item)
+stream_distinct n role (Some item) = placed_distinct role InStream (offset_of item) (item_type item) (item_json n item) (item_is n item)
 
 -- ---- the view around a place
 

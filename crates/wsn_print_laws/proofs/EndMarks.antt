@@ -1,5 +1,5 @@
 -- An end mark's object is JSON with distinct names, and determines the end mark.
-use Rattle.std.proofs.Common.{◌≡◌, ℕ, List, ◌++◌, codes, refl, subst, append_assoc}
+use Rattle.std.proofs.Common.{◌≡◌, ℕ, List, [], ◌++◌, codes, refl, subst, append_assoc, append-nil}
 use Rattle.wsn_wire.specs.declared.endpoint.Role.{Role}
 use Rattle.wsn_print.specs.Json.{string_field, number_field}
 use Rattle.wsn_print.specs.ShownParts.{EntryPosition}
@@ -28,8 +28,8 @@ end_texts role position sent place fits =
     (string_field (codes "side") (side_word role) ++ ((time_key position ++ time_value position) ++ number_field (codes "offset") sent)) place
     (member (codes "side") refl (word_text (side_word role) (plain_side role)) time)
 
-nine : (a k q l s t v o z : List ℕ) → a ++ (k ++ (q ++ ((l ++ (s ++ ((t ++ v) ++ o))) ++ z))) ≡ (a ++ k ++ q ++ l ++ s ++ t ++ v) ++ o ++ z
-nine a k q l s t v o z = simp append_assoc
+nine : (a k q l s t v o z : List ℕ) → a ++ (k ++ (q ++ ((l ++ (s ++ ((t ++ v) ++ o))) ++ z))) ≡ (a ++ k ++ q ++ l ++ s ++ t ++ v) ++ o ++ [] ++ z
+nine a k q l s t v o z = simp (append_assoc, append-nil)
 
 end_json_line : (role : Role) (position : EntryPosition) (sent : ℕ) → IsPositionInRange position → IsInU64 sent → IsJsonLine (end_value role position sent) (end_object role position sent)
 end_json_line role position sent place fits =

@@ -8,7 +8,7 @@ use Rattle.wsn_wire.specs.declared.length_forms.Form.TheVariants as forms
 use Rattle.wsn_rules.specs.declared.head_info.HeadInfo.{HeadInfo}
 use Rattle.wsn_print.specs.Fields.{op_word}
 use Rattle.wsn_print.specs.Json.{boolean, field, string_field, number_field}
-use Rattle.wsn_print.specs.Objects.{key_value, form_word, head_members, head_fields, frame_object}
+use Rattle.wsn_print.specs.Objects.{key_value, form_word, head_members, frame_fields, frame_object}
 use Rattle.wsn_print_laws.specs.JsonText.{String, Object, Members, End, Member}
 use Rattle.wsn_print_laws.specs.Answers.{IsHeadInRange}
 use Rattle.wsn_print_laws.proofs.Strings.{are_unescaped}
@@ -73,7 +73,7 @@ plain_form forms.Eight = refl
 
 abbrev pub head_json : HeadInfo → Members
 head_json h =
-    Member (codes "offset") (number h.place) (Member (codes "fin") (boolean_json h.fin) (Member (codes "opcode") (String (op_word h.op))
+    Member (codes "offset") (number h.offset) (Member (codes "fin") (boolean_json h.fin) (Member (codes "opcode") (String (op_word h.op))
     (Member (codes "key") (key_json h.key) (Member (codes "length") (number h.len) (Member (codes "form") (String (form_word h.form)) End)))))
 
 abbrev pub frame_members : HeadInfo → Members
@@ -84,21 +84,21 @@ frame_members h = Member (codes "type") (String (codes "frame")) (head_json h)
 five : (a b c d e rest : List ℕ) → a ++ (b ++ (c ++ (d ++ (e ++ rest)))) ≡ (a ++ b ++ c ++ d ++ e) ++ rest
 five a b c d e rest = simp append_assoc
 
-pub head_written : (h : HeadInfo) (rest : List ℕ) → AreWritten (head_json h) rest (head_fields h ++ rest)
+pub head_written : (h : HeadInfo) (rest : List ℕ) → AreWritten (head_json h) rest (frame_fields h ++ rest)
 head_written h rest =
     let last : AreWritten End rest rest = record { are = refl } in
-    let members = member (codes "offset") (number_is h.place) (member (codes "fin") (boolean_is h.fin) (member (codes "opcode") (word_is (op_word h.op))
+    let members = member (codes "offset") (number_is h.offset) (member (codes "fin") (boolean_is h.fin) (member (codes "opcode") (word_is (op_word h.op))
     (member (codes "key") (key_is h.key) (member (codes "length") (number_is h.len) (member (codes "form") (word_is (form_word h.form)) last))))) in
     record {
       are =
           members.are
-          ∙ ap (λ (bs : List ℕ). number_field (codes "offset") h.place ++ bs) (five (field (codes "fin") (boolean h.fin)) (string_field (codes "opcode") (op_word h.op)) (field (codes "key") (key_value h.key)) (number_field (codes "length") h.len) (string_field (codes "form") (form_word h.form)) rest)
-          ∙ sym (append_assoc (number_field (codes "offset") h.place) (head_members h) rest);
+          ∙ ap (λ (bs : List ℕ). number_field (codes "offset") h.offset ++ bs) (five (field (codes "fin") (boolean h.fin)) (string_field (codes "opcode") (op_word h.op)) (field (codes "key") (key_value h.key)) (number_field (codes "length") h.len) (string_field (codes "form") (form_word h.form)) rest)
+          ∙ sym (append_assoc (number_field (codes "offset") h.offset) (head_members h) rest);
     }
 
 pub frame_written : (h : HeadInfo) → frame_object h ≡ write (Object (frame_members h)) (codes "\n")
 frame_written h =
-    append_assoc (codes "{\"type\":\"frame\"") (head_fields h) (codes "}\n")
+    append_assoc (codes "{\"type\":\"frame\"") (frame_fields h) (codes "}\n")
     ∙ ap (λ (bs : List ℕ). codes "{\"type\":\"frame\"" ++ bs) (sym (head_written h (codes "}\n")).are)
 
 -- ---- plain
@@ -110,7 +110,7 @@ plain_boolean false = tt
 pub head_plain : (h : HeadInfo) → IsHeadInRange h → ArePlain (head_json h)
 head_plain h fits = (
   refl,
-  decimal_number h.place fits.place,
+  decimal_number h.offset fits.offset,
   (
     refl,
     plain_boolean h.fin,
@@ -132,26 +132,26 @@ frame_plain h fits = (refl, refl, head_plain h fits)
 -- ---- what the value determines
 
 head_of : ℕ → Bool → Op → Option (List ℕ) → Form → ℕ → HeadInfo
-head_of place fin op key form len = record { place = place; fin = fin; op = op; key = key; form = form; len = len }
+head_of place fin op key form len = record { offset = place; fin = fin; op = op; key = key; form = form; len = len }
 
 heads : (p p' l l' : ℕ) (f f' : Bool) (o o' : Op) (k k' : Option (List ℕ)) (m m' : Form) → p ≡ p' → f ≡ f' → o ≡ o' → k ≡ k' → m ≡ m' → l ≡ l'
     → head_of p f o k m l ≡ head_of p' f' o' k' m' l'
 heads p p' l l' f f' o o' k k' m m' places fins ops keys forms lens = cc
 
-head_same : (h other : HeadInfo) → h.place ≡ other.place → h.fin ≡ other.fin → h.op ≡ other.op → h.key ≡ other.key → h.form ≡ other.form → h.len ≡ other.len → h ≡ other
+head_same : (h other : HeadInfo) → h.offset ≡ other.offset → h.fin ≡ other.fin → h.op ≡ other.op → h.key ≡ other.key → h.form ≡ other.form → h.len ≡ other.len → h ≡ other
 unfolding head_of
 head_same h other places fins same_ops keys same_forms lens =
-    heads h.place other.place h.len other.len h.fin other.fin h.op other.op h.key other.key h.form other.form places fins same_ops keys same_forms lens
+    heads h.offset other.offset h.len other.len h.fin other.fin h.op other.op h.key other.key h.form other.form places fins same_ops keys same_forms lens
 
 pub one_head : (h other : HeadInfo) → IsHeadInRange h → IsHeadInRange other → head_json h ≡ head_json other → h ≡ other
 one_head h other fits also same =
-    let places : number h.place ≡ number other.place = cc in
+    let places : number h.offset ≡ number other.offset = cc in
     let fins : boolean_json h.fin ≡ boolean_json other.fin = cc in
     let words : op_word h.op ≡ op_word other.op = cc in
     let keys : key_json h.key ≡ key_json other.key = cc in
     let lens : number h.len ≡ number other.len = cc in
     let form_words : form_word h.form ≡ form_word other.form = cc in
-    head_same h other (one_number h.place other.place fits.place also.place places) (one_boolean h.fin other.fin fins) (one_op h.op other.op words)
+    head_same h other (one_number h.offset other.offset fits.offset also.offset places) (one_boolean h.fin other.fin fins) (one_op h.op other.op words)
     (one_key h.key other.key fits.key also.key keys) (one_form h.form other.form form_words) (one_number h.len other.len fits.len also.len lens)
 
 pub one_frame : (h other : HeadInfo) → IsHeadInRange h → IsHeadInRange other → frame_object h ≡ frame_object other → h ≡ other

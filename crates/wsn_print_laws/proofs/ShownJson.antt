@@ -1,6 +1,6 @@
 -- The value of a shown item's object.
 use Rattle.std.proofs.Common.{◌≡◌, ◌≢◌, ℕ, zero, suc, ◌+◌, ◌*◌, ◌-◌, ◌/◌, ◌<◌, ◌≤◌, ◌==◌, ◌||◌, inl, inr, Bool, true, false, if◌then◌else◌, Option, None, Some, List, [], ◌∷◌, ◌++◌, length, take, drop, codes, refl, sym, ap, ◌∙◌, subst, arith, append_assoc, append-nil}
-use Rattle.std.specs.Prelude.{nat_lt, decimal, IfSome, ⊤}
+use Rattle.std.specs.Prelude.{nat_lt, decimal, flat_map, IfSome, ⊤}
 use Rattle.std.specs.List.{AllByRecursion}
 use Rattle.std.specs.Str.{chars, IsUtf8}
 use Rattle.std.proofs.lemmas.Bool.{cases_lt}
@@ -14,24 +14,28 @@ use Rattle.wsn_wire.specs.Refusal.{word_of, code_of}
 use Rattle.wsn_rules.specs.BadCharacter.{BadCharacter}
 use Rattle.wsn_rules.specs.Meaning.{MeantEvent, Message, Control, payload_in}
 use Rattle.wsn_rules.specs.ShownCapture.{IsSeconds}
+use Rattle.wsn_rules.specs.declared.head_info.HeadInfo.{HeadInfo}
+use Rattle.wsn_rules.specs.declared.verdict.Refusal.{Refusal}
 use Rattle.wsn_rules.specs.ShownStream.{Item}
 use Rattle.wsn_rules.specs.ShownStream.Item.{Event, Head, Unfinished, UnfinishedHead, RefusedFrame, Unread, Tail}
+use Rattle.wsn_rules.specs.ShownOffsets.{offset_of}
 use Rattle.wsn_print.specs.Fields.{op_word}
 use Rattle.wsn_print.specs.Json.{number_or_null, boolean, field, string_field, number_field, number_or_null_field}
-use Rattle.wsn_print.specs.Objects.{key_value, form_word, head_members}
+use Rattle.wsn_print.specs.Objects.{key_value, form_word, head_members, refusal_fields}
 use Rattle.wsn_print.specs.ShownParts.{HasTextReason, EntryPosition}
 use Rattle.wsn_shown_text.specs.QuotedTexts.{ShowsTextReason}
 use Rattle.wsn_shown_text.specs.CharacterText.{from_character, bytes_before, text_before, leaves_out, shown_bytes, truncated_text, character_object, character_fields}
 use Rattle.wsn_print.specs.EscapedText.{quoted}
-use Rattle.wsn_shown_text.specs.Views.{Shown, PayloadView, is_printable, view_of_text, view_of_bytes, view_of_end, view_of_close, view_of_event, view_of_unfinished}
+use Rattle.wsn_shown_text.specs.Views.{Shown, PayloadView, EndView, is_printable, view_of_text, view_of_bytes, view_of_close, view_of_event, view_of_unfinished}
 use Rattle.wsn_shown_text.specs.Views.Shown.{Text, Ascii, Hex, Code, NoCode}
-use Rattle.wsn_shown_text.specs.ShownText.{event_word, event_size, offset_of}
-use Rattle.wsn_shown_text.specs.ShownObjects.{truncated_field, reason_field, shown_fields, view_fields, end_fields, line_field, side_word, time_key, time_value, event_fields, item_type, item_fields, item_object}
+use Rattle.wsn_shown_text.specs.Members.{Member as Part, event_word, event_size, item_type, members}
+use Rattle.wsn_shown_text.specs.Members.Member.{Mark, Word, Number as Numbered, Lacks, Frame, Refused, Seen, Ending, Bad}
+use Rattle.wsn_shown_text.specs.ShownObjects.{truncated_field, reason_field, shown_fields, view_fields, end_fields, line_field, side_word, time_key, time_value, member_field, item_object}
 use Rattle.wsn_print.specs.ShownParts.EntryPosition.{InLine, AtEnd, InStream}
 use Rattle.wsn_shown_text.proofs.HeldViews.{as_view}
 use Rattle.wsn_shown_text.proofs.TextFronts.{part_is_utf8, whole_is_utf8}
 use Rattle.wsn_print_laws.specs.JsonText.{IsNumber, IsInteger, Value, Null, True, Number, String, Object, Members, End, Member, IsJsonLine}
-use Rattle.wsn_print_laws.specs.Answers.{IsInU64}
+use Rattle.wsn_print_laws.specs.Answers.{IsInU64, IsHeadInRange}
 use Rattle.wsn_print_laws.specs.ShownItems.{IsPositionInRange, IsCharacterInRange, IsItemInRange}
 use Rattle.wsn_print_laws.proofs.Strings.{are_unescaped}
 use Rattle.wsn_print_laws.proofs.Words.{plain_reason}
@@ -73,29 +77,42 @@ character_members n evidence character =
     (Member (codes "before") (String (chars (text_before n evidence character)))
     (if n == 0 || leaves_out n evidence character then Member (codes "truncated") True End else End))))
 
-abbrev pub character_json : ℕ → List ℕ → Option BadCharacter → Members
-character_json n evidence None = End
-character_json n evidence (Some character) = Member (codes "character") (Object (character_members n evidence character)) End
+abbrev pub character_json : ℕ → List ℕ → Option BadCharacter → Members → Members
+character_json n evidence None others = others
+character_json n evidence (Some character) others = Member (codes "character") (Object (character_members n evidence character)) others
 
 -- ---- items, after the offset
 
 abbrev pub event_json : List ℕ → ℕ → ℕ → Members → Members
 event_json word bytes frames others = Member (codes "event") (String word) (Member (codes "bytes") (number bytes) (Member (codes "frames") (number frames) others))
 
-abbrev pub item_json : ℕ → Item → Members
-item_json n (Event offset event frames) = event_json (event_word event) (event_size event) frames (view_json (view_of_event n event))
-item_json n (Head h) =
+abbrev pub head_json : HeadInfo → Members → Members
+head_json h others =
     Member (codes "fin") (boolean_json h.fin) (Member (codes "opcode") (String (op_word h.op))
-    (Member (codes "key") (key_json h.key) (Member (codes "length") (number h.len) (Member (codes "form") (String (form_word h.form)) End))))
-item_json n (Unfinished offset event frames lacks) =
-    event_json (event_word event) (event_size event) frames (Member (codes "lacks") (optional_number lacks) (view_json (view_of_unfinished n event)))
-item_json n (UnfinishedHead offset) =
-    event_json (codes "head") 0 0 (Member (codes "lacks") Null (Member (codes "hex") (String (encode_lower [])) End))
-item_json n (RefusedFrame offset refusal evidence character) =
-    Member (codes "place") (number refusal.place) (Member (codes "reason") (String (word_of refusal.reason))
-    (Member (codes "code") (number (code_of refusal.reason)) (end_json n evidence (character_json n evidence character))))
-item_json n (Unread offset bytes) = Member (codes "bytes") (number (length bytes)) (view_json (view_of_bytes n bytes))
-item_json n (Tail offset bytes) = Member (codes "bytes") (number (length bytes)) (view_json (view_of_bytes n bytes))
+    (Member (codes "key") (key_json h.key) (Member (codes "length") (number h.len) (Member (codes "form") (String (form_word h.form)) others))))
+
+abbrev pub refusal_json : Refusal → Members → Members
+refusal_json refusal others =
+    Member (codes "place") (number refusal.offset) (Member (codes "reason") (String (word_of refusal.reason)) (Member (codes "code") (number (code_of refusal.reason)) others))
+
+-- What a part of an entry says, and the members after it.
+abbrev pub member_json : Part → Members → Members
+member_json (Mark word) others = others
+member_json (Word name word) others = Member name (String word) others
+member_json (Numbered name k) others = Member name (number k) others
+member_json (Lacks lacks) others = Member (codes "lacks") (optional_number lacks) others
+member_json (Frame h) others = head_json h others
+member_json (Refused refusal) others = refusal_json refusal others
+member_json (Seen n view) others = part_json view.shown (if view.more then Member (codes "truncated") True others else others)
+member_json (Ending n end) others = Member (codes "hex") (String (encode_lower end.bytes)) (if end.more then Member (codes "truncated") True others else others)
+member_json (Bad n evidence character) others = character_json n evidence character others
+
+abbrev pub members_json : List Part → Members
+members_json [] = End
+members_json (m ∷ ms) = member_json m (members_json ms)
+
+abbrev pub item_json : ℕ → Item → Members
+item_json n item = members_json (members n item)
 
 -- ---- where it is
 
@@ -139,12 +156,12 @@ truncated_before : (t : Bool) (others : Members) (text : List ℕ) → AreTextsO
 truncated_before true others text are = member (codes "truncated") refl true_text are
 truncated_before false others text are = are
 
-end_texts : (n : ℕ) (bytes : List ℕ) (others : Members) (text : List ℕ) → IsBytes bytes → AreTextsOf others text → AreTextsOf (end_json n bytes others) (end_fields (view_of_end n bytes) ++ text)
-end_texts n bytes others text are after =
-    same_text (end_fields (view_of_end n bytes) ++ text)
-    (member (codes "hex") refl (word_text (encode_lower (drop (length bytes - n / 2) bytes)) (plain_digits (drop (length bytes - n / 2) bytes) (drop_bytes (length bytes - n / 2) bytes are)))
-    (truncated_before (nat_lt (n / 2) (length bytes)) others text after))
-    (sym (append_assoc (string_field (codes "hex") (encode_lower (drop (length bytes - n / 2) bytes))) (truncated_field (nat_lt (n / 2) (length bytes))) text))
+end_texts : (end : EndView) (others : Members) (text : List ℕ) → IsBytes end.bytes → AreTextsOf others text
+    → AreTextsOf (Member (codes "hex") (String (encode_lower end.bytes)) (if end.more then Member (codes "truncated") True others else others)) (end_fields end ++ text)
+end_texts end others text are after =
+    same_text (end_fields end ++ text)
+    (member (codes "hex") refl (word_text (encode_lower end.bytes) (plain_digits end.bytes are)) (truncated_before end.more others text after))
+    (sym (append_assoc (string_field (codes "hex") (encode_lower end.bytes)) (truncated_field end.more) text))
 
 shown_are_bytes : (none : Bool) (bytes : List ℕ) → IsBytes bytes → IsBytes (if none then [] else bytes)
 shown_are_bytes true bytes are = tt
@@ -165,10 +182,10 @@ character_text n evidence character fits =
     (ap (λ (bytes : List ℕ). codes "{\"offset\":" ++ bytes)
     (character_whole (decimal character.offset) (number_field (codes "in_payload") character.in_payload) (string_field (codes "hex") (encode_lower (shown_bytes n character))) (field (codes "before") (quoted text)) (truncated_text n evidence character) (codes "}")))
 
-character_texts : (n : ℕ) (evidence : List ℕ) (character : Option BadCharacter) → IfSome character IsCharacterInRange
-    → AreTextsOf (character_json n evidence character) (character_fields n evidence character)
-character_texts n evidence None fits = none
-character_texts n evidence (Some character) fits = last (codes "character") refl (character_text n evidence character fits)
+character_texts : (n : ℕ) (evidence : List ℕ) (character : Option BadCharacter) (others : Members) (text : List ℕ) → IfSome character IsCharacterInRange → AreTextsOf others text
+    → AreTextsOf (character_json n evidence character others) (character_fields n evidence character ++ text)
+character_texts n evidence None others text fits are = are
+character_texts n evidence (Some character) others text fits are = member (codes "character") refl (character_text n evidence character fits) are
 
 reason_texts : (reason : List ℕ) (others : Members) (text : List ℕ) → IsUtf8 reason → AreTextsOf others text → AreTextsOf (reason_json reason others) (reason_field reason ++ text)
 reason_texts [] others text utf8 are = are
@@ -230,19 +247,6 @@ plain_event (Message kinds.Text payload) = refl
 plain_event (Message kinds.Binary payload) = refl
 plain_event (Control op body) = plain_op op
 
-three : (a b c rest : List ℕ) → a ++ (b ++ (c ++ rest)) ≡ a ++ b ++ c ++ rest
-three a b c rest = simp append_assoc
-
-four : (a b c d rest : List ℕ) → a ++ (b ++ (c ++ (d ++ rest))) ≡ (a ++ b ++ c) ++ d ++ rest
-four a b c d rest = simp append_assoc
-
-event_texts : (word : List ℕ) (bytes frames : ℕ) (others : Members) (text : List ℕ) → are_unescaped word ≡ true → IsInU64 bytes → IsInU64 frames → AreTextsOf others text
-    → AreTextsOf (event_json word bytes frames others) (event_fields word bytes frames ++ text)
-event_texts word bytes frames others text plain fits also are =
-    same_text (event_fields word bytes frames ++ text)
-    (member (codes "event") refl (word_text word plain) (member (codes "bytes") refl (number_text bytes fits) (member (codes "frames") refl (number_text frames also) are)))
-    (three (string_field (codes "event") word) (number_field (codes "bytes") bytes) (number_field (codes "frames") frames) text)
-
 pub size_fits : (event : MeantEvent) → IsInU64 (length (payload_in event)) → IsInU64 (event_size event)
 size_fits (Message kind payload) fits = fits
 size_fits (Control op body) fits = fits
@@ -250,46 +254,75 @@ size_fits (Control op body) fits = fits
 optional_text : (n : Option ℕ) → IfSome n IsInU64 → IsTextOf (optional_number n) (number_or_null n)
 optional_text n fits = plain_text (optional_number n) (number_or_null n) (plain_optional n fits) (optional_written n)
 
--- The members after the offset, as they are written.
-abbrev pub fields_of : ℕ → Item → List ℕ
-fields_of n (Head h) = head_members h
-fields_of n item = item_fields n item
+five : (a b c d e rest : List ℕ) → a ++ (b ++ (c ++ (d ++ (e ++ rest)))) ≡ (a ++ b ++ c ++ d ++ e) ++ rest
+five a b c d e rest = simp append_assoc
 
-five : (a b c d e : List ℕ) → a ++ (b ++ (c ++ (d ++ e))) ≡ a ++ b ++ c ++ d ++ e
-five a b c d e = simp append_assoc
+three : (a b c rest : List ℕ) → a ++ (b ++ (c ++ rest)) ≡ (a ++ b ++ c) ++ rest
+three a b c rest = simp append_assoc
 
-refused_whole : (a b c d e : List ℕ) → a ++ (b ++ (c ++ (d ++ e))) ≡ (a ++ b ++ c) ++ d ++ e
-refused_whole a b c d e = simp append_assoc
+-- Names and words need no escape, and numbers and bytes are in range.
+abbrev IsInRange : Part → Type 0
+IsInRange (Mark word) = ⊤
+IsInRange (Word name word) = (are_unescaped name ≡ true) × (are_unescaped word ≡ true)
+IsInRange (Numbered name k) = (are_unescaped name ≡ true) × IsInU64 k
+IsInRange (Lacks lacks) = IfSome lacks IsInU64
+IsInRange (Frame h) = IsHeadInRange h
+IsInRange (Refused refusal) = IsInU64 refusal.offset
+IsInRange (Seen n view) = IsShownInRange view.shown
+IsInRange (Ending n end) = IsBytes end.bytes
+IsInRange (Bad n evidence character) = IfSome character IsCharacterInRange
 
-pub item_texts : (n : ℕ) (item : Item) → IsItemInRange item → ShowsTextReason item → AreTextsOf (item_json n item) (fields_of n item)
-item_texts n (Event offset event frames) fits reason =
-    event_texts (event_word event) (event_size event) frames (view_json (view_of_event n event)) (view_fields (view_of_event n event)) (plain_event event) (size_fits event fits.2.0) fits.1 (view_texts (view_of_event n event) (event_fits n event fits.2.1 reason))
-item_texts n (Head h) fits reason =
-    same_text (head_members h)
+member_texts : (m : Part) (others : Members) (text : List ℕ) → IsInRange m → AreTextsOf others text → AreTextsOf (member_json m others) (member_field m ++ text)
+member_texts (Mark word) others text fits are = are
+member_texts (Word name word) others text fits are = member name fits.0 (word_text word fits.1) are
+member_texts (Numbered name k) others text fits are = member name fits.0 (number_text k fits.1) are
+member_texts (Lacks lacks) others text fits are = member (codes "lacks") refl (optional_text lacks fits) are
+member_texts (Frame h) others text fits are =
+    same_text (head_members h ++ text)
     (member (codes "fin") refl (plain_text (boolean_json h.fin) (boolean h.fin) (plain_boolean h.fin) (boolean_is h.fin).is)
     (member (codes "opcode") refl (word_text (op_word h.op) (plain_op h.op))
     (member (codes "key") refl (plain_text (key_json h.key) (key_value h.key) (key_plain h.key fits.key) (key_is h.key).is)
     (member (codes "length") refl (number_text h.len fits.len)
-    (last (codes "form") refl (word_text (form_word h.form) (plain_form h.form)))))))
-    (five (field (codes "fin") (boolean h.fin)) (string_field (codes "opcode") (op_word h.op)) (field (codes "key") (key_value h.key)) (number_field (codes "length") h.len) (string_field (codes "form") (form_word h.form)))
-item_texts n (Unfinished offset event frames lacks) fits reason =
-    same_text (item_fields n (Unfinished offset event frames lacks))
-    (event_texts (event_word event) (event_size event) frames (Member (codes "lacks") (optional_number lacks) (view_json (view_of_unfinished n event))) (number_or_null_field (codes "lacks") lacks ++ view_fields (view_of_unfinished n event))
-    (plain_event event) (size_fits event fits.2.0) fits.1 (member (codes "lacks") refl (optional_text lacks fits.3) (view_texts (view_of_unfinished n event) (unfinished_fits n event fits.2.1))))
-    (sym (append_assoc (event_fields (event_word event) (event_size event) frames) (number_or_null_field (codes "lacks") lacks) (view_fields (view_of_unfinished n event))))
-item_texts n (UnfinishedHead offset) fits reason =
-    same_text (item_fields n (UnfinishedHead offset))
-    (event_texts (codes "head") 0 0 (Member (codes "lacks") Null (Member (codes "hex") (String (encode_lower [])) End)) (number_or_null_field (codes "lacks") None ++ string_field (codes "hex") (encode_lower []))
-    refl (omega arith) (omega arith) (member (codes "lacks") refl null_text (last (codes "hex") refl (word_text (encode_lower []) (plain_digits [] tt)))))
-    (sym (append_assoc (event_fields (codes "head") 0 0) (number_or_null_field (codes "lacks") None) (string_field (codes "hex") (encode_lower []))))
-item_texts n (RefusedFrame offset refusal evidence character) fits reason =
-    same_text (item_fields n (RefusedFrame offset refusal evidence character))
-    (member (codes "place") refl (number_text refusal.place fits.1) (member (codes "reason") refl (word_text (word_of refusal.reason) (plain_reason refusal.reason))
-    (member (codes "code") refl (number_text (code_of refusal.reason) (code_fits refusal.reason))
-    (end_texts n evidence (character_json n evidence character) (character_fields n evidence character) fits.2.1 (character_texts n evidence character fits.3)))))
-    (refused_whole (number_field (codes "place") refusal.place) (string_field (codes "reason") (word_of refusal.reason)) (number_field (codes "code") (code_of refusal.reason)) (end_fields (view_of_end n evidence)) (character_fields n evidence character))
-item_texts n (Unread offset bytes) fits reason = member (codes "bytes") refl (number_text (length bytes) fits.1.0) (view_texts (view_of_bytes n bytes) (take_bytes (n / 2) bytes fits.1.1))
-item_texts n (Tail offset bytes) fits reason = member (codes "bytes") refl (number_text (length bytes) fits.1.0) (view_texts (view_of_bytes n bytes) (take_bytes (n / 2) bytes fits.1.1))
+    (member (codes "form") refl (word_text (form_word h.form) (plain_form h.form)) are)))))
+    (five (field (codes "fin") (boolean h.fin)) (string_field (codes "opcode") (op_word h.op)) (field (codes "key") (key_value h.key)) (number_field (codes "length") h.len) (string_field (codes "form") (form_word h.form)) text)
+member_texts (Refused refusal) others text fits are =
+    same_text (refusal_fields (codes "place") refusal ++ text)
+    (member (codes "place") refl (number_text refusal.offset fits) (member (codes "reason") refl (word_text (word_of refusal.reason) (plain_reason refusal.reason))
+    (member (codes "code") refl (number_text (code_of refusal.reason) (code_fits refusal.reason)) are)))
+    (three (number_field (codes "place") refusal.offset) (string_field (codes "reason") (word_of refusal.reason)) (number_field (codes "code") (code_of refusal.reason)) text)
+member_texts (Seen n view) others text fits are =
+    same_text (view_fields view ++ text)
+    (part_texts view.shown (if view.more then Member (codes "truncated") True others else others) (truncated_field view.more ++ text) fits (truncated_before view.more others text are))
+    (sym (append_assoc (shown_fields view.shown) (truncated_field view.more) text))
+member_texts (Ending n end) others text fits are = end_texts end others text fits are
+member_texts (Bad n evidence character) others text fits are = character_texts n evidence character others text fits are
+
+abbrev AreInRange : List Part → Type 0
+AreInRange [] = ⊤
+AreInRange (m ∷ ms) = IsInRange m × AreInRange ms
+
+all_texts : (ms : List Part) → AreInRange ms → AreTextsOf (members_json ms) (flat_map member_field ms)
+all_texts [] fits = none
+all_texts (m ∷ ms) fits = member_texts m (members_json ms) (flat_map member_field ms) fits.0 (all_texts ms fits.1)
+
+members_fit : (n : ℕ) (item : Item) → IsItemInRange item → ShowsTextReason item → AreInRange (members n item)
+members_fit n (Event offset event frames) fits reason =
+    ((refl, plain_event event), ((refl, size_fits event fits.2.0), ((refl, fits.1), (event_fits n event fits.2.1 reason, tt))))
+members_fit n (Head h) fits reason = (fits, tt)
+members_fit n (Unfinished offset event frames lacks) fits reason =
+    (tt, ((refl, plain_event event), ((refl, size_fits event fits.2.0), ((refl, fits.1), (fits.3, (unfinished_fits n event fits.2.1, tt))))))
+members_fit n (UnfinishedHead offset) fits reason = (tt, ((refl, refl), ((refl, omega arith), ((refl, omega arith), (tt, (tt, tt))))))
+members_fit n (RefusedFrame offset refusal evidence character) fits reason =
+    (fits.1, (drop_bytes (length evidence - n / 2) evidence fits.2.1, (fits.3, tt)))
+members_fit n (Unread offset bytes) fits reason = (tt, ((refl, fits.1.0), (take_bytes (n / 2) bytes fits.1.1, tt)))
+members_fit n (Tail offset bytes) fits reason = (tt, ((refl, fits.1.0), (take_bytes (n / 2) bytes fits.1.1, tt)))
+
+-- The members after the offset, as they are written.
+abbrev pub fields_of : ℕ → Item → List ℕ
+fields_of n item = flat_map member_field (members n item)
+
+pub item_texts : (n : ℕ) (item : Item) → IsItemInRange item → ShowsTextReason item → AreTextsOf (item_json n item) (fields_of n item)
+item_texts n item fits reason = all_texts (members n item) (members_fit n item fits reason)
 
 -- ---- times
 
@@ -320,12 +353,12 @@ seconds_number seconds is = (
     is.whole,
     codes "." ++ is.fraction,
     is.is ∙ append_assoc is.whole (codes ".") is.fraction,
-    seconds_integer is.whole is.whole_digits is.some is.no_leading_zero,
+    seconds_integer is.whole is.whole_is.digits is.whole_is.some is.whole_is.no_leading_zero,
     (
       codes "." ++ is.fraction,
       [],
       sym (append-nil (codes "." ++ is.fraction)),
-      inr (codes ".", is.fraction, refl, refl, (some is.fraction is.some_more, is.fraction_digits)),
+      inr (codes ".", is.fraction, refl, refl, (some is.fraction is.fraction_is.some, is.fraction_is.digits)),
       inl refl,
     ),
   ),
@@ -356,7 +389,7 @@ plain_side Server = refl
 
 pub offset_fits : (item : Item) → IsItemInRange item → IsInU64 (offset_of item)
 offset_fits (Event offset event frames) fits = fits.0
-offset_fits (Head h) fits = fits.place
+offset_fits (Head h) fits = fits.offset
 offset_fits (Unfinished offset event frames lacks) fits = fits.0
 offset_fits (UnfinishedHead offset) fits = fits
 offset_fits (RefusedFrame offset refusal evidence character) fits = fits.0
@@ -389,15 +422,10 @@ shown_texts n role position item place fits reason =
 ten : (a k q l s t v o f z : List ℕ) → a ++ (k ++ (q ++ ((l ++ (s ++ ((t ++ v) ++ (o ++ f)))) ++ z))) ≡ (a ++ k ++ q ++ l ++ s ++ t ++ v) ++ o ++ f ++ z
 ten a k q l s t v o f z = simp append_assoc
 
-head_ten : (a k q l s t v o f z : List ℕ) → a ++ (k ++ (q ++ ((l ++ (s ++ ((t ++ v) ++ (o ++ f)))) ++ z))) ≡ (a ++ k ++ q ++ l ++ s ++ t ++ v) ++ (o ++ f) ++ z
-head_ten a k q l s t v o f z = simp append_assoc
-
 whole : (n : ℕ) (role : Role) (position : EntryPosition) (item : Item)
     → codes "{\"type\":\"" ++ (item_type item ++ (codes "\"" ++ (text_after n role position item ++ codes "}\n"))) ≡ item_object n role position item
-whole n role position (Head h) =
-    head_ten (codes "{\"type\":\"") (codes "frame") (codes "\"") (line_field position) (string_field (codes "side") (side_word role)) (time_key position) (time_value position) (number_field (codes "offset") h.place) (head_members h) (codes "}\n")
 whole n role position item =
-    ten (codes "{\"type\":\"") (item_type item) (codes "\"") (line_field position) (string_field (codes "side") (side_word role)) (time_key position) (time_value position) (number_field (codes "offset") (offset_of item)) (item_fields n item) (codes "}\n")
+    ten (codes "{\"type\":\"") (item_type item) (codes "\"") (line_field position) (string_field (codes "side") (side_word role)) (time_key position) (time_value position) (number_field (codes "offset") (offset_of item)) (fields_of n item) (codes "}\n")
 
 abbrev pub shown_value : ℕ → Role → EntryPosition → Item → Value
 shown_value n role position item = Object (Member (codes "type") (String (item_type item)) (shown_json n role position item))

@@ -8,13 +8,14 @@ use Rattle.wsn_wire.specs.Refusal.{word_of, code_of}
 use Rattle.wsn_rules.specs.BadCharacter.{BadCharacter}
 use Rattle.wsn_rules.specs.ShownStream.{Item}
 use Rattle.wsn_rules.specs.ShownStream.Item.{Event, Head, Unfinished, UnfinishedHead, RefusedFrame, Unread, Tail}
+use Rattle.wsn_rules.specs.ShownOffsets.{offset_of}
 use Rattle.wsn_shown_text.specs.QuotedTexts.{ShowsTextReason}
 use Rattle.wsn_shown_text.specs.CharacterText.{text_before, leaves_out, shown_bytes}
 use Rattle.wsn_print.specs.ShownParts.{EntryPosition}
 use Rattle.wsn_shown_text.specs.Views.{Shown, PayloadView, view_of_bytes, view_of_event, view_of_unfinished}
 use Rattle.wsn_shown_text.specs.Views.Shown.{Text, Ascii, Hex, Code, NoCode}
-use Rattle.wsn_shown_text.specs.ShownText.{event_word, event_size, offset_of}
-use Rattle.wsn_shown_text.specs.ShownObjects.{side_word, item_type, item_object}
+use Rattle.wsn_shown_text.specs.Members.{event_word, event_size, item_type}
+use Rattle.wsn_shown_text.specs.ShownObjects.{side_word, item_object}
 use Rattle.wsn_print.specs.ShownParts.EntryPosition.{InLine, AtEnd, InStream}
 use Rattle.wsn_print_laws.specs.JsonText.{Value, Null, True, Number, String, Object, Members, End, Member, IsNew, HasDistinctNames, AreDistinct, IsObjectLine}
 use Rattle.wsn_print_laws.specs.ShownItems.{IsPositionInRange, IsItemInRange}
@@ -196,9 +197,9 @@ item_is n (UnfinishedHead offset) = record {
   are_distinct = distinct (item_json n (UnfinishedHead offset)) refl (tt, (tt, (tt, (tt, (tt, tt)))));
 }
 item_is n (RefusedFrame offset refusal evidence None) =
-    refused_by (nat_lt (n / 2) (length evidence)) refusal.place (code_of refusal.reason) (word_of refusal.reason) (encode_lower (drop (length evidence - n / 2) evidence))
+    refused_by (nat_lt (n / 2) (length evidence)) refusal.offset (code_of refusal.reason) (word_of refusal.reason) (encode_lower (drop (length evidence - n / 2) evidence))
 item_is n (RefusedFrame offset refusal evidence (Some character)) =
-    refused_with (nat_lt (n / 2) (length evidence)) refusal.place (code_of refusal.reason) (word_of refusal.reason) (encode_lower (drop (length evidence - n / 2) evidence))
+    refused_with (nat_lt (n / 2) (length evidence)) refusal.offset (code_of refusal.reason) (word_of refusal.reason) (encode_lower (drop (length evidence - n / 2) evidence))
     (character_members n evidence character) (character_names n evidence character)
 item_is n (Unread offset bytes) = before_view (codes "bytes") (number (length bytes)) (view_json (view_of_bytes n bytes)) refl refl tt (view_is (view_of_bytes n bytes))
 item_is n (Tail offset bytes) = before_view (codes "bytes") (number (length bytes)) (view_json (view_of_bytes n bytes)) refl refl tt (view_is (view_of_bytes n bytes))

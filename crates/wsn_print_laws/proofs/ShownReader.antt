@@ -13,12 +13,14 @@ use Rattle.wsn_rules.specs.BadCharacter.{BadCharacter}
 use Rattle.wsn_rules.specs.Meaning.{MeantEvent, Message, Control, payload_in}
 use Rattle.wsn_rules.specs.ShownStream.{Item}
 use Rattle.wsn_rules.specs.ShownStream.Item.{Event, Head, Unfinished, UnfinishedHead, RefusedFrame, Unread, Tail}
+use Rattle.wsn_rules.specs.ShownOffsets.{offset_of}
 use Rattle.wsn_print.specs.ShownParts.{text_part, EntryPosition}
 use Rattle.wsn_shown_text.specs.QuotedTexts.{ShowsTextReason}
 use Rattle.wsn_shown_text.specs.CharacterText.{text_before, leaves_out, shown_bytes, byte_escape, character_view}
 use Rattle.wsn_print.specs.EscapedText.{quoted_character}
-use Rattle.wsn_shown_text.specs.ShownText.{hex_text, hex_view, end_view, reason_text, view_text, event_view, unfinished_view, event_word, event_size, offset_of}
-use Rattle.wsn_shown_text.specs.ShownObjects.{side_word, item_type, item_object}
+use Rattle.wsn_shown_text.specs.ShownText.{hex_text, hex_view, end_view, reason_text, view_text, event_view, unfinished_view}
+use Rattle.wsn_shown_text.specs.Members.{event_word, event_size, item_type}
+use Rattle.wsn_shown_text.specs.ShownObjects.{side_word, item_object}
 use Rattle.wsn_print.specs.ShownParts.EntryPosition.{InLine, AtEnd, InStream}
 use Rattle.wsn_shown_text.specs.Views.{is_printable, view_of_text, view_of_bytes, view_of_close, view_of_event, view_of_unfinished}
 use Rattle.wsn_shown_text.specs.Views.Shown.{Code, NoCode}
@@ -101,22 +103,22 @@ hex_is n bytes =
     ∙ ap (λ (bs : List ℕ). if n == 0 && t then codes "-" else bs ++ dots t) (dash_is (take (n / 2) bytes))
 
 truncated_by : (t : Bool) (n : ℕ) (evidence : List ℕ) (character : Option BadCharacter)
-    → is_truncated (if t then Member (codes "truncated") True (character_json n evidence character) else character_json n evidence character) ≡ t
+    → is_truncated (if t then Member (codes "truncated") True (character_json n evidence character End) else character_json n evidence character End) ≡ t
 truncated_by true n evidence character = refl
 truncated_by false n evidence None = refl
 truncated_by false n evidence (Some character) = refl
 
-end_is : (n : ℕ) (evidence : List ℕ) (character : Option BadCharacter) → evidence_in n (end_json n evidence (character_json n evidence character)) ≡ end_view n evidence
+end_is : (n : ℕ) (evidence : List ℕ) (character : Option BadCharacter) → evidence_in n (end_json n evidence (character_json n evidence character End)) ≡ end_view n evidence
 end_is n evidence character =
     ap (end_in n (encode_lower (drop (length evidence - n / 2) evidence))) (truncated_by (nat_lt (n / 2) (length evidence)) n evidence character)
 
 after_by : (t : Bool) (digits : List ℕ) (n : ℕ) (evidence : List ℕ) (character : Option BadCharacter)
-    → after_evidence (Member (codes "hex") (String digits) (if t then Member (codes "truncated") True (character_json n evidence character) else character_json n evidence character)) ≡ character_json n evidence character
+    → after_evidence (Member (codes "hex") (String digits) (if t then Member (codes "truncated") True (character_json n evidence character End) else character_json n evidence character End)) ≡ character_json n evidence character End
 after_by true digits n evidence character = refl
 after_by false digits n evidence None = refl
 after_by false digits n evidence (Some character) = refl
 
-character_is : (n : ℕ) (evidence : List ℕ) (character : Option BadCharacter) → after_evidence (end_json n evidence (character_json n evidence character)) ≡ character_json n evidence character
+character_is : (n : ℕ) (evidence : List ℕ) (character : Option BadCharacter) → after_evidence (end_json n evidence (character_json n evidence character End)) ≡ character_json n evidence character End
 character_is n evidence character = after_by (nat_lt (n / 2) (length evidence)) (encode_lower (drop (length evidence - n / 2) evidence)) n evidence character
 
 body_by : (n : ℕ) (t : Bool) (body : List ℕ)
@@ -323,7 +325,7 @@ one_character n evidence other_evidence character other fits also same =
         ∙ ap (view_by other.bytes (chars (text_before n other_evidence other))) (sym (left_out_is n evidence character some) ∙ after ∙ left_out_is n other_evidence other some)
 
 characters_same : (n : ℕ) (evidence other_evidence : List ℕ) (character other : Option BadCharacter) → IfSome character IsCharacterInRange → IfSome other IsCharacterInRange
-    → character_json n evidence character ≡ character_json n other_evidence other → HaveLikeCharacters n evidence character other_evidence other
+    → character_json n evidence character End ≡ character_json n other_evidence other End → HaveLikeCharacters n evidence character other_evidence other
 characters_same n evidence other_evidence None None fits also same = tt
 characters_same n evidence other_evidence None (Some other) fits also same = absurd cc
 characters_same n evidence other_evidence (Some character) None fits also same = absurd cc
@@ -337,7 +339,7 @@ look_alike n (Event offset event frames) (Event another other more_frames) fits 
     let parts = event_same event other frames more_frames (view_json (view_of_event n event)) (view_json (view_of_event n other)) fits.2 also.2 fits.1 also.1 same in
     (offsets, parts.0, parts.1, sym (view_is n event) ∙ ap (view_in n) parts.2 ∙ view_is n other)
 look_alike n (Head h) (Head g) fits also types offsets same =
-    one_head h g fits also (ap (Member (codes "offset") (number h.place)) same ∙ ap (λ (k : ℕ). Member (codes "offset") (number k) (item_json n (Head g))) offsets)
+    one_head h g fits also (ap (Member (codes "offset") (number h.offset)) same ∙ ap (λ (k : ℕ). Member (codes "offset") (number k) (item_json n (Head g))) offsets)
 look_alike n (Unfinished offset event frames lacks) (Unfinished another other more_frames lacking) fits also types offsets same =
     let parts = event_same event other frames more_frames (Member (codes "lacks") (optional_number lacks) (view_json (view_of_unfinished n event))) (Member (codes "lacks") (optional_number lacking) (view_json (view_of_unfinished n other)))
     fits.2 also.2 fits.1 also.1 same in
@@ -357,11 +359,11 @@ look_alike n (Unfinished offset event frames lacks) (UnfinishedHead another) fit
     let words : codes "head" ≡ event_word event = cc in
     absurd (no_head event words)
 look_alike n (RefusedFrame offset refusal evidence character) (RefusedFrame another other bytes second) fits also types offsets same =
-    let places : number refusal.place ≡ number other.place = cc in
+    let places : number refusal.offset ≡ number other.offset = cc in
     let words : word_of refusal.reason ≡ word_of other.reason = cc in
     let after = ap (λ (m : Members). after_first (after_first (after_first m))) same in (
       offsets,
-      refusal_same refusal other (one_number refusal.place other.place fits.1 also.1 places) (one_reason refusal.reason other.reason words),
+      refusal_same refusal other (one_number refusal.offset other.offset fits.1 also.1 places) (one_reason refusal.reason other.reason words),
       sym (end_is n evidence character) ∙ ap (evidence_in n) after ∙ end_is n bytes second,
       characters_same n evidence bytes character second fits.3 also.3 (sym (character_is n evidence character) ∙ ap after_evidence after ∙ character_is n bytes second),
     )

@@ -30,7 +30,7 @@ count_json s others =
 
 abbrev pub refusal_json : List ℕ → Refusal → Members
 refusal_json key refusal =
-    Member key (number refusal.place) (Member (codes "reason") (String (word_of refusal.reason))
+    Member key (number refusal.offset) (Member (codes "reason") (String (word_of refusal.reason))
     (Member (codes "code") (number (code_of refusal.reason)) End))
 
 abbrev pub verdict_json_members : Verdict → Members
@@ -68,11 +68,11 @@ counts_written s others rest =
 
 pub refusal_written : (key : List ℕ) (refusal : Refusal) (rest : List ℕ) → write_others (refusal_json key refusal) rest ≡ refusal_fields key refusal ++ rest
 refusal_written key refusal rest =
-    let front : field key (decimal refusal.place) ++ (string_field (codes "reason") (word_of refusal.reason) ++ (number_field (codes "code") (code_of refusal.reason) ++ rest)) ≡ refusal_fields key refusal ++ rest =
-    sym (three (number_field key refusal.place) (string_field (codes "reason") (word_of refusal.reason)) (number_field (codes "code") (code_of refusal.reason)) rest) in
-    let place : write_others (refusal_json key refusal) rest ≡ field key (decimal refusal.place) ++ (write_others (Member (codes "reason") (String (word_of refusal.reason)) (Member (codes "code") (number (code_of refusal.reason)) End)) rest) =
-    number_member key refusal.place (write_others (Member (codes "reason") (String (word_of refusal.reason)) (Member (codes "code") (number (code_of refusal.reason)) End)) rest) in
-    place ∙ ap (λ (bs : List ℕ). field key (decimal refusal.place) ++ bs) (string_member (codes "reason") (word_of refusal.reason) (number_field (codes "code") (code_of refusal.reason) ++ rest)) ∙ front
+    let front : field key (decimal refusal.offset) ++ (string_field (codes "reason") (word_of refusal.reason) ++ (number_field (codes "code") (code_of refusal.reason) ++ rest)) ≡ refusal_fields key refusal ++ rest =
+    sym (three (number_field key refusal.offset) (string_field (codes "reason") (word_of refusal.reason)) (number_field (codes "code") (code_of refusal.reason)) rest) in
+    let place : write_others (refusal_json key refusal) rest ≡ field key (decimal refusal.offset) ++ (write_others (Member (codes "reason") (String (word_of refusal.reason)) (Member (codes "code") (number (code_of refusal.reason)) End)) rest) =
+    number_member key refusal.offset (write_others (Member (codes "reason") (String (word_of refusal.reason)) (Member (codes "code") (number (code_of refusal.reason)) End)) rest) in
+    place ∙ ap (λ (bs : List ℕ). field key (decimal refusal.offset) ++ bs) (string_member (codes "reason") (word_of refusal.reason) (number_field (codes "code") (code_of refusal.reason) ++ rest)) ∙ front
 
 -- The members of a verdict after the type, with what follows.
 pub members_written : (verdict : Verdict) (rest : List ℕ) → write_others (verdict_json_members verdict) rest ≡ codes "," ++ (verdict_members verdict ++ rest)
@@ -125,9 +125,9 @@ code_fits TextBad = omega arith
 code_fits TextCut = omega arith
 code_fits TooManyFrames = omega arith
 
-pub refusal_plain : (key : List ℕ) (refusal : Refusal) → are_unescaped key ≡ true → IsInU64 refusal.place → ArePlain (refusal_json key refusal)
+pub refusal_plain : (key : List ℕ) (refusal : Refusal) → are_unescaped key ≡ true → IsInU64 refusal.offset → ArePlain (refusal_json key refusal)
 refusal_plain key refusal plain fits =
-    (plain, decimal_number refusal.place fits, (refl, plain_reason refusal.reason, (refl, decimal_number (code_of refusal.reason) (code_fits refusal.reason), tt)))
+    (plain, decimal_number refusal.offset fits, (refl, plain_reason refusal.reason, (refl, decimal_number (code_of refusal.reason) (code_fits refusal.reason), tt)))
 
 count_plain : (s : Summary) (others : Members) → IsSummaryInRange s → ArePlain others → ArePlain (count_json s others)
 count_plain s others fits plain =
@@ -169,20 +169,20 @@ one_close (Some code) (Some other) fits also same =
     ap Some (one_optional code other fits also codes_same)
 
 refusal_of : ℕ → Reason → Refusal
-refusal_of place reason = record { place = place; reason = reason }
+refusal_of place reason = record { offset = place; reason = reason }
 
 refusals : (p q : ℕ) (r t : Reason) → p ≡ q → r ≡ t → refusal_of p r ≡ refusal_of q t
 refusals p q r t places reasons = cc
 
-pub refusal_same : (refusal other : Refusal) → refusal.place ≡ other.place → refusal.reason ≡ other.reason → refusal ≡ other
+pub refusal_same : (refusal other : Refusal) → refusal.offset ≡ other.offset → refusal.reason ≡ other.reason → refusal ≡ other
 unfolding refusal_of
-refusal_same refusal other places reasons = refusals refusal.place other.place refusal.reason other.reason places reasons
+refusal_same refusal other places reasons = refusals refusal.offset other.offset refusal.reason other.reason places reasons
 
-pub one_refusal : (key : List ℕ) (refusal other : Refusal) → IsInU64 refusal.place → IsInU64 other.place → refusal_json key refusal ≡ refusal_json key other → refusal ≡ other
+pub one_refusal : (key : List ℕ) (refusal other : Refusal) → IsInU64 refusal.offset → IsInU64 other.offset → refusal_json key refusal ≡ refusal_json key other → refusal ≡ other
 one_refusal key refusal other fits also same =
-    let places : number refusal.place ≡ number other.place = cc in
+    let places : number refusal.offset ≡ number other.offset = cc in
     let words : word_of refusal.reason ≡ word_of other.reason = cc in
-    refusal_same refusal other (one_number refusal.place other.place fits also places) (one_reason refusal.reason other.reason words)
+    refusal_same refusal other (one_number refusal.offset other.offset fits also places) (one_reason refusal.reason other.reason words)
 
 summary_of : ℕ → ℕ → Option ℕ → ℕ → ℕ → ℕ → ℕ → Option (Option ℕ) → Summary
 summary_of used tail unfinished frames messages pings pongs close = record {

@@ -36,7 +36,7 @@ pub record IsSummaryInRange (s : Summary) : Type 0 where
 abbrev pub IsVerdictInRange : Verdict → Type 0
 IsVerdictInRange (Accepted s) = IsSummaryInRange s
 IsVerdictInRange (Cut s) = IsSummaryInRange s
-IsVerdictInRange (Refused refusal) = IsInU64 refusal.place
+IsVerdictInRange (Refused refusal) = IsInU64 refusal.offset
 
 -- All that the verdict says is printed: `cut` has no tail and no Close, which its object leaves out.
 abbrev pub IsPrintedWhole : Verdict → Type 0
@@ -48,7 +48,7 @@ IsPrintedWhole (Refused refusal) = ⊤
 
 -- The numbers and the key's bytes are in range.
 pub record IsHeadInRange (h : HeadInfo) : Type 0 where
-  pub place : IsInU64 h.place
+  pub offset : IsInU64 h.offset
   pub key : IfSome h.key IsBytes
   pub len : IsInU64 h.len
 
@@ -57,7 +57,7 @@ pub record IsHeadInRange (h : HeadInfo) : Type 0 where
 -- Each number of what became of a stream is in range.
 abbrev pub IsSideInRange : Side → Type 0
 IsSideInRange (side.Closed code) = IfSome code IsInU64
-IsSideInRange (side.Refused refusal) = IsInU64 refusal.place
+IsSideInRange (side.Refused refusal) = IsInU64 refusal.offset
 IsSideInRange side.Ended = ⊤
 IsSideInRange side.Cut = ⊤
 IsSideInRange side.Running = ⊤

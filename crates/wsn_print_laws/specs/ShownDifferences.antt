@@ -2,7 +2,6 @@
 use Rattle.std.specs.Prelude.{◌≡◌, ◌≢◌, ℕ, IfSome, Option, None, Some, ⊤}
 use Rattle.wsn_rules.specs.Meaning.{MeantEvent}
 use Rattle.wsn_rules.specs.ShownStream.{Item}
-use Rattle.wsn_rules.specs.ShownStream.Item.{Head}
 use Rattle.wsn_shown_text.specs.QuotedTexts.{ShowsTextReason}
 use Rattle.wsn_print.specs.DifferingPayloads.{place_in, view_start, event_in}
 use Rattle.wsn_shown_text.specs.DifferingText.{view_at}
@@ -17,15 +16,6 @@ pub record IsDifferenceInRange (k : ℕ) (one other : Option Item) : Type 0 wher
   pub first_reason : IfSome one ShowsTextReason
   pub second : IfSome other IsItemInRange
   pub second_reason : IfSome other ShowsTextReason
-
--- The item isn't a frame.
-abbrev pub IsNoFrame : Item → Type 0
-IsNoFrame (Head info) = ⊥
-IsNoFrame item = ⊤
-
--- Neither stream's item is a frame. (What differs is an event. Of a frame, the object would have only the offset.)
-abbrev pub AreNoFrames : Option Item → Option Item → Type 0
-AreNoFrames one other = IfSome one IsNoFrame × IfSome other IsNoFrame
 
 -- With views of at most n bytes, both items look alike, or there is neither.
 abbrev pub BothLookAlike : ℕ → Option Item → Option Item → Type 0

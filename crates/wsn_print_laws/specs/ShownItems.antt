@@ -8,7 +8,8 @@ use Rattle.wsn_rules.specs.ShownStream.Item.{Event, Head, Unfinished, Unfinished
 use Rattle.wsn_rules.specs.ShownCapture.{IsSeconds}
 use Rattle.wsn_print.specs.ShownParts.{EntryPosition}
 use Rattle.wsn_print.specs.ShownParts.EntryPosition.{InLine, AtEnd, InStream}
-use Rattle.wsn_shown_text.specs.ShownText.{event_word, event_size, event_view, unfinished_view, end_view, hex_view}
+use Rattle.wsn_shown_text.specs.Members.{event_word, event_size}
+use Rattle.wsn_shown_text.specs.ShownText.{event_view, unfinished_view, end_view, hex_view}
 use Rattle.wsn_shown_text.specs.CharacterText.{character_view}
 use Rattle.wsn_print_laws.specs.Answers.{IsInU64, IsHeadInRange}
 
@@ -36,7 +37,7 @@ IsItemInRange (Unfinished offset event frames lacks) =
     IsInU64 offset × IsInU64 frames × AreBytesInRange (payload_in event) × IfSome lacks IsInU64
 IsItemInRange (UnfinishedHead offset) = IsInU64 offset
 IsItemInRange (RefusedFrame offset refusal evidence character) =
-    IsInU64 offset × IsInU64 refusal.place × AreBytesInRange evidence × IfSome character IsCharacterInRange
+    IsInU64 offset × IsInU64 refusal.offset × AreBytesInRange evidence × IfSome character IsCharacterInRange
 IsItemInRange (Unread offset bytes) = IsInU64 offset × AreBytesInRange bytes
 IsItemInRange (Tail offset bytes) = IsInU64 offset × AreBytesInRange bytes
 

@@ -12,7 +12,7 @@ ghost use Rattle.wsn_rules.specs.declared.verdict.Summary.{Summary};
 ghost use Rattle.wsn_rules.specs.declared.verdict.Verdict.{Verdict};
 ghost use Rattle.wsn_rules.specs.Limits.{Limits};
 ghost use Rattle.wsn_rules.specs.ShownStream.{Item};
-ghost use Rattle.wsn_rules.specs.ShownStream.Item.{Head, RefusedFrame};
+ghost use Rattle.wsn_rules.specs.ShownStream.Item.{RefusedFrame};
 ghost use Rattle.wsn_rules.specs.Verdict.{IsVerdict};
 ghost use Rattle.wsn_print.specs.Objects.{verdict_object, frame_object, report_object, comparison_object};
 ghost use Rattle.wsn_shown_text.specs.DifferenceText.{difference_object};
@@ -23,7 +23,7 @@ ghost use Rattle.wsn_show.specs.declared.ended_by.EndedBy.{EndedBy};
 ghost use Rattle.wsn_show.specs.EndedBy.{ended_by_object};
 ghost use Rattle.wsn_print_laws.specs.JsonText.{Value, String, Object, Members, Member, IsValue, HasDistinctNames, IsJsonLine, IsObjectLine};
 ghost use Rattle.wsn_print_laws.specs.ShownItems.{IsPositionInRange, IsItemInRange, LookAlike};
-ghost use Rattle.wsn_print_laws.specs.ShownDifferences.{IsDifferenceInRange, AreNoFrames, DifferAlike};
+ghost use Rattle.wsn_print_laws.specs.ShownDifferences.{IsDifferenceInRange, DifferAlike};
 ghost use Rattle.wsn_print_laws.specs.Answers.{IsInU64, IsVerdictInRange, IsPrintedWhole, IsHeadInRange, IsReportInRange, IsComparisonInRange, IsComparisonPrintedWhole, Answer, answer_object, IsAnswerInRange, IsAnswerPrintedWhole};
 
 /// A line is the JSON text of one value at most, so whoever reads it by the grammar reads what was written.
@@ -129,18 +129,13 @@ pub fn law_comparison_objects()
 
 /// The object of two streams that differ says which event differs, and of each stream the event up to the bytes that its
 /// view leaves out, or that there is none. It says where the payloads differ, if they do, and all that the views around
-/// that byte show. If it has an event, it also says which endpoint sent the streams. Of a frame, which is no event, it
-/// would say only where the frame is.
+/// that byte show. If it has an event, it also says which endpoint sent the streams.
 pub fn law_difference_objects()
-    ensures shown { (n : ℕ) (role other_role : Role) (k other_k : ℕ) (one two other_one other_two : Option Item) →
+    ensures { (n : ℕ) (role other_role : Role) (k other_k : ℕ) (one two other_one other_two : Option Item) →
         IsDifferenceInRange k one two → IsDifferenceInRange other_k other_one other_two →
-        AreNoFrames one two → AreNoFrames other_one other_two →
         difference_object n role k one two ≡ difference_object n other_role other_k other_one other_two →
         (k ≡ other_k) × DifferAlike n one two other_one other_two
         × ((one ≢ None) ⊎ (two ≢ None) → role ≡ other_role) }
-    ensures frame { (n : ℕ) (role : Role) (k : ℕ) (head other_head : HeadInfo) (other : Option Item) →
-        head.place ≡ other_head.place →
-        difference_object n role k (Some (Head head)) other ≡ difference_object n role k (Some (Head other_head)) other }
 {}
 
 /// The object of an end mark says which endpoint sent how many bytes, in which line it is and at which time.
@@ -174,8 +169,8 @@ pub fn law_item_objects()
         item_object n role position item ≡ item_object n other_role other_position other →
         (role ≡ other_role) × (position ≡ other_position) × LookAlike n item other }
     ensures unseen { (role : Role) (position : EntryPosition) →
-        item_object 0 role position (RefusedFrame 0 (record { place = 2; reason = TextBad }) (0xfc ∷ [])
+        item_object 0 role position (RefusedFrame 0 (record { offset = 2; reason = TextBad }) (0xfc ∷ [])
         (Some (record { offset = 2; in_payload = 0; bytes = 0xfc ∷ []; earlier = [] })))
-        ≡ item_object 0 role position (RefusedFrame 0 (record { place = 2; reason = TextBad }) (0xff ∷ [])
+        ≡ item_object 0 role position (RefusedFrame 0 (record { offset = 2; reason = TextBad }) (0xff ∷ [])
         (Some (record { offset = 2; in_payload = 0; bytes = 0xff ∷ []; earlier = [] }))) }
 {}

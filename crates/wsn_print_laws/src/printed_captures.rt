@@ -18,7 +18,7 @@ ghost use Rattle.wsn_show.specs.Styles.{styled_capture};
 pub fn of_words()
     ensures { (few : 48 ≤ 4096) → styled_capture
         (record { view = 48; detail = Events; format = format.Text; in_range = few })
-        ((record { number = 2; time = Some (codes "0.25"); items = OfStream Server (Event 0 (Message kind.Text (codes "Hello")) 1) ∷ OfStream Server (RefusedFrame 7 (record { place = 11; reason = TextBad }) (codes "Gr" ++ (0xfc ∷ [])) (Some (record { offset = 11; in_payload = 2; bytes = 0xfc ∷ []; earlier = [] }))) ∷ [] })
+        ((record { number = 2; time = Some (codes "0.25"); items = OfStream Server (Event 0 (Message kind.Text (codes "Hello")) 1) ∷ OfStream Server (RefusedFrame 7 (record { offset = 11; reason = TextBad }) (codes "Gr" ++ (0xfc ∷ [])) (Some (record { offset = 11; in_payload = 2; bytes = 0xfc ∷ []; earlier = [] }))) ∷ [] })
         ∷ (record { number = 4; time = Some (codes "0.5"); items = OfStream Client (Event 0 (Control Close ((0x03 ∷ 0xef ∷ []))) 1) ∷ [] })
         ∷ (record { number = 5; time = Some (codes "0.5"); items = End Client 8 ∷ [] })
         ∷ (record { number = 6; time = Some (codes "0.5"); items = Comment (codes "# reset") ∷ [] }) ∷ [])
@@ -27,7 +27,7 @@ pub fn of_words()
         None
         (record {
           client = side.Closed (Some 1007);
-          server = side.Refused (record { place = 11; reason = TextBad });
+          server = side.Refused (record { offset = 11; reason = TextBad });
           first = Some Client;
           echo = None;
           client_sees = Some 1006;

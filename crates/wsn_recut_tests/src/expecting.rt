@@ -8,9 +8,9 @@ use std::process::Abort;
 use wsn_canon::{Compared, Event};
 use wsn_command_runs::CommandRun;
 use wsn_doubles::answer_lines::{compared_line, recut_line};
+use wsn_io::Output;
 use wsn_plan::{Plan, PlanFault, RecutAnswer, read_plan, write_plan};
 use wsn_scan::Stop;
-use wsn_wire::Output;
 
 /// Fails unless this holds.
 pub fn expect(rt: &impl Abort, holds: bool)

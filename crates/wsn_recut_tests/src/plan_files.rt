@@ -6,8 +6,9 @@ use std::alloc::Global;
 use std::process::Abort;
 use wsn_doubles::heaps::heap_of;
 use wsn_doubles::readers::{Chopped, Endless, READS};
+use wsn_io::Input;
 use wsn_plan::{PlanFault, PlanFileFault, Step, read_plan_file};
-use wsn_wire::{Form, Input};
+use wsn_wire::Form;
 
 const TEXT: &[u8] = b"piece 3 -\ncontrol -\nlast -\n";
 

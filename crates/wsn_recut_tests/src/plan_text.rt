@@ -9,9 +9,10 @@ use std::alloc::{Allocator, Global};
 use std::process::Abort;
 use wsn_doubles::heaps::heap_of;
 use wsn_doubles::writers::{FULL, Full, Narrow};
+use wsn_io::Output;
 use wsn_plan::{LineWhy, Plan, PlanFault, Step, read_plan, write_plan};
 use wsn_scan::Stop;
-use wsn_wire::{Form, Output};
+use wsn_wire::Form;
 
 /// A text, and the text that is written of its plan.
 static PLANS: [(&str, &str); 9] = [

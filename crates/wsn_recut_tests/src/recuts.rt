@@ -7,9 +7,10 @@ use std::process::Abort;
 use wsn_doubles::engines::{SentStream, key_of, recut_by};
 use wsn_doubles::readers::{Chopped, READS};
 use wsn_doubles::vectors::{ANY_LENGTHS, GREATEST, Settings, filled, limits_from, stream_named};
+use wsn_io::{Input, Output};
 use wsn_plan::{PlanFault, RecutAnswer, read_plan, recut, recut_uniform};
 use wsn_scan::{Limits, Stop};
-use wsn_wire::{Input, Output, Role};
+use wsn_wire::Role;
 
 /// How a stream is recut: by the plan of a text, or in frames of this size. With `SizeAndWeave` the controls before a
 /// message are interleaved with its frames.

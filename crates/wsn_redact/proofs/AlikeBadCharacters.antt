@@ -68,7 +68,7 @@ valid_alike text other a =
 -- As many bytes, at the same offsets.
 abbrev HaveSamePlaces : List PlacedByte → List PlacedByte → Type 0
 HaveSamePlaces [] [] = Unit {0}
-HaveSamePlaces (b ∷ bytes) (c ∷ others) = (b.place ≡ c.place) × HaveSamePlaces bytes others
+HaveSamePlaces (b ∷ bytes) (c ∷ others) = (b.offset ≡ c.offset) × HaveSamePlaces bytes others
 HaveSamePlaces bytes others = ⊥
 
 places_append : (xs ys more rest : List PlacedByte) → HaveSamePlaces xs ys → HaveSamePlaces more rest → HaveSamePlaces (xs ++ more) (ys ++ rest)

@@ -309,7 +309,7 @@ module _ (role : Role) (limits : Limits) where
   later_size : (v : Verdict) (bytes other : List ℕ) → length bytes ≡ length other → length (unjudged v bytes) ≡ length (unjudged v other)
   later_size (Accepted s) bytes other same = refl
   later_size (Cut s) bytes other same = refl
-  later_size (Refused q) bytes other same = omega (arith, same, length-drop (q.place + 1) bytes, length-drop (q.place + 1) other)
+  later_size (Refused q) bytes other same = omega (arith, same, length-drop (q.offset + 1) bytes, length-drop (q.offset + 1) other)
 
   -- A redaction, by a verdict that is known.
   pub redaction_at : (bytes redacted : List ℕ) (fs : List Frame) (v : Verdict) → IsVerdict role limits bytes fs v → IsRedaction role limits bytes redacted → IsRedactionAt role limits bytes fs v redacted

@@ -156,15 +156,15 @@ events_alike before others _ _ are fits = absurd fits
 
 -- ---- heads and plans
 
-heads_alike : (place other_place : ℕ) (fs gs : List Frame) → place ≡ other_place → AreLikewise fs gs → heads_from place fs ≡ heads_from other_place gs
-heads_alike place other_place [] [] same are = refl
-heads_alike place other_place (f ∷ fs) (g ∷ gs) same are =
+heads_alike : (offset other_place : ℕ) (fs gs : List Frame) → offset ≡ other_place → AreLikewise fs gs → heads_from offset fs ≡ heads_from other_place gs
+heads_alike offset other_place [] [] same are = refl
+heads_alike offset other_place (f ∷ fs) (g ∷ gs) same are =
     let size = are.1 in
     let sizes = frame_size f g are.0 are.1 in
-    let head : info_of place f ≡ info_of other_place g = (λ i. record { place = same i; fin = f.fin; op = f.op; key = f.key; form = f.form; len = size i }) ∙ ap (λ (h : Frame). record { place = other_place; fin = h.fin; op = h.op; key = h.key; form = h.form; len = length g.payload }) (sym are.0) in
-    let rest = heads_alike (place + length (frame_bytes f)) (other_place + length (frame_bytes g)) fs gs (λ i. same i + sizes i) are.2 in
+    let head : info_of offset f ≡ info_of other_place g = (λ i. record { offset = same i; fin = f.fin; op = f.op; key = f.key; form = f.form; len = size i }) ∙ ap (λ (h : Frame). record { offset = other_place; fin = h.fin; op = h.op; key = h.key; form = h.form; len = length g.payload }) (sym are.0) in
+    let rest = heads_alike (offset + length (frame_bytes f)) (other_place + length (frame_bytes g)) fs gs (λ i. same i + sizes i) are.2 in
     λ i. head i ∷ rest i
-heads_alike place other_place _ _ same are = absurd are
+heads_alike offset other_place _ _ same are = absurd are
 
 pub same_heads : (fs gs : List Frame) → AreLikewise fs gs → heads_of fs ≡ heads_of gs
 same_heads fs gs are = heads_alike 0 0 fs gs refl are
@@ -227,7 +227,7 @@ module _ (role : Role) (limits : Limits) where
               head = b.head;
               following = drop n seen;
               whole = sym (take-append-drop n seen) ∙ ap (λ (bs : List ℕ). bs ++ drop n seen) (sym front);
-              place = b.place;
+              offset = b.offset;
               encoded = b.encoded;
               key = b.key;
               form = b.form;
@@ -266,10 +266,10 @@ module _ (role : Role) (limits : Limits) where
       by (Cut s) is_w = record { begun = h.begun; is_begun = all_of_it; all = h.all }
       by (Refused q) is_w =
           let e = is_w.is_evident in
-          let stop = e.at_place in
+          let stop = e.at_offset in
           let split : bytes ≡ (stream fs ++ e.seen) ++ e.later = e.whole ∙ sym (append_assoc (stream fs) e.seen e.later) in
-          let seen_is : drop (length (stream fs)) (take (q.place + 1) bytes) ≡ e.seen =
-          ap (λ (bs : List ℕ). drop (length (stream fs)) (take (q.place + 1) bs)) split ∙ ap (λ (bs : List ℕ). drop (length (stream fs)) bs) (take_at (stream fs ++ e.seen) e.later (q.place + 1) (omega (arith, stop, length-append (stream fs) e.seen))) ∙ drop_at (stream fs) e.seen (length (stream fs)) refl in
+          let seen_is : drop (length (stream fs)) (take (q.offset + 1) bytes) ≡ e.seen =
+          ap (λ (bs : List ℕ). drop (length (stream fs)) (take (q.offset + 1) bs)) split ∙ ap (λ (bs : List ℕ). drop (length (stream fs)) bs) (take_at (stream fs ++ e.seen) e.later (q.offset + 1) (omega (arith, stop, length-append (stream fs) e.seen))) ∙ drop_at (stream fs) e.seen (length (stream fs)) refl in
           let both : h.rest ≡ e.seen ++ e.later = append_cancel (stream fs) h.rest (e.seen ++ e.later) (sym h.whole ∙ e.whole) in
           record {
             begun = h.begun;
@@ -356,13 +356,13 @@ module _ (role : Role) (limits : Limits) where
       subst (λ (z : Option BadCharacter). AreAlikeBadCharacters z d) (sym x) (subst (AreAlikeBadCharacters (character_of reason fs a.info part)) (sym y) it)
 
   -- The bytes up to the offending one, after the frames.
-  seen_evidence : (bytes : List ℕ) (fs : List Frame) (place : ℕ) (reason : Reason) → IsRefused role limits bytes fs place reason → Evidence role limits (unfinished fs) reason (drop (length (stream fs)) (take (place + 1) bytes))
-  seen_evidence bytes fs place reason is =
+  seen_evidence : (bytes : List ℕ) (fs : List Frame) (offset : ℕ) (reason : Reason) → IsRefused role limits bytes fs offset reason → Evidence role limits (unfinished fs) reason (drop (length (stream fs)) (take (offset + 1) bytes))
+  seen_evidence bytes fs offset reason is =
       let e = is.is_evident in
-      let stop = e.at_place in
+      let stop = e.at_offset in
       let split : bytes ≡ (stream fs ++ e.seen) ++ e.later = e.whole ∙ sym (append_assoc (stream fs) e.seen e.later) in
-      let seen_is : drop (length (stream fs)) (take (place + 1) bytes) ≡ e.seen =
-      ap (λ (bs : List ℕ). drop (length (stream fs)) (take (place + 1) bs)) split ∙ ap (λ (bs : List ℕ). drop (length (stream fs)) bs) (take_at (stream fs ++ e.seen) e.later (place + 1) (omega (arith, stop, length-append (stream fs) e.seen))) ∙ drop_at (stream fs) e.seen (length (stream fs)) refl in
+      let seen_is : drop (length (stream fs)) (take (offset + 1) bytes) ≡ e.seen =
+      ap (λ (bs : List ℕ). drop (length (stream fs)) (take (offset + 1) bs)) split ∙ ap (λ (bs : List ℕ). drop (length (stream fs)) bs) (take_at (stream fs ++ e.seen) e.later (offset + 1) (omega (arith, stop, length-append (stream fs) e.seen))) ∙ drop_at (stream fs) e.seen (length (stream fs)) refl in
       subst (Evidence role limits (unfinished fs) reason) (sym seen_is) e.evidence
 
   -- ---- a stream
@@ -400,11 +400,11 @@ module _ (role : Role) (limits : Limits) where
   verdicts_shown_alike detail bytes other fs gs (Accepted summary) shown others is are rests r s = subst (λ (x : List Shown). AreShownAlike x others) (sym r) (subst (AreShownAlike []) (sym s) tt)
   verdicts_shown_alike detail bytes other fs gs (Cut summary) shown others is are rests r s = subst (λ (x : List Shown). AreShownAlike x others) (sym r) (subst (AreShownAlike []) (sym s) tt)
   verdicts_shown_alike detail bytes other fs gs (Refused q) shown others is are rests r s =
-      let size = evidence_size fs gs q.reason (drop (length (stream fs)) (take (q.place + 1) bytes)) (drop (length (stream gs)) (take (q.place + 1) other)) r.evidence s.evidence r.character s.character is.no_close rests r.is_evidence s.is_evidence in
-      let bad = bad_characters fs gs q.reason (drop (length (stream fs)) (take (q.place + 1) bytes)) (drop (length (stream gs)) (take (q.place + 1) other)) r.evidence s.evidence r.character s.character is.no_close are (seen_evidence bytes fs q.place q.reason is) rests r.is_evidence s.is_evidence in
+      let size = evidence_size fs gs q.reason (drop (length (stream fs)) (take (q.offset + 1) bytes)) (drop (length (stream gs)) (take (q.offset + 1) other)) r.evidence s.evidence r.character s.character is.no_close rests r.is_evidence s.is_evidence in
+      let bad = bad_characters fs gs q.reason (drop (length (stream fs)) (take (q.offset + 1) bytes)) (drop (length (stream gs)) (take (q.offset + 1) other)) r.evidence s.evidence r.character s.character is.no_close are (seen_evidence bytes fs q.offset q.reason is) rests r.is_evidence s.is_evidence in
       let frame : AreAlikeInTurn (RefusedFrame (length (stream fs)) q r.evidence r.character ∷ []) (RefusedFrame (length (stream gs)) q s.evidence s.character ∷ []) = ((stream_size fs gs are, refl, size, bad), tt) in
-      let it = shown_with (q.place + 1) (q.place + 1) _ _ refl (turn_append (interrupted detail fs) (interrupted detail gs) _ _ (interrupted_alike detail fs gs are) frame) in
-      subst (λ (x : List Shown). AreShownAlike x others) (sym r.is) (subst (AreShownAlike (shown_after (q.place + 1) (interrupted detail fs ++ RefusedFrame (length (stream fs)) q r.evidence r.character ∷ []))) (sym s.is) it)
+      let it = shown_with (q.offset + 1) (q.offset + 1) _ _ refl (turn_append (interrupted detail fs) (interrupted detail gs) _ _ (interrupted_alike detail fs gs are) frame) in
+      subst (λ (x : List Shown). AreShownAlike x others) (sym r.is) (subst (AreShownAlike (shown_after (q.offset + 1) (interrupted detail fs ++ RefusedFrame (length (stream fs)) q r.evidence r.character ∷ []))) (sym s.is) it)
 
   pub alike_shown : (detail : Detail) (bytes other : List ℕ) (shown others : List Shown) → AreAlikeStreams role limits bytes other → IsShownStream detail role limits bytes shown → IsShownStream detail role limits other others → AreShownAlike shown others
   alike_shown detail bytes other shown others a r s =
@@ -427,8 +427,8 @@ module _ (role : Role) (limits : Limits) where
   part_in_turn fs gs info part other are size = by (is_control info.op)
     where
       by : (c : Bool) → AreAlikeInTurn
-          (if c then open_items fs (Some 0) ++ Unfinished info.place (Control info.op part) 1 (Some (info.len - length part)) ∷ [] else open_item fs (unfinished fs ++ frame_so_far info part ∷ []) (Some (info.len - length part)) ∷ [])
-          (if c then open_items gs (Some 0) ++ Unfinished info.place (Control info.op other) 1 (Some (info.len - length other)) ∷ [] else open_item gs (unfinished gs ++ frame_so_far info other ∷ []) (Some (info.len - length other)) ∷ [])
+          (if c then open_items fs (Some 0) ++ Unfinished info.offset (Control info.op part) 1 (Some (info.len - length part)) ∷ [] else open_item fs (unfinished fs ++ frame_so_far info part ∷ []) (Some (info.len - length part)) ∷ [])
+          (if c then open_items gs (Some 0) ++ Unfinished info.offset (Control info.op other) 1 (Some (info.len - length other)) ∷ [] else open_item gs (unfinished gs ++ frame_so_far info other ∷ []) (Some (info.len - length other)) ∷ [])
       by true = turn_append (open_items fs (Some 0)) (open_items gs (Some 0)) _ _ (open_in_turn fs gs (Some 0) are) ((refl, (refl, size), refl, ap (λ (n : ℕ). Some (info.len - n)) size), tt)
       by false =
           let groups = likewise_push (unfinished fs) (unfinished gs) (frame_so_far info part) (frame_so_far info other) (open_likewise fs gs are) (data_part info part other size) size in
@@ -472,8 +472,8 @@ module _ (role : Role) (limits : Limits) where
       subst (λ (x : List Item). AreAlikeInTurn x others) (sym r) (subst (AreAlikeInTurn (items_of_bytes Tail (length (stream fs)) (drop (length (stream fs)) bytes))) (sym s) it)
   left_in_turn bytes other fs gs (Cut summary) items others size is are rests r s = rest_in_turn fs gs (drop (length (stream fs)) bytes) (drop (length (stream gs)) other) items others is.0.no_close are rests r s
   left_in_turn bytes other fs gs (Refused q) items others size is are rests r s =
-      let it = bytes_in_turn Unread (λ offset xs ys same. (refl, same)) (q.place + 1) (q.place + 1) (drop (q.place + 1) bytes) (drop (q.place + 1) other) refl (omega (arith, size, length-drop (q.place + 1) bytes, length-drop (q.place + 1) other)) in
-      subst (λ (x : List Item). AreAlikeInTurn x others) (sym r) (subst (AreAlikeInTurn (items_of_bytes Unread (q.place + 1) (drop (q.place + 1) bytes))) (sym s) it)
+      let it = bytes_in_turn Unread (λ offset xs ys same. (refl, same)) (q.offset + 1) (q.offset + 1) (drop (q.offset + 1) bytes) (drop (q.offset + 1) other) refl (omega (arith, size, length-drop (q.offset + 1) bytes, length-drop (q.offset + 1) other)) in
+      subst (λ (x : List Item). AreAlikeInTurn x others) (sym r) (subst (AreAlikeInTurn (items_of_bytes Unread (q.offset + 1) (drop (q.offset + 1) bytes))) (sym s) it)
 
   pub alike_left : (bytes other : List ℕ) (items others : List Item) → AreAlikeStreams role limits bytes other → IsLeftOver role limits bytes items → IsLeftOver role limits other others → AreAlikeInTurn items others
   alike_left bytes other items others a r s =

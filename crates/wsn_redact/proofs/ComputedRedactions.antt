@@ -131,7 +131,7 @@ module _ (role : Role) (limits : Limits) where
   -- Two bytes that are evidence don't begin with a valid head.
   pub no_head_of_two : (fs : List Frame) (rest : List ℕ) (reason : Reason) → length rest ≤ 2 → Evidence role limits (unfinished fs) reason rest → (info : HeadInfo) → BeginsWithHead role limits fs rest info → ⊥
   no_head_of_two fs rest reason short evidence info b =
-      let two = begins_two role limits fs b.head info (record { head = b.head; following = []; whole = sym (append-nil b.head); place = b.place; encoded = b.encoded; key = b.key; form = b.form; size = b.size; has_no_evidence = b.has_no_evidence }) in
+      let two = begins_two role limits fs b.head info (record { head = b.head; following = []; whole = sym (append-nil b.head); offset = b.offset; encoded = b.encoded; key = b.key; form = b.form; size = b.size; has_no_evidence = b.has_no_evidence }) in
       let size = ap (λ (bs : List ℕ). length bs) b.whole in
       let none : b.following ≡ [] = no_items b.following (omega (arith, two, size, short, length-append b.head b.following)) in
       let head : rest ≡ b.head = b.whole ∙ ap (λ (bs : List ℕ). b.head ++ bs) none ∙ append-nil b.head in

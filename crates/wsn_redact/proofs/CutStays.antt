@@ -42,7 +42,7 @@ module _ (role : Role) (limits : Limits) (bytes : List ℕ) (fs gs : List Frame)
         seen = front;
         later = after;
         whole = c.whole ∙ ap (λ (bs : List ℕ). stream fs ++ bs) is;
-        at_place = omega (arith, some);
+        at_offset = omega (arith, some);
         evidence = evidence;
       })
 

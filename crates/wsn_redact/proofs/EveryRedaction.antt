@@ -100,7 +100,7 @@ module _ (role : Role) (limits : Limits) (bytes : List ℕ) (fs : List Frame) (r
   evident_at : (front after : List ℕ) (reason : Reason) → rest ≡ front ++ after → Evidence role limits (unfinished fs) reason front → IsEvidentAt role limits bytes fs (length (stream fs) + length front - 1) reason
   evident_at front after reason is evidence =
       let some = evidence_is_some role limits (unfinished fs) reason front evidence in
-      record { seen = front; later = after; whole = whole ∙ ap (λ (bs : List ℕ). stream fs ++ bs) is; at_place = omega (arith, some); evidence = evidence }
+      record { seen = front; later = after; whole = whole ∙ ap (λ (bs : List ℕ). stream fs ++ bs) is; at_offset = omega (arith, some); evidence = evidence }
 
   module _ (info : HeadInfo) (b : BeginsWithHead role limits fs rest info) where
     part_of : (n : ℕ) → rest ≡ (b.head ++ take n b.following) ++ drop n b.following
@@ -120,10 +120,10 @@ module _ (role : Role) (limits : Limits) (bytes : List ℕ) (fs : List Frame) (r
         (b.head ++ wire_payload info.key part, begun_with part (payload_is (unfinished fs) info.op payload (subst (λ (bs : List ℕ). HasText (unfinished fs) info.op (wire_payload info.key bs)) all text)))
 
     -- The bytes end with the offending one.
-    pub refused_begun : (place : ℕ) (reason : Reason) → IsRefused role limits bytes fs place reason → place + 1 ≡ length bytes → (redacted : List ℕ) × IsRedactedBegun role limits fs rest redacted
-    refused_begun place reason r last_is =
+    pub refused_begun : (offset : ℕ) (reason : Reason) → IsRefused role limits bytes fs offset reason → offset + 1 ≡ length bytes → (redacted : List ℕ) × IsRedactedBegun role limits fs rest redacted
+    refused_begun offset reason r last_is =
         let e = r.is_evident in
-        let at = e.at_place in
+        let at = e.at_offset in
         let total = ap (λ (bs : List ℕ). length bs) whole ∙ length-append (stream fs) rest in
         let both : e.seen ++ e.later ≡ rest = append_cancel (stream fs) (e.seen ++ e.later) rest (sym e.whole ∙ whole) in
         let sum = ap (λ (bs : List ℕ). length bs) both in
@@ -164,9 +164,9 @@ module _ (role : Role) (limits : Limits) (range : InRange limits) where
   same_verdict : (bytes : List ℕ) (fs : List Frame) (v : Verdict) → IsVerdict role limits bytes fs v → IsVerdict role limits (judged_bytes v bytes) fs v
   same_verdict bytes fs (Accepted s) is = is
   same_verdict bytes fs (Cut s) is = is
-  same_verdict bytes fs (Refused r) is = refused_alike role limits fs bytes (take (r.place + 1) bytes) r.place r.reason (take-take (r.place + 1) (r.place + 1) bytes (omega arith)) is
+  same_verdict bytes fs (Refused r) is = refused_alike role limits fs bytes (take (r.offset + 1) bytes) r.offset r.reason (take-take (r.offset + 1) (r.offset + 1) bytes (omega arith)) is
 
-  begun_rest : (seen : List ℕ) (fs : List Frame) (v : Verdict) (rest : List ℕ) → seen ≡ stream fs ++ rest → HasNoClose fs → (info : HeadInfo) → BeginsWithHead role limits fs rest info → IsVerdict role limits seen fs v → ((place : ℕ) (reason : Reason) → IsRefused role limits seen fs place reason → place + 1 ≡ length seen)
+  begun_rest : (seen : List ℕ) (fs : List Frame) (v : Verdict) (rest : List ℕ) → seen ≡ stream fs ++ rest → HasNoClose fs → (info : HeadInfo) → BeginsWithHead role limits fs rest info → IsVerdict role limits seen fs v → ((offset : ℕ) (reason : Reason) → IsRefused role limits seen fs offset reason → offset + 1 ≡ length seen)
       → (redacted : List ℕ) × IsRedactedBegun role limits fs rest redacted
   begun_rest seen fs (Accepted s) rest whole no_close info b is last = elim is.0.ends [
     | inl ends ↦
@@ -176,21 +176,21 @@ module _ (role : Role) (limits : Limits) (range : InRange limits) where
     | inr ends ↦ absurd (closed_or_not fs ends.0 no_close)
   ]
   begun_rest seen fs (Cut s) rest whole no_close info b is last = cut_begun role limits seen fs rest whole info b is.0
-  begun_rest seen fs (Refused r) rest whole no_close info b is last = refused_begun role limits seen fs rest whole info b r.place r.reason is (last r.place r.reason is)
+  begun_rest seen fs (Refused r) rest whole no_close info b is last = refused_begun role limits seen fs rest whole info b r.offset r.reason is (last r.offset r.reason is)
 
-  judged_ends : (bytes : List ℕ) (fs : List Frame) (v : Verdict) → IsVerdict role limits bytes fs v → (place : ℕ) (reason : Reason) → IsRefused role limits (judged_bytes v bytes) fs place reason → place + 1 ≡ length (judged_bytes v bytes)
-  judged_ends bytes fs v is place reason r = by v refl is r
+  judged_ends : (bytes : List ℕ) (fs : List Frame) (v : Verdict) → IsVerdict role limits bytes fs v → (offset : ℕ) (reason : Reason) → IsRefused role limits (judged_bytes v bytes) fs offset reason → offset + 1 ≡ length (judged_bytes v bytes)
+  judged_ends bytes fs v is offset reason r = by v refl is r
     where
-      by : (w : Verdict) → v ≡ w → IsVerdict role limits bytes fs w → IsRefused role limits (judged_bytes w bytes) fs place reason → place + 1 ≡ length (judged_bytes w bytes)
-      by (Accepted s) v_is is_w r_w = let both : Accepted s ≡ Refused (record { place = place; reason = reason }) = (one_verdict role limits bytes fs fs (Accepted s) (Refused (record { place = place; reason = reason })) is_w r_w).1 in absurd cc
-      by (Cut s) v_is is_w r_w = let both : Cut s ≡ Refused (record { place = place; reason = reason }) = (one_verdict role limits bytes fs fs (Cut s) (Refused (record { place = place; reason = reason })) is_w r_w).1 in absurd cc
+      by : (w : Verdict) → v ≡ w → IsVerdict role limits bytes fs w → IsRefused role limits (judged_bytes w bytes) fs offset reason → offset + 1 ≡ length (judged_bytes w bytes)
+      by (Accepted s) v_is is_w r_w = let both : Accepted s ≡ Refused (record { offset = offset; reason = reason }) = (one_verdict role limits bytes fs fs (Accepted s) (Refused (record { offset = offset; reason = reason })) is_w r_w).1 in absurd cc
+      by (Cut s) v_is is_w r_w = let both : Cut s ≡ Refused (record { offset = offset; reason = reason }) = (one_verdict role limits bytes fs fs (Cut s) (Refused (record { offset = offset; reason = reason })) is_w r_w).1 in absurd cc
       by (Refused q) v_is is_w r_w =
-          let same = (one_verdict role limits (take (q.place + 1) bytes) fs fs (Refused q) (Refused (record { place = place; reason = reason })) (same_verdict bytes fs (Refused q) is_w) r_w).1 in
-          let place_is : q.place ≡ place = cc in
+          let same = (one_verdict role limits (take (q.offset + 1) bytes) fs fs (Refused q) (Refused (record { offset = offset; reason = reason })) (same_verdict bytes fs (Refused q) is_w) r_w).1 in
+          let offset_is : q.offset ≡ offset = cc in
           let e = is_w.is_evident in
-          let at = e.at_place in
+          let at = e.at_offset in
           let total = ap (λ (bs : List ℕ). length bs) e.whole in
-          omega (arith, place_is, at, total, length-append (stream fs) (e.seen ++ e.later), length-append e.seen e.later, length-take-le (q.place + 1) bytes (omega (arith, at, total, length-append (stream fs) (e.seen ++ e.later), length-append e.seen e.later)))
+          omega (arith, offset_is, at, total, length-append (stream fs) (e.seen ++ e.later), length-append e.seen e.later, length-take-le (q.offset + 1) bytes (omega (arith, at, total, length-append (stream fs) (e.seen ++ e.later), length-append e.seen e.later)))
 
   some_rest : (bytes : List ℕ) → IsBytes bytes → (fs : List Frame) (v : Verdict) → IsVerdict role limits bytes fs v → (redacted : List ℕ) × IsRedactedRest role limits fs (drop (length (stream fs)) (judged_bytes v bytes)) redacted
   some_rest bytes in_bytes fs v is =
@@ -206,9 +206,9 @@ module _ (role : Role) (limits : Limits) (range : InRange limits) where
       all_bytes : (w : Verdict) → IsBytes (judged_bytes w bytes)
       all_bytes (Accepted s) = in_bytes
       all_bytes (Cut s) = in_bytes
-      all_bytes (Refused r) = bytes_take (r.place + 1) bytes in_bytes
+      all_bytes (Refused r) = bytes_take (r.offset + 1) bytes in_bytes
 
-      by : (seen rest : List ℕ) → seen ≡ stream fs ++ rest → (begun : List HeadInfo) → IsBegun role limits fs rest begun → IsVerdict role limits seen fs v → ((place : ℕ) (reason : Reason) → IsRefused role limits seen fs place reason → place + 1 ≡ length seen) → (redacted : List ℕ) × IsRedactedRest role limits fs rest redacted
+      by : (seen rest : List ℕ) → seen ≡ stream fs ++ rest → (begun : List HeadInfo) → IsBegun role limits fs rest begun → IsVerdict role limits seen fs v → ((offset : ℕ) (reason : Reason) → IsRefused role limits seen fs offset reason → offset + 1 ≡ length seen) → (redacted : List ℕ) × IsRedactedRest role limits fs rest redacted
       by seen rest whole begun (inl closed) is_seen last = (zeros_for rest, inl (closed.1, refl))
       by seen rest whole begun (inr (inl none)) is_seen last = (rest, inr (inl (none.1, none.2, refl)))
       by seen rest whole begun (inr (inr some)) is_seen last =

@@ -116,12 +116,12 @@ data_prefix n false earlier payload part within r = ap (λ (bs : List ℕ). take
 data_prefix n true earlier payload part within r =
     let k = length earlier + n in
     let same = r.same_place in
-    let place : k ≡ length r.before + n = omega (arith, same) in
+    let offset : k ≡ length r.before + n = omega (arith, same) in
     let front = prefix_of k (earlier ++ payload) (r.before ++ part) (omega (arith, within, length-append earlier payload)) r.is in
     record {
       before = r.before;
       same_place = r.same_place;
-      is = subst (λ (bs : List ℕ). IsRedacted bs (r.before ++ take n part)) (take-append-add earlier payload n) (subst (IsRedacted (take k (earlier ++ payload))) (ap (λ (m : ℕ). take m (r.before ++ part)) place ∙ take-append-add r.before part n) front);
+      is = subst (λ (bs : List ℕ). IsRedacted bs (r.before ++ take n part)) (take-append-add earlier payload n) (subst (IsRedacted (take k (earlier ++ payload))) (ap (λ (m : ℕ). take m (r.before ++ part)) offset ∙ take-append-add r.before part n) front);
     }
 
 body_prefix : (n : ℕ) (body part : List ℕ) → n < length body → IsRedactedBody body part → IsRedactedBody (take n body) (take n part)

@@ -65,7 +65,7 @@ module _ (role : Role) (limits : Limits) where
         head = head;
         following = wire ++ following;
         whole = append_assoc head wire following;
-        place = refl;
+        offset = refl;
         encoded = refl;
         key = e.key;
         form = e.form;
@@ -80,7 +80,7 @@ module _ (role : Role) (limits : Limits) where
   head_within : (fs : List Frame) (rest more : List ℕ) (info : HeadInfo) (b : BeginsWithHead role limits fs (rest ++ more) info) → length b.head ≤ length rest → BeginsWithHead role limits fs rest info
   head_within fs rest more info b few =
       let c = front_continues b.head rest b.following more few (sym b.whole) in
-      record { head = b.head; following = c.0; whole = c.1; place = b.place; encoded = b.encoded; key = b.key; form = b.form; size = b.size; has_no_evidence = b.has_no_evidence }
+      record { head = b.head; following = c.0; whole = c.1; offset = b.offset; encoded = b.encoded; key = b.key; form = b.form; size = b.size; has_no_evidence = b.has_no_evidence }
 
   -- A part of a head, while more comes.
   part_of_head : (fs : List Frame) (rest more tail : List ℕ) (info : HeadInfo) → ((i : HeadInfo) → BeginsWithHead role limits fs rest i → ⊥) → (b : BeginsWithHead role limits fs (rest ++ more) info) → Continues (b.head ++ tail) rest
@@ -194,12 +194,12 @@ module _ (role : Role) (limits : Limits) where
   refused_longer : (bytes more redacted longer : List ℕ) (fs : List Frame) (q : Refusal) → IsVerdict role limits bytes fs (Refused q) → IsRedaction role limits bytes redacted → IsRedaction role limits (bytes ++ more) longer → Continues longer redacted
   refused_longer bytes more redacted longer fs q is r s =
       let e = is.is_evident in
-      let stop = e.at_place in
+      let stop = e.at_offset in
       let total = ap (λ (bs : List ℕ). length bs) e.whole in
-      let n = q.place + 1 in
+      let n = q.offset + 1 in
       let within : n ≤ length bytes = omega (arith, stop, total, length-append (stream fs) (e.seen ++ e.later), length-append e.seen e.later) in
       let front : take n (bytes ++ more) ≡ take n bytes = take-append-le n bytes more within in
-      let also : IsVerdict role limits (bytes ++ more) fs (Refused q) = refused_alike role limits fs bytes (bytes ++ more) q.place q.reason front is in
+      let also : IsVerdict role limits (bytes ++ more) fs (Refused q) = refused_alike role limits fs bytes (bytes ++ more) q.offset q.reason front is in
       let x = redaction_at role limits bytes redacted fs (Refused q) is r in
       let y = redaction_at role limits (bytes ++ more) longer fs (Refused q) also s in
       let frames = one_frames [] fs y.frames x.frames y.are_frames x.are_frames in
@@ -215,13 +215,13 @@ module _ (role : Role) (limits : Limits) where
   longer_judged : (bytes more : List ℕ) (fs : List Frame) (v : Verdict) (gs : List Frame) (w : Verdict) → ((q : Refusal) → v ≡ Refused q → ⊥) → IsVerdict role limits bytes fs v → IsVerdict role limits (bytes ++ more) gs w → (m : List ℕ) × (judged_bytes w (bytes ++ more) ≡ bytes ++ m)
   longer_judged bytes more fs v gs (Accepted t) quiet is also = (more, refl)
   longer_judged bytes more fs v gs (Cut t) quiet is also = (more, refl)
-  longer_judged bytes more fs v gs (Refused q) quiet is also = elim (cases_lt (length bytes) (q.place + 1)) [
+  longer_judged bytes more fs v gs (Refused q) quiet is also = elim (cases_lt (length bytes) (q.offset + 1)) [
     | inl past ↦
-        let n = q.place + 1 - length bytes in
-        let sum : q.place + 1 ≡ length bytes + n = omega (arith, past) in
+        let n = q.offset + 1 - length bytes in
+        let sum : q.offset + 1 ≡ length bytes + n = omega (arith, past) in
         (take n more, ap (λ (k : ℕ). take k (bytes ++ more)) sum ∙ take-append-add bytes more n)
     | inr inside ↦
-        let mine : IsVerdict role limits bytes gs (Refused q) = refused_alike role limits gs (bytes ++ more) bytes q.place q.reason (sym (take-append-le (q.place + 1) bytes more inside)) also in
+        let mine : IsVerdict role limits bytes gs (Refused q) = refused_alike role limits gs (bytes ++ more) bytes q.offset q.reason (sym (take-append-le (q.offset + 1) bytes more inside)) also in
         absurd (quiet q (one_verdict role limits bytes fs gs v (Refused q) is mine).1)
   ]
 

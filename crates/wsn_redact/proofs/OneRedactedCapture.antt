@@ -33,7 +33,7 @@ digit_first list seconds (d ∷ whole) fraction some digits is same =
 
 pub no_time : (list seconds : List ℕ) → IsSeconds seconds → codes "# " ++ seconds ≡ extensions_prefix ++ list → ⊥
 no_time list seconds is same =
-    digit_first list seconds is.whole is.fraction is.some is.whole_digits is.is
+    digit_first list seconds is.whole is.fraction is.whole_is.some is.whole_is.digits is.is
     (append_cancel_left (codes "# ") seconds (codes "extensions: " ++ list) same)
 
 pub no_reset : (list : List ℕ) (role : Role) → reset_comment role ≡ extensions_prefix ++ list → ⊥

@@ -59,11 +59,11 @@ module _ (role : Role) (limits : Limits) where
   all_bytes bytes fs (Refused r) is =
       let e = is.is_evident in
       let size = ap (λ (bs : List ℕ). length bs) e.whole in
-      let place = e.at_place in
-      let within : r.place + 1 ≤ length bytes = omega (arith, size, place, length-append (stream fs) (e.seen ++ e.later), length-append e.seen e.later) in
+      let offset = e.at_offset in
+      let within : r.offset + 1 ≤ length bytes = omega (arith, size, offset, length-append (stream fs) (e.seen ++ e.later), length-append e.seen e.later) in
       let n = length (stream fs) in
-      let front = take (r.place + 1) bytes in
-      omega (arith, within, place, length-take-le (r.place + 1) bytes within, length-drop n front, length-drop (r.place + 1) bytes)
+      let front = take (r.offset + 1) bytes in
+      omega (arith, within, offset, length-take-le (r.offset + 1) bytes within, length-drop n front, length-drop (r.offset + 1) bytes)
 
   pub redaction_length : (bytes redacted : List ℕ) → IsRedaction role limits bytes redacted → length redacted ≡ length bytes
   redaction_length bytes redacted r =

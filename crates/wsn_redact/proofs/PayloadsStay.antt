@@ -53,7 +53,7 @@ module _ (role : Role) (limits : Limits) (fs gs : List Frame) (lawful : IsLawful
     head = g.head;
     following = g.following;
     whole = g.whole;
-    place = g.place ∙ streams;
+    offset = g.offset ∙ streams;
     encoded = g.encoded;
     key = g.key;
     form = g.form;
@@ -69,7 +69,7 @@ module _ (role : Role) (limits : Limits) (fs gs : List Frame) (lawful : IsLawful
     head = b.head;
     following = following;
     whole = refl;
-    place = b.place ∙ sym streams;
+    offset = b.offset ∙ sym streams;
     encoded = b.encoded;
     key = b.key;
     form = b.form;

@@ -81,7 +81,7 @@ module _ (role : Role) (limits : Limits) where
   judged_in_bytes : (v : Verdict) (bytes : List ℕ) → IsBytes bytes → IsBytes (judged_bytes v bytes)
   judged_in_bytes (Accepted s) bytes all = all
   judged_in_bytes (Cut s) bytes all = all
-  judged_in_bytes (Refused r) bytes all = bytes_take (r.place + 1) bytes all
+  judged_in_bytes (Refused r) bytes all = bytes_take (r.offset + 1) bytes all
 
   rest_in_bytes : (fs : List Frame) (rest redacted : List ℕ) → IsBytes (payload_of (unfinished fs)) → IsBytes rest → IsRedactedRest role limits fs rest redacted → IsBytes redacted
   rest_in_bytes fs rest redacted before all (inl closed) = subst IsBytes (sym closed.1) (zeros_bytes rest)

@@ -71,7 +71,7 @@ module _ (role : Role) (limits : Limits) where
         let there = refused_there role limits old new chunk after n part came h.frames h.position h.rest h.followed refusal is call in
         let count : n ≡ 0 = omega (arith, none) in
         let same : (came ++ take n chunk) ++ [] ≡ came = append-nil (came ++ take n chunk) ∙ ap (λ (m : ℕ). came ++ take m chunk) count ∙ append-nil came in
-        absurd (unrefused_so_far role limits old came h.frames h.position h.rest h.followed h.frames refusal.place refusal.reason (subst (λ (bs : List ℕ). IsRefused role limits bs h.frames refusal.place refusal.reason) same (there.1.refused [])))
+        absurd (unrefused_so_far role limits old came h.frames h.position h.rest h.followed h.frames refusal.offset refusal.reason (subst (λ (bs : List ℕ). IsRefused role limits bs h.frames refusal.offset refusal.reason) same (there.1.refused [])))
   ]
 
   module _ (old new : Scan) (chunk after : List ℕ) (n : ℕ) (part : Part) (came : List ℕ) (kept : Redactor) (written : List ℕ) (h : IsRedacting role limits old kept came written) (refusal : Refusal) (is : refusal_in new ≡ Some refusal)
@@ -94,8 +94,8 @@ module _ (role : Role) (limits : Limits) where
     none_after : came ++ share ≡ (came ++ share) ++ []
     none_after = sym (append-nil (came ++ share))
 
-    refused_here : IsRefused role limits (came ++ share) h.frames refusal.place refusal.reason
-    refused_here = subst (λ (bs : List ℕ). IsRefused role limits bs h.frames refusal.place refusal.reason) (append-nil (came ++ share)) (reaches.1.refused [])
+    refused_here : IsRefused role limits (came ++ share) h.frames refusal.offset refusal.reason
+    refused_here = subst (λ (bs : List ℕ). IsRefused role limits bs h.frames refusal.offset refusal.reason) (append-nil (came ++ share)) (reaches.1.refused [])
 
     some : 0 < n
     some = refused_some old new chunk after n part came kept written h refusal is call
@@ -110,12 +110,12 @@ module _ (role : Role) (limits : Limits) where
     seen_is : refused_here.is_evident.seen ≡ longer
     seen_is =
         let e = refused_here.is_evident in
-        let place = reaches.1.place in
-        let at = e.at_place in
+        let offset = reaches.1.offset in
+        let at = e.at_offset in
         let same : e.seen ++ e.later ≡ longer = append_cancel (stream h.frames) (e.seen ++ e.later) longer (sym e.whole ∙ whole_rest) in
         let size = ap (λ (bs : List ℕ). length bs) whole_rest ∙ length-append (stream h.frames) longer in
         let sum = ap (λ (bs : List ℕ). length bs) same in
-        let none : e.later ≡ [] = no_items e.later (omega (arith, place, at, size, sum, length-append e.seen e.later)) in
+        let none : e.later ≡ [] = no_items e.later (omega (arith, offset, at, size, sum, length-append e.seen e.later)) in
         sym (append-nil e.seen) ∙ ap (λ (bs : List ℕ). e.seen ++ bs) (sym none) ∙ same
 
     in_the_frame : (info : HeadInfo) (payload : List ℕ) → h.position ≡ InFrame info payload → IsRedactedRest role limits h.frames longer (h.rest_written ++ final)
@@ -144,10 +144,10 @@ module _ (role : Role) (limits : Limits) where
         let part_written = redacted_payload (unfinished h.frames) info.op payload ++ refused_part kept wrong last.0 last.1 in
         let it : IsRedactedPayload (unfinished h.frames) info.op (payload ++ (last.0 ++ last.1 ∷ [])) part_written =
         refused_payload kept (unfinished h.frames) info.op payload last.0 last.1 bad wrong refusal.reason may k.1 k.3 k.4 is_bad says.2.1 info.fin info.len refusal.reason refl evident_whole in
-        let place : kept.done ≡ length (redacted_payload (unfinished h.frames) info.op payload) = k.3 ∙ sym (length-redacted_payload (unfinished h.frames) info.op payload) in
+        let offset : kept.done ≡ length (redacted_payload (unfinished h.frames) info.op payload) = k.3 ∙ sym (length-redacted_payload (unfinished h.frames) info.op payload) in
         let head_written = subst (λ (q : Position). IsRestWritten h.frames h.rest q h.rest_written) here h.is_rest in
         let final_is : final ≡ unmasked_by info.key (length (redacted_payload (unfinished h.frames) info.op payload)) (refused_part kept wrong last.0 last.1) =
-        says.2.2 ∙ (λ i. unmasked_by (k.2 i) (place i) (refused_part kept wrong last.0 last.1)) in
+        says.2.2 ∙ (λ i. unmasked_by (k.2 i) (offset i) (refused_part kept wrong last.0 last.1)) in
         inr (inr (
           own.no_close,
           record {
@@ -202,12 +202,12 @@ module _ (role : Role) (limits : Limits) where
       where
         at_more : (more : List ℕ) → IsRedactionAt role limits ((came ++ share) ++ more) h.frames (Refused refusal) ((written ++ final) ++ zeros_for more)
         at_more more =
-            let place = reaches.1.place in
+            let offset = reaches.1.offset in
             let all = came ++ share in
-            let front : take (refusal.place + 1) (all ++ more) ≡ all = take-append-le (refusal.place + 1) all more (omega (arith, place)) ∙ take_all (refusal.place + 1) all (omega (arith, place)) in
-            let rest : drop (length (stream h.frames)) (take (refusal.place + 1) (all ++ more)) ≡ longer =
+            let front : take (refusal.offset + 1) (all ++ more) ≡ all = take-append-le (refusal.offset + 1) all more (omega (arith, offset)) ∙ take_all (refusal.offset + 1) all (omega (arith, offset)) in
+            let rest : drop (length (stream h.frames)) (take (refusal.offset + 1) (all ++ more)) ≡ longer =
             ap (λ (bs : List ℕ). drop (length (stream h.frames)) bs) (front ∙ whole_rest) ∙ drop_at (stream h.frames) longer (length (stream h.frames)) refl in
-            let end : drop (refusal.place + 1) (all ++ more) ≡ more = drop_at all more (refusal.place + 1) (sym place) in
+            let end : drop (refusal.offset + 1) (all ++ more) ≡ more = drop_at all more (refusal.offset + 1) (sym offset) in
             record {
               frames = redacted_frames [] h.frames;
               are_frames = are_redacted role limits [] h.frames (lawful_done role limits old came h.frames h.position h.rest h.followed);
@@ -322,7 +322,7 @@ module _ (role : Role) (limits : Limits) where
         all : (w : Verdict) → IsVerdict role limits came h.frames w → (judged_bytes w came ≡ came) × (unjudged w came ≡ [])
         all (Accepted s) is_w = (refl, refl)
         all (Cut s) is_w = (refl, refl)
-        all (Refused r) is_w = absurd (unrefused_so_far role limits scan came h.frames h.position h.rest h.followed h.frames r.place r.reason is_w)
+        all (Refused r) is_w = absurd (unrefused_so_far role limits scan came h.frames h.position h.rest h.followed h.frames r.offset r.reason is_w)
 
         rest : drop (length (stream h.frames)) (judged_bytes v came) ≡ h.rest
         rest = ap (λ (bs : List ℕ). drop (length (stream h.frames)) bs) ((all v is).0 ∙ whole_is role limits scan came h.frames h.position h.rest h.followed) ∙ drop_at (stream h.frames) h.rest (length (stream h.frames)) refl

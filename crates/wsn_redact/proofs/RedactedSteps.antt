@@ -287,8 +287,8 @@ module _ (role : Role) (limits : Limits) (old new : Scan) (chunk after : List �
           let key = part.head.key in
           let old_part = redacted_payload (unfinished h.frames) part.head.op before in
           let more = replaced part.head.op p.begun.text (due_of p.begun.due) p.begun.done payload in
-          let place : p.begun.done ≡ length old_part = on.done_is ∙ sym (length-redacted_payload (unfinished h.frames) part.head.op before) in
-          let out_is : out ≡ unmasked_by key (length old_part) more = p.masks ∙ (λ i. unmasked_by key (place i) (p.replaces.written i)) in
+          let offset : p.begun.done ≡ length old_part = on.done_is ∙ sym (length-redacted_payload (unfinished h.frames) part.head.op before) in
+          let out_is : out ≡ unmasked_by key (length old_part) more = p.masks ∙ (λ i. unmasked_by key (offset i) (p.replaces.written i)) in
           let joined : wire_payload key (redacted_payload (unfinished h.frames) part.head.op (before ++ payload)) ≡ wire_payload key old_part ++ out =
           ap (λ (bs : List ℕ). wire_payload key bs) (payload_more p.begun (unfinished h.frames) before payload on.done_is part.head.op on.keeps) ∙ wire_payload_is key (old_part ++ more) ∙ unmasked_by-joined key old_part more ∙ (λ i. sym (wire_payload_is key old_part) i ++ sym out_is i) in
           ap (λ (bs : List ℕ). bs ++ out) on.written_is ∙ append_assoc (head_of part.head) (wire_payload key old_part) out ∙ ap (λ (bs : List ℕ). head_of part.head ++ bs) (sym joined)

@@ -235,15 +235,15 @@ module _ (role : Role) (limits : Limits) where
 -- ---- heads, and the end
 
 -- The same heads.
-pub heads_stay : (place : ℕ) (before fs : List Frame) → heads_from place (redacted_frames before fs) ≡ heads_from place fs
-heads_stay place before [] = refl
-heads_stay place before (f ∷ fs) =
+pub heads_stay : (offset : ℕ) (before fs : List Frame) → heads_from offset (redacted_frames before fs) ≡ heads_from offset fs
+heads_stay offset before [] = refl
+heads_stay offset before (f ∷ fs) =
     let payload = redacted_payload (unfinished before) f.op f.payload in
     let size : length payload ≡ length f.payload = length-redacted_payload (unfinished before) f.op f.payload in
     let bytes = frame_length f payload size in
-    let head : info_of place (with_payload f payload) ≡ info_of place f = ap (λ (n : ℕ). record { place = place; fin = f.fin; op = f.op; key = f.key; form = f.form; len = n }) size in
-    let next : place + length (frame_bytes (with_payload f payload)) ≡ place + length (frame_bytes f) = ap (λ (n : ℕ). place + n) bytes in
-    let rest = heads_stay (place + length (frame_bytes f)) (before ++ f ∷ []) fs in
+    let head : info_of offset (with_payload f payload) ≡ info_of offset f = ap (λ (n : ℕ). record { offset = offset; fin = f.fin; op = f.op; key = f.key; form = f.form; len = n }) size in
+    let next : offset + length (frame_bytes (with_payload f payload)) ≡ offset + length (frame_bytes f) = ap (λ (n : ℕ). offset + n) bytes in
+    let rest = heads_stay (offset + length (frame_bytes f)) (before ++ f ∷ []) fs in
     λ i. head i ∷ (ap (λ (n : ℕ). heads_from n (redacted_frames (before ++ f ∷ []) fs)) next ∙ rest) i
 
 -- A Close among them is one among the frames.

@@ -54,7 +54,7 @@ module _ (role : Role) (limits : Limits) (fs : List Frame) (seen : List ℕ) (in
     head = b.head;
     following = [];
     whole = sym (append-nil b.head);
-    place = b.place;
+    offset = b.offset;
     encoded = b.encoded;
     key = b.key;
     form = b.form;

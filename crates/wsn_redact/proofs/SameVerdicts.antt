@@ -84,4 +84,4 @@ module _ (role : Role) (limits : Limits) where
         cut_stays role limits bytes redacted fs is.0 r,
         is.1 ∙ (λ i. counted fs (sym size i) 0) ∙ sym (counts_stay fs is.0.lawful (length redacted) 0),
       )
-  verdict_stays bytes redacted fs (Refused q) in_bytes is r = refused_stays role limits bytes redacted fs q.place q.reason in_bytes is r
+  verdict_stays bytes redacted fs (Refused q) in_bytes is r = refused_stays role limits bytes redacted fs q.offset q.reason in_bytes is r

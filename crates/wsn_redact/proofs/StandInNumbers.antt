@@ -4,7 +4,7 @@ use Rattle.std.specs.Prelude.{◌==◌}
 use Rattle.std.proofs.lemmas.Bool.{and_parts, cases_lt}
 use Rattle.std.proofs.lemmas.Grind.{common_steps}
 use lib.Lanes.{number_l}
-use Rattle.wsn_redact.specs.declared.due.TheConstants.{STAND_INS}
+use Rattle.wsn_redact.specs.declared.stand_ins.TheConstants.{STAND_INS}
 use Rattle.wsn_print.specs.EscapedText.{is_from}
 use Rattle.wsn_redact.specs.StandIns.{single_stand_in, stand_in, due_at}
 use Rattle.wsn_redact.specs.Dues.{bytes_in}

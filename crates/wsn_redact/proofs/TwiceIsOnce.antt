@@ -126,16 +126,16 @@ module _ (role : Role) (limits : Limits) where
   }
   divided bytes fs gs rest redacted (Refused q) is streams size whole =
       let e = is.is_evident in
-      let at = e.at_place in
+      let at = e.at_offset in
       let total = ap (λ (bs : List ℕ). length bs) e.whole in
-      let within : q.place + 1 ≤ length bytes = omega (arith, at, total, length-append (stream fs) (e.seen ++ e.later), length-append e.seen e.later) in
+      let within : q.offset + 1 ≤ length bytes = omega (arith, at, total, length-append (stream fs) (e.seen ++ e.later), length-append e.seen e.later) in
       let front = stream gs ++ rest in
-      let later = zeros_for (drop (q.place + 1) bytes) in
-      let count : length front ≡ q.place + 1 = omega (arith, at, size, streams, within, length-append (stream gs) rest, length-drop (length (stream fs)) (take (q.place + 1) bytes), length-take-le (q.place + 1) bytes within) in
+      let later = zeros_for (drop (q.offset + 1) bytes) in
+      let count : length front ≡ q.offset + 1 = omega (arith, at, size, streams, within, length-append (stream gs) rest, length-drop (length (stream fs)) (take (q.offset + 1) bytes), length-take-le (q.offset + 1) bytes within) in
       let all : redacted ≡ front ++ later = whole ∙ sym (append_assoc (stream gs) rest later) in
       record {
-        rest_is = ap (λ (bs : List ℕ). drop (length (stream gs)) (take (q.place + 1) bs)) all ∙ ap (λ (bs : List ℕ). drop (length (stream gs)) bs) (take_at front later (q.place + 1) count) ∙ drop_at (stream gs) rest (length (stream gs)) refl;
-        later_is = ap (λ (bs : List ℕ). drop (q.place + 1) bs) all ∙ drop_at front later (q.place + 1) count;
+        rest_is = ap (λ (bs : List ℕ). drop (length (stream gs)) (take (q.offset + 1) bs)) all ∙ ap (λ (bs : List ℕ). drop (length (stream gs)) bs) (take_at front later (q.offset + 1) count) ∙ drop_at (stream gs) rest (length (stream gs)) refl;
+        later_is = ap (λ (bs : List ℕ). drop (q.offset + 1) bs) all ∙ drop_at front later (q.offset + 1) count;
       }
 
   pub redaction_twice : (bytes redacted : List ℕ) → IsBytes bytes → IsRedaction role limits bytes redacted → IsRedaction role limits redacted redacted

@@ -27,16 +27,16 @@ AreAlikeBadCharacters c d = ⊥
 -- the same heads; the same refusals, with as many bytes of evidence and bad characters that are alike; as many bytes that
 -- are left over.
 abbrev pub AreAlikeItems : Item → Item → Type 0
-AreAlikeItems (Event offset event frames) (Event place other count) =
-    (offset ≡ place) × AreAlikeEvents event other × (frames ≡ count)
+AreAlikeItems (Event offset event frames) (Event other_offset other count) =
+    (offset ≡ other_offset) × AreAlikeEvents event other × (frames ≡ count)
 AreAlikeItems (Head info) (Head other) = info ≡ other
-AreAlikeItems (Unfinished offset event frames lacks) (Unfinished place other count other_lacks) =
-    (offset ≡ place) × AreAlikeEvents event other × (frames ≡ count) × (lacks ≡ other_lacks)
-AreAlikeItems (UnfinishedHead offset) (UnfinishedHead place) = offset ≡ place
-AreAlikeItems (RefusedFrame offset refusal evidence bad) (RefusedFrame place other other_evidence other_bad) =
-    (offset ≡ place) × (refusal ≡ other) × (length evidence ≡ length other_evidence) × AreAlikeBadCharacters bad other_bad
-AreAlikeItems (Unread offset bytes) (Unread place others) = (offset ≡ place) × (length bytes ≡ length others)
-AreAlikeItems (Tail offset bytes) (Tail place others) = (offset ≡ place) × (length bytes ≡ length others)
+AreAlikeItems (Unfinished offset event frames lacks) (Unfinished other_offset other count other_lacks) =
+    (offset ≡ other_offset) × AreAlikeEvents event other × (frames ≡ count) × (lacks ≡ other_lacks)
+AreAlikeItems (UnfinishedHead offset) (UnfinishedHead other_offset) = offset ≡ other_offset
+AreAlikeItems (RefusedFrame offset refusal evidence bad) (RefusedFrame other_offset other other_evidence other_bad) =
+    (offset ≡ other_offset) × (refusal ≡ other) × (length evidence ≡ length other_evidence) × AreAlikeBadCharacters bad other_bad
+AreAlikeItems (Unread offset bytes) (Unread other_offset others) = (offset ≡ other_offset) × (length bytes ≡ length others)
+AreAlikeItems (Tail offset bytes) (Tail other_offset others) = (offset ≡ other_offset) × (length bytes ≡ length others)
 AreAlikeItems item other = ⊥
 
 -- In pairs, items that are alike.

@@ -189,7 +189,7 @@ pub record HasRefused (role : Role) (limits : Limits) (scan : Scan) (came writte
   pub later : List ℕ
   pub came_is : came ≡ seen ++ later
   pub has_scanned : HasScanned role limits scan seen frames rest position
-  pub refused : (more : List ℕ) → IsRefused role limits (seen ++ more) frames refusal.place refusal.reason
+  pub refused : (more : List ℕ) → IsRefused role limits (seen ++ more) frames refusal.offset refusal.reason
   pub seen_written : List ℕ
   pub written_is : written ≡ seen_written ++ zeros_for later
   pub is_redaction : (more : List ℕ) →

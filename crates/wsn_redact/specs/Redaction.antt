@@ -88,7 +88,7 @@ IsRedactedRest role limits fs rest redacted =
 
 -- The bytes after the offending byte; none without a refusal.
 abbrev pub unjudged : Verdict → List ℕ → List ℕ
-unjudged (Refused refusal) bytes = drop (refusal.place + 1) bytes
+unjudged (Refused refusal) bytes = drop (refusal.offset + 1) bytes
 unjudged verdict bytes = []
 
 -- The redaction of a stream with this verdict, whose lawful frames are fs: the frames redacted, what follows them up to

@@ -26,7 +26,7 @@ pub fn of_alike_streams()
     ensures refused { AreAlikeStreams Server greatest (0xc1 ∷ 0x01 ∷ 0x41 ∷ []) (0xc1 ∷ 0x7f ∷ 0x00 ∷ []) }
 {}
 
-/// Streams that a redaction tells apart.
+/// Streams that aren't alike: a redaction leaves their difference.
 pub fn of_streams_that_differ()
     // "ab" and "a1"
     ensures digit { ¬ (AreAlikeStreams Server greatest (0x81 ∷ 0x02 ∷ 0x61 ∷ 0x62 ∷ []) (0x81 ∷ 0x02 ∷ 0x61 ∷ 0x31 ∷ [])) }

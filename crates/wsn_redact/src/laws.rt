@@ -77,9 +77,9 @@ pub fn law_text_stays()
 /// The redaction of a refused stream is refused at the same offset for the same reason, and its frames have the same
 /// heads.
 pub fn law_stays_refused()
-    ensures { (role : Role) (limits : Limits) (bytes redacted : List ℕ) (fs : List Frame) (place : ℕ) (reason : Reason) →
-        IsBytes bytes → IsRefused role limits bytes fs place reason → IsRedaction role limits bytes redacted →
-        (gs : List Frame) × IsRefused role limits redacted gs place reason × (heads_of gs ≡ heads_of fs) }
+    ensures { (role : Role) (limits : Limits) (bytes redacted : List ℕ) (fs : List Frame) (offset : ℕ) (reason : Reason) →
+        IsBytes bytes → IsRefused role limits bytes fs offset reason → IsRedaction role limits bytes redacted →
+        (gs : List Frame) × IsRefused role limits redacted gs offset reason × (heads_of gs ≡ heads_of fs) }
 {}
 
 /// The redaction of a cut stream is cut, and its frames have the same heads.

@@ -16,13 +16,13 @@ pub mod capture_examples;
 pub mod capture_laws;
 mod capture_redacting;
 mod capture_redactor;
-mod due;
 pub mod examples;
 mod extension_names;
 pub mod laws;
 mod redacted_line;
 mod redacting;
 mod redactor;
+mod stand_ins;
 
 pub use capture_redacting::{RedactStop, redact_capture};
 pub use capture_redactor::CaptureRedactor;

@@ -1,7 +1,7 @@
 ghost use Rattle.std.specs.Prelude.{◌≡◌, ℕ, ◌-◌, ◌≤◌, ◌⊎◌, ◌↔◌, List, [], ◌∷◌, ◌++◌, true, false};
 ghost use Rattle.wsn_redact.specs.StandIns.{single_stand_in};
 
-use crate::due::{Due, single};
+use crate::stand_ins::{Due, single};
 use wsn_frame::unmask;
 use wsn_scan::Part;
 use wsn_text::Utf8;

@@ -188,7 +188,7 @@ module _ (role : Role) (limits : Limits) where
       absurd (bad_ends (front ++ unmasked second key []) bad.0 bad.2 (subst BeginsText (sym none) begins))
   wire_some front second key (b ∷ wire) begins bad = omega arith
 
-  module _ (bytes : List ℕ) (fs : List Frame) (place : ℕ) (in_bytes : IsBytes bytes) (refused : IsRefused role limits bytes fs place TextBad) where
+  module _ (bytes : List ℕ) (fs : List Frame) (offset : ℕ) (in_bytes : IsBytes bytes) (refused : IsRefused role limits bytes fs offset TextBad) where
     abbrev seen : List ℕ
     seen = refused.is_evident.seen
 
@@ -213,14 +213,14 @@ module _ (role : Role) (limits : Limits) where
     no_evidence : (front after : List ℕ) (reason : Reason) → refused.is_evident.seen ≡ front ++ after → 0 < length after → Evidence role limits (unfinished fs) reason front → ⊥
     no_evidence front after reason is before evidence =
         let size : length seen ≡ length front + length after = ap (λ (bs : List ℕ). length bs) is ∙ length-append front after in
-        let stops = refused.is_evident.at_place in
+        let stops = refused.is_evident.at_offset in
         let begun = evidence_is_some role limits group reason front evidence in
         let at = (length (stream fs) + length front) - 1 in
         let first = refused.least at reason (record {
           seen = front;
           later = after ++ later;
           whole = refused.is_evident.whole ∙ ap (λ (bs : List ℕ). stream fs ++ bs) (ap (λ (bs : List ℕ). bs ++ later) is ∙ append_assoc front after later);
-          at_place = omega (arith, begun);
+          at_offset = omega (arith, begun);
           evidence = evidence;
         }) in
         elim first [
@@ -269,11 +269,11 @@ module _ (role : Role) (limits : Limits) where
         not_control info.op (omega (arith, same, few))
 
     -- The payload ends with the offending byte.
-    end_is : (info : HeadInfo) (b : BeginsWithHead role limits fs refused.is_evident.seen info) → payload_offset info + length (wire_payload info.key b.following) ≡ place + 1
+    end_is : (info : HeadInfo) (b : BeginsWithHead role limits fs refused.is_evident.seen info) → payload_offset info + length (wire_payload info.key b.following) ≡ offset + 1
     end_is info b =
         let front = head_bytes info.fin info.op info.key info.form info.len in
-        let at = b.place in
-        let stops = refused.is_evident.at_place in
+        let at = b.offset in
+        let stops = refused.is_evident.at_offset in
         let size : length seen ≡ length front + length b.following = ap (λ (bs : List ℕ). length bs) (b.whole ∙ ap (λ (bs : List ℕ). bs ++ b.following) b.encoded) ∙ length-append front b.following in
         let part = length-wire_payload info.key b.following in
         omega (arith, at, stops, size, part)
@@ -283,19 +283,19 @@ module _ (role : Role) (limits : Limits) where
       pub is : character ≡ Some of
       pub wrong : GoesWrongWith (payload_of (unfinished fs) ++ evidence) of
       pub ends : IsEarlierEnd (payload_of (unfinished fs)) of.earlier
-      pub offset : length of.bytes ≤ length evidence → of.offset + length of.bytes ≡ place + 1
+      pub end_is : length of.bytes ≤ length evidence → of.offset + length of.bytes ≡ offset + 1
       pub earlier : length evidence < length of.bytes → IsPayloadByte fs of.in_payload of.offset
 
-    pub has_character : (evidence : List ℕ) (character : Option BadCharacter) → IsShownEvidence role limits fs TextBad (drop (length (stream fs)) (take (place + 1) bytes)) evidence character → HasCharacter evidence character
+    pub has_character : (evidence : List ℕ) (character : Option BadCharacter) → IsShownEvidence role limits fs TextBad (drop (length (stream fs)) (take (offset + 1) bytes)) evidence character → HasCharacter evidence character
     has_character evidence character is = by (subst (λ (bs : List ℕ). IsShownEvidence role limits fs TextBad bs evidence character) seen_is is)
       where
-        seen_is : drop (length (stream fs)) (take (place + 1) bytes) ≡ seen
+        seen_is : drop (length (stream fs)) (take (offset + 1) bytes) ≡ seen
         seen_is =
             let n = length (stream fs) in
-            let stops = refused.is_evident.at_place in
+            let stops = refused.is_evident.at_offset in
             let grouped : bytes ≡ (stream fs ++ seen) ++ later = refused.is_evident.whole ∙ sym (append_assoc (stream fs) seen later) in
-            let to_seen : length (stream fs ++ seen) ≡ place + 1 = length-append (stream fs) seen ∙ sym stops in
-            ap (λ (bs : List ℕ). drop n (take (place + 1) bs)) grouped ∙ ap (λ (bs : List ℕ). drop n bs) (take_at (stream fs ++ seen) later (place + 1) to_seen) ∙ drop_at (stream fs) seen n refl
+            let to_seen : length (stream fs ++ seen) ≡ offset + 1 = length-append (stream fs) seen ∙ sym stops in
+            ap (λ (bs : List ℕ). drop n (take (offset + 1) bs)) grouped ∙ ap (λ (bs : List ℕ). drop n bs) (take_at (stream fs ++ seen) later (offset + 1) to_seen) ∙ drop_at (stream fs) seen n refl
 
         by : IsShownEvidence role limits fs TextBad refused.is_evident.seen evidence character → HasCharacter evidence character
         by (inr p) = absurd (follows head.0 head.1 (p.0 head.0 head.1))
@@ -303,13 +303,13 @@ module _ (role : Role) (limits : Limits) where
             let payload = message_payload fs info evidence in
             let bad : EndsBad (payload_of (unfinished fs) ++ evidence) = subst (λ (bs : List ℕ). EndsBad (payload_of (unfinished fs) ++ bs)) (sym part) (ends_bad info b) in
             let wrong = goes_wrong (earlier_end fs) payload (payload_of (unfinished fs) ++ evidence) (payload_so_far fs info evidence) bad in
-            let end : payload_offset info + length evidence ≡ place + 1 = ap (λ (bs : List ℕ). payload_offset info + length bs) part ∙ end_is info b in
+            let end : payload_offset info + length evidence ≡ offset + 1 = ap (λ (bs : List ℕ). payload_offset info + length bs) part ∙ end_is info b in
             record {
               of = bad_character (earlier_end fs) payload;
               is = is_character;
               wrong = wrong;
               ends = end_of_earlier (payload_of (unfinished fs));
-              offset = λ fits. offset_is fs info evidence wrong fits ∙ end;
+              end_is = λ fits. offset_is fs info evidence wrong fits ∙ end;
               earlier = earlier_is fs info evidence wrong;
             }
 
@@ -320,33 +320,33 @@ shown_last n items item = map-append (λ (i : Item). record { after = n; item = 
 
 module _ (detail : Detail) (role : Role) (limits : Limits) (bytes : List ℕ) (fs : List Frame) (refusal : Refusal) (shown : List Shown) (is : IsShownRefusal detail role limits bytes fs refusal shown) where
   last_is : (character : Option BadCharacter) → is.character ≡ character
-      → shown ≡ shown_after (refusal.place + 1) (interrupted detail fs) ++ record { after = refusal.place + 1; item = RefusedFrame (length (stream fs)) refusal is.evidence character } ∷ []
+      → shown ≡ shown_after (refusal.offset + 1) (interrupted detail fs) ++ record { after = refusal.offset + 1; item = RefusedFrame (length (stream fs)) refusal is.evidence character } ∷ []
   last_is character same =
-      let n = refusal.place + 1 in
+      let n = refusal.offset + 1 in
       let item : Option BadCharacter → Item = λ of. RefusedFrame (length (stream fs)) refusal is.evidence of in
       is.is ∙ shown_last n (interrupted detail fs) (item is.character)
-      ∙ ap (λ (of : Option BadCharacter). shown_after (refusal.place + 1) (interrupted detail fs) ++ record { after = refusal.place + 1; item = RefusedFrame (length (stream fs)) refusal is.evidence of } ∷ []) same
+      ∙ ap (λ (of : Option BadCharacter). shown_after (refusal.offset + 1) (interrupted detail fs) ++ record { after = refusal.offset + 1; item = RefusedFrame (length (stream fs)) refusal is.evidence of } ∷ []) same
 
-  pub text_bad_shown : IsBytes bytes → IsRefused role limits bytes fs refusal.place refusal.reason → refusal.reason ≡ TextBad → (earlier : List Shown) × (evidence : List ℕ) × (character : BadCharacter)
-      × (shown ≡ earlier ++ record { after = refusal.place + 1; item = RefusedFrame (length (stream fs)) refusal evidence (Some character) } ∷ [])
+  pub text_bad_shown : IsBytes bytes → IsRefused role limits bytes fs refusal.offset refusal.reason → refusal.reason ≡ TextBad → (earlier : List Shown) × (evidence : List ℕ) × (character : BadCharacter)
+      × (shown ≡ earlier ++ record { after = refusal.offset + 1; item = RefusedFrame (length (stream fs)) refusal evidence (Some character) } ∷ [])
       × GoesWrongWith (payload_of (unfinished fs) ++ evidence) character × IsEarlierEnd (payload_of (unfinished fs)) character.earlier
-      × (length character.bytes ≤ length evidence → character.offset + length character.bytes ≡ refusal.place + 1)
+      × (length character.bytes ≤ length evidence → character.offset + length character.bytes ≡ refusal.offset + 1)
       × (length evidence < length character.bytes → IsPayloadByte fs character.in_payload character.offset)
   text_bad_shown in_bytes refused reason =
-      let seen = drop (length (stream fs)) (take (refusal.place + 1) bytes) in
-      let bad = subst (λ (r : Reason). IsRefused role limits bytes fs refusal.place r) reason refused in
-      let c = has_character role limits bytes fs refusal.place in_bytes bad is.evidence is.character
+      let seen = drop (length (stream fs)) (take (refusal.offset + 1) bytes) in
+      let bad = subst (λ (r : Reason). IsRefused role limits bytes fs refusal.offset r) reason refused in
+      let c = has_character role limits bytes fs refusal.offset in_bytes bad is.evidence is.character
       (subst (λ (r : Reason). IsShownEvidence role limits fs r seen is.evidence is.character) reason is.is_evidence) in
-      (shown_after (refusal.place + 1) (interrupted detail fs), is.evidence, c.of, last_is (Some c.of) c.is, c.wrong, c.ends, c.offset, c.earlier)
+      (shown_after (refusal.offset + 1) (interrupted detail fs), is.evidence, c.of, last_is (Some c.of) c.is, c.wrong, c.ends, c.end_is, c.earlier)
 
   pub other_shown : ¬ (refusal.reason ≡ TextBad) → (earlier : List Shown) × (evidence : List ℕ)
-      × (shown ≡ earlier ++ record { after = refusal.place + 1; item = RefusedFrame (length (stream fs)) refusal evidence None } ∷ [])
-  other_shown other = (shown_after (refusal.place + 1) (interrupted detail fs), is.evidence, last_is None (by is.is_evidence))
+      × (shown ≡ earlier ++ record { after = refusal.offset + 1; item = RefusedFrame (length (stream fs)) refusal evidence None } ∷ [])
+  other_shown other = (shown_after (refusal.offset + 1) (interrupted detail fs), is.evidence, last_is None (by is.is_evidence))
     where
       none : (reason : Reason) (info : HeadInfo) (part : List ℕ) → ¬ (reason ≡ TextBad) → character_of reason fs info part ≡ None
       none TextBad info part other = absurd (other refl)
       none _ info part other = refl
 
-      by : IsShownEvidence role limits fs refusal.reason (drop (length (stream fs)) (take (refusal.place + 1) bytes)) is.evidence is.character → is.character ≡ None
+      by : IsShownEvidence role limits fs refusal.reason (drop (length (stream fs)) (take (refusal.offset + 1) bytes)) is.evidence is.character → is.character ≡ None
       by (inl (info, b, p, part, is_character)) = is_character ∙ none refusal.reason info is.evidence other
       by (inr p) = p.2

@@ -20,8 +20,8 @@ use Rattle.wsn_rules.specs.Evidence.Evidence.{ByFirst, BySecond, ByLength, ByPay
 use Rattle.wsn_rules.specs.Group.{unfinished}
 use Rattle.wsn_rules.specs.Heads.{BeginsWithHead, info_of}
 use Rattle.wsn_rules.specs.Verdict.{ComesFirst, EndsWithinFrame, IsCut, IsEvidentAt, IsRefused}
-use Rattle.wsn_rules.specs.ShownPlaces.{begun_bytes}
-use Rattle.wsn_rules.specs.ShownPlaces.{IsEncodableHead, IsPartOfHead, HasBegun, AreOfOneFrame, IsEvidenceIn}
+use Rattle.wsn_rules.specs.ShownOffsets.{begun_bytes}
+use Rattle.wsn_rules.specs.ShownOffsets.{IsEncodableHead, IsPartOfHead, HasBegun, AreOfOneFrame, IsEvidenceIn}
 use Rattle.wsn_rules.specs.BadCharacter.{BadCharacter}
 use Rattle.wsn_rules.specs.ShownStream.{IsShownEvidence}
 use Rattle.wsn_rules.proofs.Prefixes.{two_fronts}
@@ -147,13 +147,13 @@ module _ (role : Role) (limits : Limits) where
   -- The bytes begin with a whole head, which is evidence for no refusal if all evidence comes after it.
   pub begins_with : (bytes : List ℕ) (fs : List Frame) (rest later : List ℕ) → bytes ≡ stream fs ++ (rest ++ later) → (info : HeadInfo) (following : List ℕ) → IsEncodableHead info → rest ≡ begun_bytes info following
       → ((p : ℕ) (r : Reason) → IsEvidentAt role limits bytes fs p r → length (stream fs) + length (head_bytes info.fin info.op info.key info.form info.len) ≤ p)
-      → (begun : BeginsWithHead role limits fs rest (record info { place = length (stream fs) })) × (begun.following ≡ following)
+      → (begun : BeginsWithHead role limits fs rest (record info { offset = length (stream fs) })) × (begun.following ≡ following)
   begins_with bytes fs rest later whole info following is rest_is quiet = (
     record {
       head = head_bytes info.fin info.op info.key info.form info.len;
       following = following;
       whole = rest_is;
-      place = refl;
+      offset = refl;
       encoded = refl;
       key = is.key;
       form = is.form;
@@ -166,18 +166,18 @@ module _ (role : Role) (limits : Limits) where
       none : (seen after : List ℕ) (reason : Reason) → head_bytes info.fin info.op info.key info.form info.len ≡ seen ++ after → Evidence role limits (unfinished fs) reason seen → ⊥
       none seen after reason head_is evidence =
           let some = evidence_is_some role limits (unfinished fs) reason seen evidence in
-          let place = (length (stream fs) + length seen) - 1 in
+          let offset = (length (stream fs) + length seen) - 1 in
           let all : bytes ≡ stream fs ++ (seen ++ (after ++ (following ++ later))) =
           whole ∙ ap (λ (bs : List ℕ). stream fs ++ bs)
           (ap (λ (bs : List ℕ). bs ++ later) (rest_is ∙ ap (λ (bs : List ℕ). bs ++ following) head_is) ∙ append_assoc (seen ++ after) following later ∙ append_assoc seen after (following ++ later)) in
-          let is_evident : IsEvidentAt role limits bytes fs place reason = record {
+          let is_evident : IsEvidentAt role limits bytes fs offset reason = record {
             seen = seen;
             later = after ++ (following ++ later);
             whole = all;
-            at_place = omega (arith, some);
+            at_offset = omega (arith, some);
             evidence = evidence;
           } in
-          let past = quiet place reason is_evident in
+          let past = quiet offset reason is_evident in
           let size : length (head_bytes info.fin info.op info.key info.form info.len) ≡ length seen + length after = ap (λ (bs : List ℕ). length bs) head_is ∙ length-append seen after in
           omega (arith, past, size, some)
 
@@ -221,7 +221,7 @@ module _ (role : Role) (limits : Limits) where
           seen = seen;
           later = later;
           whole = c.whole ∙ ap (λ (bs : List ℕ). stream fs ++ bs) is;
-          at_place = omega (arith, some);
+          at_offset = omega (arith, some);
           evidence = evidence;
         })
 
@@ -317,7 +317,7 @@ module _ (role : Role) (limits : Limits) where
 
   -- ---- the evidence of a refused frame
 
-  pub shown_evidence : (bytes : List ℕ) (fs : List Frame) (refusal : Refusal) (refused : IsRefused role limits bytes fs refusal.place refusal.reason) (evidence : List ℕ) (character : Option BadCharacter) → IsShownEvidence role limits fs refusal.reason refused.is_evident.seen evidence character
+  pub shown_evidence : (bytes : List ℕ) (fs : List Frame) (refusal : Refusal) (refused : IsRefused role limits bytes fs refusal.offset refusal.reason) (evidence : List ℕ) (character : Option BadCharacter) → IsShownEvidence role limits fs refusal.reason refused.is_evident.seen evidence character
       → IsEvidenceIn refused.is_evident.seen evidence
   shown_evidence bytes fs refusal refused evidence character (inl p) =
       inl (p.0, p.1.following, encodable_begun fs refused.is_evident.seen p.0 p.1, p.2, begun_is fs refused.is_evident.seen p.0 p.1, p.3)
@@ -328,15 +328,15 @@ module _ (role : Role) (limits : Limits) where
       none info (b ∷ following) is e =
           let head = head_bytes info.fin info.op info.key info.form info.len in
           let size : length refused.is_evident.seen ≡ length (head_bytes info.fin info.op info.key info.form info.len) + length (b ∷ following) = ap (λ (bs : List ℕ). length bs) e ∙ length-append head (b ∷ following) in
-          let stops = refused.is_evident.at_place in
+          let stops = refused.is_evident.at_offset in
           let quiet : (q : ℕ) (r : Reason) → IsEvidentAt role limits bytes fs q r → length (stream fs) + length (head_bytes info.fin info.op info.key info.form info.len) ≤ q =
           λ q r ev. past q r (refused.least q r ev) size stops in
           let begun = begins_with bytes fs refused.is_evident.seen refused.is_evident.later refused.is_evident.whole info (b ∷ following) is e quiet in
-          sym begun.1 ∙ p.0 (record info { place = length (stream fs) }) begun.0
+          sym begun.1 ∙ p.0 (record info { offset = length (stream fs) }) begun.0
         where
-          past : (q : ℕ) (r : Reason) → ComesFirst refusal.place refusal.reason q r
+          past : (q : ℕ) (r : Reason) → ComesFirst refusal.offset refusal.reason q r
               → length refused.is_evident.seen ≡ length (head_bytes info.fin info.op info.key info.form info.len) + length (b ∷ following)
-              → refusal.place + 1 ≡ length (stream fs) + length refused.is_evident.seen
+              → refusal.offset + 1 ≡ length (stream fs) + length refused.is_evident.seen
               → length (stream fs) + length (head_bytes info.fin info.op info.key info.form info.len) ≤ q
           past q r (inl later) size stops = omega (arith, later, size, stops)
           past q r (inr same) size stops = let here = same.0 in omega (arith, here, size, stops)

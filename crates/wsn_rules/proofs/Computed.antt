@@ -90,7 +90,7 @@ same_close_by_test (Some m) None test = absurd (false≢true test)
 same_close_by_test (Some m) (Some n) test = ap Some (same_option_by_test m n test)
 
 abbrev pub reports : ShortVerdict → Verdict → Bool
-reports (RefusedAt place reason) (Refused refusal) = (refusal.place == place) && (number_of refusal.reason == number_of reason)
+reports (RefusedAt offset reason) (Refused refusal) = (refusal.offset == offset) && (number_of refusal.reason == number_of reason)
 reports (CutAt used) (Cut summary) = summary.used == used
 reports (AcceptedTo used tail unfinished) (Accepted summary) = (summary.used == used) && ((summary.tail == tail) && same_option summary.unfinished unfinished)
 reports (Counts frames messages pings pongs close) (Accepted summary) =
@@ -98,16 +98,16 @@ reports (Counts frames messages pings pongs close) (Accepted summary) =
 reports short verdict = false
 
 reports_by_test : (short : ShortVerdict) (verdict : Verdict) → reports short verdict ≡ true → Abbreviates short verdict
-reports_by_test (RefusedAt place reason) (Refused refusal) test =
-    let parts = and_parts (refusal.place == place) (number_of refusal.reason == number_of reason) test in
-    (eqb-true refusal.place place parts.0, same_number refusal.reason reason (eqb-true (number_of refusal.reason) (number_of reason) parts.1))
+reports_by_test (RefusedAt offset reason) (Refused refusal) test =
+    let parts = and_parts (refusal.offset == offset) (number_of refusal.reason == number_of reason) test in
+    (eqb-true refusal.offset offset parts.0, same_number refusal.reason reason (eqb-true (number_of refusal.reason) (number_of reason) parts.1))
 reports_by_test (CutAt used) (Cut summary) test = eqb-true summary.used used test
 reports_by_test (AcceptedTo used tail unfinished) (Accepted summary) test =
     let parts = and_parts (summary.used == used) ((summary.tail == tail) && same_option summary.unfinished unfinished) test in
     let more = and_parts (summary.tail == tail) (same_option summary.unfinished unfinished) parts.1 in
     (eqb-true summary.used used parts.0, eqb-true summary.tail tail more.0, same_option_by_test summary.unfinished unfinished more.1)
-reports_by_test (RefusedAt place reason) (Cut summary) test = absurd (false≢true test)
-reports_by_test (RefusedAt place reason) (Accepted summary) test = absurd (false≢true test)
+reports_by_test (RefusedAt offset reason) (Cut summary) test = absurd (false≢true test)
+reports_by_test (RefusedAt offset reason) (Accepted summary) test = absurd (false≢true test)
 reports_by_test (CutAt used) (Refused refusal) test = absurd (false≢true test)
 reports_by_test (CutAt used) (Accepted summary) test = absurd (false≢true test)
 reports_by_test (AcceptedTo used tail unfinished) (Refused refusal) test = absurd (false≢true test)

@@ -33,7 +33,7 @@ module _ (role : Role) (limits : Limits) (range : InRange limits) (bytes : List 
   unfoldable pub refused : (fs : List Frame) (rest : List ℕ) (whole : bytes ≡ stream fs ++ rest) → IsLawful role limits fs → HasNoClose fs → LeastEvident role limits bytes fs rest whole → HasVerdict
   refused fs rest whole lawful none p = record {
     frames = fs;
-    verdict = Refused (record { place = p.place; reason = p.reason });
+    verdict = Refused (record { offset = p.offset; reason = p.reason });
     is = record { lawful = lawful; no_close = none; is_evident = p.is_evident; least = p.least };
   }
 
@@ -70,7 +70,7 @@ module _ (role : Role) (limits : Limits) (range : InRange limits) (bytes : List 
           seen = front.seen;
           later = front.later ++ following;
           whole = whole ∙ ap (λ (bs : List ℕ). stream fs ++ bs) (ap (λ (bs : List ℕ). bs ++ following) front.whole ∙ append_assoc front.seen front.later following);
-          at_place = placed (length (stream fs)) (length front.seen) some;
+          at_offset = placed (length (stream fs)) (length front.seen) some;
           evidence = front.evidence;
         },
       )

@@ -21,7 +21,7 @@ use Rattle.wsn_rules.specs.Group.{unfinished}
 use Rattle.wsn_rules.specs.Heads.{BeginsWithHead, IsBegun, info_of, heads_of}
 use Rattle.wsn_rules.specs.Verdict.{IsVerdict}
 use Rattle.wsn_rules.specs.BadCharacter.{BadCharacter, character_of}
-use Rattle.wsn_rules.specs.ShownPlaces.{IsEncodableHead}
+use Rattle.wsn_rules.specs.ShownOffsets.{IsEncodableHead}
 use Rattle.wsn_rules.specs.ShownStream.{Item, Shown, shown_after, shown_of, shown_head, AreShownFrames, interrupted, IsShownEvidence, IsShownVerdict, IsShownStream, items_of_bytes, items_of_part, items_of_head, IsLeftOf, IsLeftOver}
 use Rattle.wsn_rules.specs.ShownStream.Item.{RefusedFrame, Unread, Tail}
 use Rattle.wsn_rules.proofs.LawfulLists.{close_is_last}
@@ -133,7 +133,7 @@ module _ (role : Role) (limits : Limits) (fs : List Frame) where
               head = head;
               following = following;
               whole = ap (λ (bs : List ℕ). first ∷ second ∷ bs) (sym (append_assoc len key following));
-              place = refl;
+              offset = refl;
               encoded = sym same;
               key = of.key;
               form = of.form;
@@ -178,7 +178,7 @@ module _ (role : Role) (limits : Limits) (range : InRange limits) where
         | inl p ↦ (items_of_part fs p.0 (wire_payload p.0.key p.1.following), inl (p.0, p.1, refl))
         | inr none ↦ (items_of_head fs rest, inr (none, refl))
       ]
-  some_left_of bytes fs (Refused refusal) all = (items_of_bytes Unread (refusal.place + 1) (drop (refusal.place + 1) bytes), refl)
+  some_left_of bytes fs (Refused refusal) all = (items_of_bytes Unread (refusal.offset + 1) (drop (refusal.offset + 1) bytes), refl)
 
   pub some_left : (bytes : List ℕ) → IsBytes bytes → (items : List Item) × IsLeftOver role limits bytes items
   some_left bytes all =
@@ -222,9 +222,9 @@ module _ (role : Role) (limits : Limits) (range : InRange limits) where
   some_of_verdict detail bytes fs (Accepted summary) all = ([], refl)
   some_of_verdict detail bytes fs (Cut summary) all = ([], refl)
   some_of_verdict detail bytes fs (Refused refusal) all =
-      let seen = drop (length (stream fs)) (take (refusal.place + 1) bytes) in
-      let evidence = some_evidence fs refusal.reason seen (bytes_drop (length (stream fs)) (take (refusal.place + 1) bytes) (bytes_take (refusal.place + 1) bytes all)) in (
-        shown_after (refusal.place + 1) (interrupted detail fs ++ RefusedFrame (length (stream fs)) refusal evidence.0 evidence.1 ∷ []),
+      let seen = drop (length (stream fs)) (take (refusal.offset + 1) bytes) in
+      let evidence = some_evidence fs refusal.reason seen (bytes_drop (length (stream fs)) (take (refusal.offset + 1) bytes) (bytes_take (refusal.offset + 1) bytes all)) in (
+        shown_after (refusal.offset + 1) (interrupted detail fs ++ RefusedFrame (length (stream fs)) refusal evidence.0 evidence.1 ∷ []),
         record { evidence = evidence.0; character = evidence.1; is_evidence = evidence.2; is = refl },
       )
 

@@ -3,7 +3,7 @@ use Rattle.std.proofs.Common.{◌≡◌, ℕ, ◌≤◌, Option, None, Some, Lis
 use Rattle.std.specs.List.{AllByRecursion}
 use Rattle.std.proofs.lemmas.Bool.{cases_lt, cases_eq}
 use Rattle.wsn_rules.specs.Entries.{without_cr}
-use Rattle.wsn_rules.specs.ShownCapture.{IsDigit, IsSeconds, GivesTime, GivesNoTime, IsNoTime, IsTimeAfter}
+use Rattle.wsn_rules.specs.ShownCapture.{IsDigit, IsWholePart, IsFractionalPart, IsSeconds, GivesTime, GivesNoTime, IsNoTime, IsTimeAfter}
 use Rattle.wsn_rules.proofs.Prefixes.{head_same, tail_same}
 use Rattle.wsn_rules.proofs.Outcomes.{Decided, both}
 
@@ -33,20 +33,18 @@ has_no_leading_zero (b ∷ d ∷ bs) =
       | inr other ↦ inl (λ digit following is. other (head_same b 48 (d ∷ bs) (digit ∷ following) is))
     ]
 
--- The two parts of seconds.
-record AreParts (whole fraction : List ℕ) : Type 0 where
-  pub whole_digits : AllByRecursion IsDigit whole
-  pub fraction_digits : AllByRecursion IsDigit fraction
-  pub some : 1 ≤ length whole
-  pub some_more : 1 ≤ length fraction
-  pub few : length fraction ≤ 9
-  pub no_leading_zero : HasNoLeadingZero whole
+whole_part : (whole : List ℕ) → Decided (IsWholePart whole)
+whole_part whole =
+    elim (both (are_digits whole) (both (at_most 1 (length whole)) (has_no_leading_zero whole))) [
+      | inl p ↦ inl (record { digits = p.0; some = p.1.0; no_leading_zero = p.1.1 })
+      | inr none ↦ inr (λ a. none (a.digits, (a.some, a.no_leading_zero)))
+    ]
 
-are_parts : (whole fraction : List ℕ) → Decided (AreParts whole fraction)
-are_parts whole fraction =
-    elim (both (both (are_digits whole) (are_digits fraction)) (both (both (at_most 1 (length whole)) (at_most 1 (length fraction))) (both (at_most (length fraction) 9) (has_no_leading_zero whole)))) [
-      | inl p ↦ inl (record { whole_digits = p.0.0; fraction_digits = p.0.1; some = p.1.0.0; some_more = p.1.0.1; few = p.1.1.0; no_leading_zero = p.1.1.1 })
-      | inr none ↦ inr (λ a. none ((a.whole_digits, a.fraction_digits), ((a.some, a.some_more), (a.few, a.no_leading_zero))))
+fractional_part : (fraction : List ℕ) → Decided (IsFractionalPart fraction)
+fractional_part fraction =
+    elim (both (are_digits fraction) (both (at_most 1 (length fraction)) (at_most (length fraction) 9))) [
+      | inl p ↦ inl (record { digits = p.0; some = p.1.0; few = p.1.1 })
+      | inr none ↦ inr (λ a. none (a.digits, (a.some, a.few)))
     ]
 
 -- ---- the point
@@ -98,22 +96,17 @@ is_seconds : (text : List ℕ) → Decided (IsSeconds text)
 is_seconds text =
     elim (at_point text) [
       | inr none ↦ inr (λ s. point_there s.whole s.fraction (subst HaveNoPoint (parts_are text s) none))
-      | inl p ↦ elim (are_parts p.whole p.fraction) [
+      | inl p ↦ elim (both (whole_part p.whole) (fractional_part p.fraction)) [
         | inl parts ↦ inl (record {
           whole = p.whole;
           fraction = p.fraction;
           is = p.is ∙ sym (append_assoc p.whole (46 ∷ []) p.fraction);
-          whole_digits = parts.whole_digits;
-          fraction_digits = parts.fraction_digits;
-          some = parts.some;
-          some_more = parts.some_more;
-          few = parts.few;
-          no_leading_zero = parts.no_leading_zero;
+          whole_is = parts.0;
+          fraction_is = parts.1;
         })
         | inr none ↦ inr (λ s.
-            let same = one_point s.whole p.whole s.fraction p.fraction (sym (parts_are text s) ∙ p.is) (no_point_in_digits s.whole s.whole_digits) p.first in
-            let parts : AreParts s.whole s.fraction = record { whole_digits = s.whole_digits; fraction_digits = s.fraction_digits; some = s.some; some_more = s.some_more; few = s.few; no_leading_zero = s.no_leading_zero } in
-            none (subst (λ (bs : List ℕ). AreParts p.whole bs) same.1 (subst (λ (bs : List ℕ). AreParts bs s.fraction) same.0 parts)))
+            let same = one_point s.whole p.whole s.fraction p.fraction (sym (parts_are text s) ∙ p.is) (no_point_in_digits s.whole s.whole_is.digits) p.first in
+            none (subst IsWholePart same.0 s.whole_is, subst IsFractionalPart same.1 s.fraction_is))
       ]
     ]
 

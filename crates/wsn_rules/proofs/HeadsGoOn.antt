@@ -27,7 +27,7 @@ end_of info = (shown_head info).after
 two_more : (a b : ℕ) (xs : List ℕ) → length (a ∷ b ∷ xs) ≡ 2 + length xs
 two_more a b xs = omega arith
 
-head_some : (info : HeadInfo) → info.place < end_of info
+head_some : (info : HeadInfo) → info.offset < end_of info
 head_some info =
     let field = len_form_of info.form info.len in
     let size = two_more (first_byte info.fin info.op) (second_byte info.key field) (length_bytes field info.len ++ key_bytes info.key) in
@@ -46,7 +46,7 @@ begins_longer role limits fs rest later info b = record {
   head = b.head;
   following = b.following ++ later;
   whole = ap (λ (bs : List ℕ). bs ++ later) b.whole ∙ append_assoc b.head b.following later;
-  place = b.place;
+  offset = b.offset;
   encoded = b.encoded;
   key = b.key;
   form = b.form;
@@ -56,27 +56,27 @@ begins_longer role limits fs rest later info b = record {
 
 -- ---- the heads of frames
 
-heads_from-append : (place : ℕ) (fs gs : List Frame) (next : ℕ) → place + length (stream fs) ≡ next → heads_from place (fs ++ gs) ≡ heads_from place fs ++ heads_from next gs
-heads_from-append place [] gs next is = let same : place ≡ next = omega (arith, is) in ap (λ (n : ℕ). heads_from n gs) same
-heads_from-append place (f ∷ fs) gs next is =
+heads_from-append : (offset : ℕ) (fs gs : List Frame) (next : ℕ) → offset + length (stream fs) ≡ next → heads_from offset (fs ++ gs) ≡ heads_from offset fs ++ heads_from next gs
+heads_from-append offset [] gs next is = let same : offset ≡ next = omega (arith, is) in ap (λ (n : ℕ). heads_from n gs) same
+heads_from-append offset (f ∷ fs) gs next is =
     let size : length (stream (f ∷ fs)) ≡ length (frame_bytes f) + length (stream fs) = length-append (frame_bytes f) (stream fs) in
-    ap (λ (heads : List HeadInfo). info_of place f ∷ heads) (heads_from-append (place + length (frame_bytes f)) fs gs next (omega (arith, is, size)))
+    ap (λ (heads : List HeadInfo). info_of offset f ∷ heads) (heads_from-append (offset + length (frame_bytes f)) fs gs next (omega (arith, is, size)))
 
 -- They are whole with the frames' bytes.
-heads_within : (place : ℕ) (fs : List Frame) (n : ℕ) → place + length (stream fs) ≤ n → AllByRecursion (λ (info : HeadInfo). end_of info ≤ n) (heads_from place fs)
-heads_within place [] n within = tt
-heads_within place (f ∷ fs) n within =
+heads_within : (offset : ℕ) (fs : List Frame) (n : ℕ) → offset + length (stream fs) ≤ n → AllByRecursion (λ (info : HeadInfo). end_of info ≤ n) (heads_from offset fs)
+heads_within offset [] n within = tt
+heads_within offset (f ∷ fs) n within =
     let size : length (stream (f ∷ fs)) ≡ length (frame_bytes f) + length (stream fs) = length-append (frame_bytes f) (stream fs) in
     let head = head_bytes f.fin f.op f.key f.form (length f.payload) in
     let own : length (frame_bytes f) ≡ length head + length (wire_payload f.key f.payload) = length-append head (wire_payload f.key f.payload) in
-    (omega (arith, within, size, own), heads_within (place + length (frame_bytes f)) fs n (omega (arith, within, size)))
+    (omega (arith, within, size, own), heads_within (offset + length (frame_bytes f)) fs n (omega (arith, within, size)))
 
 -- They are whole with more bytes than the frames before them have.
-heads_past : (place : ℕ) (fs : List Frame) (n : ℕ) → n ≤ place → AllByRecursion (λ (info : HeadInfo). n < end_of info) (heads_from place fs)
-heads_past place [] n past = tt
-heads_past place (f ∷ fs) n past =
-    let some = head_some (info_of place f) in
-    (omega (arith, some, past), heads_past (place + length (frame_bytes f)) fs n (omega (arith, past)))
+heads_past : (offset : ℕ) (fs : List Frame) (n : ℕ) → n ≤ offset → AllByRecursion (λ (info : HeadInfo). n < end_of info) (heads_from offset fs)
+heads_past offset [] n past = tt
+heads_past offset (f ∷ fs) n past =
+    let some = head_some (info_of offset f) in
+    (omega (arith, some, past), heads_past (offset + length (frame_bytes f)) fs n (omega (arith, past)))
 
 all_heads-append : (P : HeadInfo → Type 0) (heads others : List HeadInfo) → AllByRecursion P heads → AllByRecursion P others → AllByRecursion P (heads ++ others)
 all_heads-append P [] others p q = q
@@ -93,7 +93,7 @@ module _ (role : Role) (limits : Limits) where
         head = head;
         following = wire ++ following;
         whole = append_assoc head wire following;
-        place = refl;
+        offset = refl;
         encoded = refl;
         key = encodable.key;
         form = encodable.form;
@@ -107,9 +107,9 @@ module _ (role : Role) (limits : Limits) where
 
   end_is : (fs : List Frame) (rest : List ℕ) (info : HeadInfo) (b : BeginsWithHead role limits fs rest info) → end_of info ≡ length (stream fs) + length b.head
   end_is fs rest info b =
-      let place = b.place in
+      let offset = b.offset in
       let size : length b.head ≡ length (head_bytes info.fin info.op info.key info.form info.len) = ap (λ (bs : List ℕ). length bs) b.encoded in
-      omega (arith, place, size)
+      omega (arith, offset, size)
 
   -- Without bytes there is no head.
   pub no_heads : AreHeads role limits [] [] []
@@ -146,14 +146,14 @@ module _ (role : Role) (limits : Limits) where
 
   -- ---- more bytes after a refusal have no more heads
 
-  begun_stays : (fs : List Frame) (place : ℕ) (rest later : List ℕ) (bytes : List ℕ) → bytes ≡ stream fs ++ rest → (refused : (reason : Reason) × IsEvidentAt role limits bytes fs place reason) → (begun : List HeadInfo)
+  begun_stays : (fs : List Frame) (offset : ℕ) (rest later : List ℕ) (bytes : List ℕ) → bytes ≡ stream fs ++ rest → (refused : (reason : Reason) × IsEvidentAt role limits bytes fs offset reason) → (begun : List HeadInfo)
       → IsBegun role limits fs rest begun → IsBegun role limits fs (rest ++ later) begun
-  begun_stays fs place rest later bytes whole refused begun (inl closed) = inl closed
-  begun_stays fs place rest later bytes whole refused begun (inr (inr some)) =
+  begun_stays fs offset rest later bytes whole refused begun (inl closed) = inl closed
+  begun_stays fs offset rest later bytes whole refused begun (inr (inr some)) =
       inr (inr (some.0, (some.1.0, some.1.1, begins_longer role limits fs rest later some.1.0 some.1.2)))
-  begun_stays fs place rest later bytes whole refused begun (inr (inl none)) = inr (inl (none.0, none.1, no_head))
+  begun_stays fs offset rest later bytes whole refused begun (inr (inl none)) = inr (inl (none.0, none.1, no_head))
     where
-      is_evident : IsEvidentAt role limits bytes fs place refused.0
+      is_evident : IsEvidentAt role limits bytes fs offset refused.0
       is_evident = refused.1
 
       rest_is : rest ≡ is_evident.seen ++ is_evident.later
@@ -164,17 +164,17 @@ module _ (role : Role) (limits : Limits) where
           elim (two_fronts rest b.head later b.following b.whole) [
             | inl p ↦ b.has_no_evidence.none is_evident.seen (is_evident.later ++ p.0) refused.0
                 (p.1 ∙ ap (λ (bs : List ℕ). bs ++ p.0) rest_is ∙ append_assoc is_evident.seen is_evident.later p.0) is_evident.evidence
-            | inr p ↦ none.2 info (record { head = b.head; following = p.0; whole = p.1; place = b.place; encoded = b.encoded; key = b.key; form = b.form; size = b.size; has_no_evidence = b.has_no_evidence })
+            | inr p ↦ none.2 info (record { head = b.head; following = p.0; whole = p.1; offset = b.offset; encoded = b.encoded; key = b.key; form = b.form; size = b.size; has_no_evidence = b.has_no_evidence })
           ]
 
-  pub heads_stay : (bytes later : List ℕ) (fs : List Frame) (place : ℕ) (reason : Reason) (heads : List HeadInfo) → IsRefused role limits bytes fs place reason → AreHeads role limits bytes fs heads
+  pub heads_stay : (bytes later : List ℕ) (fs : List Frame) (offset : ℕ) (reason : Reason) (heads : List HeadInfo) → IsRefused role limits bytes fs offset reason → AreHeads role limits bytes fs heads
       → AreHeads role limits (bytes ++ later) fs heads
-  heads_stay bytes later fs place reason heads refused are = record {
+  heads_stay bytes later fs offset reason heads refused are = record {
     rest = are.rest ++ later;
     begun = are.begun;
     lawful = are.lawful;
     whole = ap (λ (bs : List ℕ). bs ++ later) are.whole ∙ append_assoc (stream fs) are.rest later;
-    is_begun = begun_stays fs place are.rest later bytes are.whole (reason, refused.is_evident) are.begun are.is_begun;
+    is_begun = begun_stays fs offset are.rest later bytes are.whole (reason, refused.is_evident) are.begun are.is_begun;
     all = are.all;
   }
 
@@ -210,7 +210,7 @@ module _ (role : Role) (limits : Limits) where
       ]
     where
       in_rest : (following : List ℕ) → rest ≡ b.head ++ following → ⊥
-      in_rest following whole = none info (record { head = b.head; following = following; whole = whole; place = b.place; encoded = b.encoded; key = b.key; form = b.form; size = b.size; has_no_evidence = b.has_no_evidence })
+      in_rest following whole = none info (record { head = b.head; following = following; whole = whole; offset = b.offset; encoded = b.encoded; key = b.key; form = b.form; size = b.size; has_no_evidence = b.has_no_evidence })
 
       of_longer : (left : List ℕ) → b.head ≡ rest ++ left → length b.head ≤ length rest → ⊥
       of_longer [] is within = in_rest [] (sym (append-nil rest) ∙ sym is ∙ sym (append-nil b.head))
@@ -228,8 +228,8 @@ module _ (role : Role) (limits : Limits) where
   begun_past fs rest begun n past (inr (inl none)) = subst (λ (hs : List HeadInfo). AllByRecursion (λ (info : HeadInfo). n < end_of info) hs) (sym none.0) tt
   begun_past fs rest begun n past (inr (inr some)) =
       let after = head_some some.1.0 in
-      let place = some.1.2.place in
-      subst (λ (hs : List HeadInfo). AllByRecursion (λ (info : HeadInfo). n < end_of info) hs) (sym some.1.1) (omega (arith, after, place, past), tt)
+      let offset = some.1.2.offset in
+      subst (λ (hs : List HeadInfo). AllByRecursion (λ (info : HeadInfo). n < end_of info) hs) (sym some.1.1) (omega (arith, after, offset, past), tt)
 
   -- The heads of longer bytes: those of the bytes, and extra ones that are whole with more than these bytes.
   pub record MoreHeads (bytes : List ℕ) (heads longer : List HeadInfo) : Type 0 where

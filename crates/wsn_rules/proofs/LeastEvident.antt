@@ -133,39 +133,39 @@ module _ (role : Role) (limits : Limits) (group : List Frame) where
 
 module _ (role : Role) (limits : Limits) (bytes : List ℕ) (fs : List Frame) (rest : List ℕ) (whole : bytes ≡ stream fs ++ rest) where
   -- Evidence is a prefix of the rest.
-  pub record ShownFront (place : ℕ) (reason : Reason) : Type 0 where
+  pub record ShownFront (offset : ℕ) (reason : Reason) : Type 0 where
     pub count : ℕ
     pub within : count ≤ length rest
-    pub at_place : place + 1 ≡ length (stream fs) + count
+    pub at_offset : offset + 1 ≡ length (stream fs) + count
     pub evidence : Evidence role limits (unfinished fs) reason (take count rest)
 
-  pub evident_front : (place : ℕ) (reason : Reason) → IsEvidentAt role limits bytes fs place reason → ShownFront place reason
-  evident_front place reason s =
+  pub evident_front : (offset : ℕ) (reason : Reason) → IsEvidentAt role limits bytes fs offset reason → ShownFront offset reason
+  evident_front offset reason s =
       let is_rest : rest ≡ s.seen ++ s.later = append_cancel (stream fs) rest (s.seen ++ s.later) (sym whole ∙ s.whole) in
       let all : length rest ≡ length s.seen + length s.later = ap (λ (bs : List ℕ). length bs) is_rest ∙ length-append s.seen s.later in
       let front : take (length s.seen) rest ≡ s.seen = ap (λ (bs : List ℕ). take (length s.seen) bs) is_rest ∙ take_at s.seen s.later (length s.seen) refl in
       record {
         count = length s.seen;
         within = omega arith;
-        at_place = s.at_place;
+        at_offset = s.at_offset;
         evidence = subst (λ (bs : List ℕ). Evidence role limits (unfinished fs) reason bs) (sym front) s.evidence;
       }
 
-  pub front_evident : (place count : ℕ) (reason : Reason) → count ≤ length rest → place + 1 ≡ length (stream fs) + count → Evidence role limits (unfinished fs) reason (take count rest) → IsEvidentAt role limits bytes fs place reason
-  front_evident place count reason within at e = record {
+  pub front_evident : (offset count : ℕ) (reason : Reason) → count ≤ length rest → offset + 1 ≡ length (stream fs) + count → Evidence role limits (unfinished fs) reason (take count rest) → IsEvidentAt role limits bytes fs offset reason
+  front_evident offset count reason within at e = record {
     seen = take count rest;
     later = drop count rest;
     whole = whole ∙ ap (λ (bs : List ℕ). stream fs ++ bs) (sym (take-append-drop count rest));
-    at_place = at ∙ ap (λ (n : ℕ). length (stream fs) + n) (sym (length-take-le count rest within));
+    at_offset = at ∙ ap (λ (n : ℕ). length (stream fs) + n) (sym (length-take-le count rest within));
     evidence = e;
   }
 
   -- The offset and the reason with precedence.
   pub record LeastEvident : Type 0 where
-    pub place : ℕ
+    pub offset : ℕ
     pub reason : Reason
-    pub is_evident : IsEvidentAt role limits bytes fs place reason
-    pub least : (p : ℕ) (r : Reason) → IsEvidentAt role limits bytes fs p r → ComesFirst place reason p r
+    pub is_evident : IsEvidentAt role limits bytes fs offset reason
+    pub least : (p : ℕ) (r : Reason) → IsEvidentAt role limits bytes fs p r → ComesFirst offset reason p r
 
   unfoldable pub least_evident : LeastEvident ⊎ ((p : ℕ) (r : Reason) → IsEvidentAt role limits bytes fs p r → ⊥)
   least_evident =
@@ -180,21 +180,21 @@ module _ (role : Role) (limits : Limits) (bytes : List ℕ) (fs : List Frame) (r
           let some : 0 < length (take q.count rest) = evidence_is_some role limits (unfinished fs) q.reason (take q.count rest) q.evidence in
           let at : length (stream fs) + q.count - 1 + 1 ≡ length (stream fs) + q.count = omega arith in
           record {
-            place = length (stream fs) + q.count - 1;
+            offset = length (stream fs) + q.count - 1;
             reason = q.reason;
             is_evident = front_evident (length (stream fs) + q.count - 1) q.count q.reason q.within at q.evidence;
             least = λ p r s. comes_first q (length (stream fs) + q.count - 1) at p r (evident_front p r s);
           }
         where
-          comes_first : (q : LeastFront role limits (unfinished fs) rest) (place : ℕ) → place + 1 ≡ length (stream fs) + q.count → (p : ℕ) (r : Reason) → ShownFront p r → ComesFirst place q.reason p r
-          comes_first q place at p r front =
+          comes_first : (q : LeastFront role limits (unfinished fs) rest) (offset : ℕ) → offset + 1 ≡ length (stream fs) + q.count → (p : ℕ) (r : Reason) → ShownFront p r → ComesFirst offset q.reason p r
+          comes_first q offset at p r front =
               elim (cases_order front.count q.count) [
-                | inl same ↦ inr (places place p q.count front.count at front.at_place same, q.least_reason_is r (subst (λ (n : ℕ). Evidence role limits (unfinished fs) r (take n rest)) same front.evidence))
+                | inl same ↦ inr (places offset p q.count front.count at front.at_offset same, q.least_reason_is r (subst (λ (n : ℕ). Evidence role limits (unfinished fs) r (take n rest)) same front.evidence))
                 | inr other ↦ elim other [
                   | inl less ↦ absurd (q.shorter front.count r less front.evidence)
-                  | inr more ↦ inl (omega (arith, front.at_place))
+                  | inr more ↦ inl (omega (arith, front.at_offset))
                 ]
               ]
             where
-              places : (place p m n : ℕ) → place + 1 ≡ length (stream fs) + m → p + 1 ≡ length (stream fs) + n → n ≡ m → place ≡ p
-              places place p m n at_place at_p same = omega arith
+              places : (offset p m n : ℕ) → offset + 1 ≡ length (stream fs) + m → p + 1 ≡ length (stream fs) + n → n ≡ m → offset ≡ p
+              places offset p m n at_offset at_p same = omega arith

@@ -41,7 +41,7 @@ pub mod PlacedBytes
 pub mod EveryShown
 pub mod EveryTime
 pub mod EveryCapture
-pub mod ShownPlaces
+pub mod ShownOffsets
 pub mod ShownHeads
 pub mod PlacedExamples
 pub mod OpenPayloads

@@ -26,8 +26,8 @@ field_of info = len_form_of info.form info.len
 abbrev lengths_of : HeadInfo → List ℕ
 lengths_of info = length_bytes (field_of info) info.len
 
-same_head : (info other : HeadInfo) → IsHeadOf info → IsHeadOf other → (following more : List ℕ) → info.place ≡ other.place → bytes_of info ++ following ≡ bytes_of other ++ more → info ≡ other
-same_head info other is also following more place same =
+same_head : (info other : HeadInfo) → IsHeadOf info → IsHeadOf other → (following more : List ℕ) → info.offset ≡ other.offset → bytes_of info ++ following ≡ bytes_of other ++ more → info ≡ other
+same_head info other is also following more offset same =
     let of_first = first_byte_fields info.fin info.op in
     let other_first = first_byte_fields other.fin other.op in
     let spells = spells-len_form_of info.form info.len is.form is.size in
@@ -58,12 +58,12 @@ same_head info other is also following more place same =
     sym (form_at-len_form_of info.form info.len is.form) ∙ ap (λ (f : LenForm). form_at f info.len) field ∙ ap (λ (n : ℕ). form_at (field_of other) n) len ∙ form_at-len_form_of other.form other.len also.form in
     let key : info.key ≡ other.key =
     sym (key_at-key_bytes info.key) ∙ ap (λ (b : Bool). key_at b (key_bytes info.key)) mask ∙ ap (λ (bs : List ℕ). key_at (is_some other.key) bs) keys.0 ∙ key_at-key_bytes other.key in
-    λ i. record { place = place i; fin = fin i; op = op i; key = key i; form = form i; len = len i }
+    λ i. record { offset = offset i; fin = fin i; op = op i; key = key i; form = form i; len = len i }
 
 module _ (role : Role) (limits : Limits) (fs : List Frame) (rest : List ℕ) where
   pub one_begun : (info other : HeadInfo) → BeginsWithHead role limits fs rest info → BeginsWithHead role limits fs rest other → info ≡ other
   one_begun info other b c =
-      same_head info other (record { key = b.key; form = b.form; size = b.size }) (record { key = c.key; form = c.form; size = c.size }) b.following c.following (b.place ∙ sym c.place)
+      same_head info other (record { key = b.key; form = b.form; size = b.size }) (record { key = c.key; form = c.form; size = c.size }) b.following c.following (b.offset ∙ sym c.offset)
       (ap (λ (bs : List ℕ). bs ++ b.following) (sym b.encoded) ∙ sym b.whole ∙ c.whole ∙ ap (λ (bs : List ℕ). bs ++ c.following) c.encoded)
 
   -- The bytes after the head.

@@ -80,8 +80,8 @@ module _ (role : Role) (limits : Limits) where
         c.within.1 (nil-parts following c.within.0 (sym agree.1)).1;
   }
 
-  all_of_refused : (bytes : List ℕ) (fs : List Frame) (place : ℕ) (reason : Reason) → IsRefused role limits bytes fs place reason → AreAll bytes fs
-  all_of_refused bytes fs place reason r = record {
+  all_of_refused : (bytes : List ℕ) (fs : List Frame) (offset : ℕ) (reason : Reason) → IsRefused role limits bytes fs offset reason → AreAll bytes fs
+  all_of_refused bytes fs offset reason r = record {
     lawful = r.lawful;
     rest = r.is_evident.seen ++ r.is_evident.later;
     whole = r.is_evident.whole;
@@ -91,7 +91,7 @@ module _ (role : Role) (limits : Limits) where
   pub all_of_verdict : (bytes : List ℕ) (fs : List Frame) (v : Verdict) → IsVerdict role limits bytes fs v → AreAll bytes fs
   all_of_verdict bytes fs (Accepted s) is = all_of_accepted bytes fs is.0
   all_of_verdict bytes fs (Cut s) is = all_of_cut bytes fs is.0
-  all_of_verdict bytes fs (Refused r) is = all_of_refused bytes fs r.place r.reason is
+  all_of_verdict bytes fs (Refused r) is = all_of_refused bytes fs r.offset r.reason is
 
   -- ---- one list of frames
 
@@ -127,8 +127,8 @@ module _ (role : Role) (limits : Limits) where
             elim c.more [ inl some ↦ some none | inr is_open ↦ is_open p.1 ]
         by_end (inr p) = close_ends fs c.no_close p.0
 
-    accepted_not_refused : (place : ℕ) (reason : Reason) → IsAccepted role limits bytes fs → IsRefused role limits bytes fs place reason → ⊥
-    accepted_not_refused place reason a r = by_end a.ends
+    accepted_not_refused : (offset : ℕ) (reason : Reason) → IsAccepted role limits bytes fs → IsRefused role limits bytes fs offset reason → ⊥
+    accepted_not_refused offset reason a r = by_end a.ends
       where
         by_end : Ends fs bytes → ⊥
         by_end (inl p) =
@@ -139,12 +139,12 @@ module _ (role : Role) (limits : Limits) where
             omega arith
         by_end (inr p) = close_ends fs r.no_close p.0
 
-    one_refusal : (r s : Refusal) → IsRefused role limits bytes fs r.place r.reason → IsRefused role limits bytes fs s.place s.reason → r ≡ s
+    one_refusal : (r s : Refusal) → IsRefused role limits bytes fs r.offset r.reason → IsRefused role limits bytes fs s.offset s.reason → r ≡ s
     one_refusal r s is_r is_s =
-        let pair = first_of_both (is_r.least s.place s.reason is_s.is_evident) (is_s.least r.place r.reason is_r.is_evident) in
-        λ i. record { place = pair.0 i; reason = same_number r.reason s.reason pair.1 i }
+        let pair = first_of_both (is_r.least s.offset s.reason is_s.is_evident) (is_s.least r.offset r.reason is_r.is_evident) in
+        λ i. record { offset = pair.0 i; reason = same_number r.reason s.reason pair.1 i }
       where
-        first_of_both : ComesFirst r.place r.reason s.place s.reason → ComesFirst s.place s.reason r.place r.reason → (r.place ≡ s.place) × (number_of r.reason ≡ number_of s.reason)
+        first_of_both : ComesFirst r.offset r.reason s.offset s.reason → ComesFirst s.offset s.reason r.offset r.reason → (r.offset ≡ s.offset) × (number_of r.reason ≡ number_of s.reason)
         first_of_both (inl a) (inl b) = absurd (omega arith)
         first_of_both (inl a) (inr b) = absurd (omega (arith, b.0))
         first_of_both (inr a) (inl b) = absurd (omega (arith, a.0))
@@ -153,12 +153,12 @@ module _ (role : Role) (limits : Limits) where
     pub same_verdict : (v w : Verdict) → IsVerdict role limits bytes fs v → IsVerdict role limits bytes fs w → v ≡ w
     same_verdict (Accepted s) (Accepted t) is also = ap Accepted (is.1 ∙ sym also.1)
     same_verdict (Accepted s) (Cut t) is also = absurd (accepted_not_cut is.0 also.0)
-    same_verdict (Accepted s) (Refused r) is also = absurd (accepted_not_refused r.place r.reason is.0 also)
+    same_verdict (Accepted s) (Refused r) is also = absurd (accepted_not_refused r.offset r.reason is.0 also)
     same_verdict (Cut s) (Accepted t) is also = absurd (accepted_not_cut also.0 is.0)
     same_verdict (Cut s) (Cut t) is also = ap Cut (is.1 ∙ sym also.1)
-    same_verdict (Cut s) (Refused r) is also = absurd (is.0.has_no_evidence r.place r.reason also.is_evident)
-    same_verdict (Refused r) (Accepted t) is also = absurd (accepted_not_refused r.place r.reason also.0 is)
-    same_verdict (Refused r) (Cut t) is also = absurd (also.0.has_no_evidence r.place r.reason is.is_evident)
+    same_verdict (Cut s) (Refused r) is also = absurd (is.0.has_no_evidence r.offset r.reason also.is_evident)
+    same_verdict (Refused r) (Accepted t) is also = absurd (accepted_not_refused r.offset r.reason also.0 is)
+    same_verdict (Refused r) (Cut t) is also = absurd (also.0.has_no_evidence r.offset r.reason is.is_evident)
     same_verdict (Refused r) (Refused s) is also = ap Refused (one_refusal r s is also)
 
   pub one_verdict : (bytes : List ℕ) (fs gs : List Frame) (v w : Verdict) → IsVerdict role limits bytes fs v → IsVerdict role limits bytes gs w → (fs ≡ gs) × (v ≡ w)

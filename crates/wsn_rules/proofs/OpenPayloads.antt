@@ -18,9 +18,9 @@ use Rattle.wsn_rules.proofs.MessageText.{text_of_push}
 
 -- ---- the bytes without offsets
 
-bytes_of-placed : (place : ℕ) (bytes : List ℕ) → bytes_of (placed place bytes) ≡ bytes
-bytes_of-placed place [] = refl
-bytes_of-placed place (b ∷ bytes) = ap (λ (bs : List ℕ). b ∷ bs) (bytes_of-placed (place + 1) bytes)
+bytes_of-placed : (offset : ℕ) (bytes : List ℕ) → bytes_of (placed offset bytes) ≡ bytes
+bytes_of-placed offset [] = refl
+bytes_of-placed offset (b ∷ bytes) = ap (λ (bs : List ℕ). b ∷ bs) (bytes_of-placed (offset + 1) bytes)
 
 pub bytes_of-append : (xs ys : List PlacedByte) → bytes_of (xs ++ ys) ≡ bytes_of xs ++ bytes_of ys
 bytes_of-append xs ys = map-append (λ (b : PlacedByte). b.byte) xs ys
@@ -31,17 +31,17 @@ length-bytes_of xs = length-map xs (λ (b : PlacedByte). b.byte)
 pub bytes_of-drop : (n : ℕ) (xs : List PlacedByte) → bytes_of (drop n xs) ≡ drop n (bytes_of xs)
 bytes_of-drop n xs = sym (drop-map (λ (b : PlacedByte). b.byte) n xs)
 
-bytes_of-payloads : (place : ℕ) (fs : List Frame) → bytes_of (placed_payloads place fs) ≡ payload_of (filter is_data fs)
-bytes_of-payloads place [] = refl
-bytes_of-payloads place (f ∷ fs) =
-    let n = place + length (frame_bytes f) in
-    let here = placed (payload_offset (info_of place f)) f.payload in
+bytes_of-payloads : (offset : ℕ) (fs : List Frame) → bytes_of (placed_payloads offset fs) ≡ payload_of (filter is_data fs)
+bytes_of-payloads offset [] = refl
+bytes_of-payloads offset (f ∷ fs) =
+    let n = offset + length (frame_bytes f) in
+    let here = placed (payload_offset (info_of offset f)) f.payload in
     bytes_of-append (if is_data f then here else []) (placed_payloads n fs)
     ∙ ap (λ (bs : List ℕ). bytes_of (if is_data f then here else []) ++ bs) (bytes_of-payloads n fs)
     ∙ elim (cases_Bool (is_data f)) [
       | inl kept ↦
           ap (λ (ps : List PlacedByte). bytes_of ps ++ payload_of (filter is_data fs)) (cond-true (is_data f) here [] kept)
-          ∙ ap (λ (bs : List ℕ). bs ++ payload_of (filter is_data fs)) (bytes_of-placed (payload_offset (info_of place f)) f.payload)
+          ∙ ap (λ (bs : List ℕ). bs ++ payload_of (filter is_data fs)) (bytes_of-placed (payload_offset (info_of offset f)) f.payload)
           ∙ ap payload_of (sym (cond-true (is_data f) (f ∷ filter is_data fs) (filter is_data fs) kept))
       | inr left_out ↦
           ap (λ (ps : List PlacedByte). bytes_of ps ++ payload_of (filter is_data fs)) (cond-false (is_data f) here [] left_out)
@@ -86,8 +86,8 @@ bytes_of-open fs =
 pub length-open : (fs : List Frame) → length (open_payload fs) ≡ length (payload_of (unfinished fs))
 length-open fs = sym (length-bytes_of (open_payload fs)) ∙ ap (λ (bs : List ℕ). length bs) (bytes_of-open fs)
 
-length-placed : (place : ℕ) (bytes : List ℕ) → length (placed place bytes) ≡ length bytes
-length-placed place bytes = sym (length-bytes_of (placed place bytes)) ∙ ap (λ (bs : List ℕ). length bs) (bytes_of-placed place bytes)
+length-placed : (offset : ℕ) (bytes : List ℕ) → length (placed offset bytes) ≡ length bytes
+length-placed offset bytes = sym (length-bytes_of (placed offset bytes)) ∙ ap (λ (bs : List ℕ). length bs) (bytes_of-placed offset bytes)
 
 pub payload_so_far : (fs : List Frame) (info : HeadInfo) (part : List ℕ) → bytes_of (message_payload fs info part) ≡ payload_of (unfinished fs) ++ part
 payload_so_far fs info part =
@@ -99,19 +99,19 @@ payload_so_far fs info part =
 -- ---- one frame more
 
 abbrev own_payload : ℕ → Frame → List PlacedByte
-own_payload place f = placed (payload_offset (info_of place f)) f.payload
+own_payload offset f = placed (payload_offset (info_of offset f)) f.payload
 
-payloads_push : (place : ℕ) (fs : List Frame) (f : Frame) → placed_payloads place (fs ++ f ∷ []) ≡ placed_payloads place fs ++ (if is_data f then own_payload (place + length (stream fs)) f else [])
-payloads_push place [] f =
-    let same : place ≡ place + length (stream []) = omega arith in
-    append-nil (if is_data f then own_payload place f else []) ∙ ap (λ (n : ℕ). if is_data f then own_payload n f else []) same
-payloads_push place (g ∷ fs) f =
-    let here = if is_data g then own_payload place g else [] in
-    let n = place + length (frame_bytes g) in
+payloads_push : (offset : ℕ) (fs : List Frame) (f : Frame) → placed_payloads offset (fs ++ f ∷ []) ≡ placed_payloads offset fs ++ (if is_data f then own_payload (offset + length (stream fs)) f else [])
+payloads_push offset [] f =
+    let same : offset ≡ offset + length (stream []) = omega arith in
+    append-nil (if is_data f then own_payload offset f else []) ∙ ap (λ (n : ℕ). if is_data f then own_payload n f else []) same
+payloads_push offset (g ∷ fs) f =
+    let here = if is_data g then own_payload offset g else [] in
+    let n = offset + length (frame_bytes g) in
     let size = length-append (frame_bytes g) (stream fs) in
-    let same : n + length (stream fs) ≡ place + length (stream (g ∷ fs)) = omega (arith, size) in
+    let same : n + length (stream fs) ≡ offset + length (stream (g ∷ fs)) = omega (arith, size) in
     ap (λ (ps : List PlacedByte). here ++ ps) (payloads_push n fs f ∙ ap (λ (m : ℕ). placed_payloads n fs ++ (if is_data f then own_payload m f else [])) same)
-    ∙ sym (append_assoc here (placed_payloads n fs) (if is_data f then own_payload (place + length (stream (g ∷ fs))) f else []))
+    ∙ sym (append_assoc here (placed_payloads n fs) (if is_data f then own_payload (offset + length (stream (g ∷ fs))) f else []))
 
 pub open_after_control : (fs : List Frame) (f : Frame) → is_data f ≡ false → open_payload (fs ++ f ∷ []) ≡ open_payload fs
 open_after_control fs f left_out =
@@ -145,10 +145,10 @@ open_after_fragment fs f kept more =
 
 -- ---- where each byte is
 
-pub first_at : (place n : ℕ) (bytes : List ℕ) → n < length bytes → first_offset (drop n (placed place bytes)) ≡ place + n
-first_at place n [] less = absurd (omega (arith, less))
-first_at place zero (b ∷ bytes) less = omega arith
-first_at place (suc n) (b ∷ bytes) less = let later = first_at (place + 1) n bytes (omega (arith, less)) in omega (arith, later)
+pub first_at : (offset n : ℕ) (bytes : List ℕ) → n < length bytes → first_offset (drop n (placed offset bytes)) ≡ offset + n
+first_at offset n [] less = absurd (omega (arith, less))
+first_at offset zero (b ∷ bytes) less = omega arith
+first_at offset (suc n) (b ∷ bytes) less = let later = first_at (offset + 1) n bytes (omega (arith, less)) in omega (arith, later)
 
 pub drop_past : (xs ys : List PlacedByte) (n : ℕ) → length xs ≤ n → drop n (xs ++ ys) ≡ drop (n - length xs) ys
 drop_past [] ys n long = ap (λ (m : ℕ). drop m ys) (omega arith)

@@ -94,12 +94,12 @@ module _ (client server : Side) (client_ended server_ended : Bool) where
 
   from : (left n : ℕ) → n + left ≡ 5 → NoneBefore n → (outcome : Outcome) × IsOutcome client server client_ended server_ended outcome
   unfolding fits_or_not
-  from zero n place before = (Live, record { fits = tt; first = λ other held. let following = before other held in omega (arith, place, following) })
-  from (suc left) n place before =
-      let at = order_at n (omega (arith, place)) in
+  from zero n offset before = (Live, record { fits = tt; first = λ other held. let following = before other held in omega (arith, offset, following) })
+  from (suc left) n offset before =
+      let at = order_at n (omega (arith, offset)) in
       elim (fits_or_not (outcome_at n)) [
         | inl fits ↦ (outcome_at n, record { fits = fits; first = λ other held. let following = before other held in omega (arith, at, following) })
-        | inr none ↦ from left (suc n) (omega (arith, place)) (none_there n before none)
+        | inr none ↦ from left (suc n) (omega (arith, offset)) (none_there n before none)
       ]
 
   unfoldable pub has_outcome : (outcome : Outcome) × IsOutcome client server client_ended server_ended outcome

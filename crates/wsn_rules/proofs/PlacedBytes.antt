@@ -5,9 +5,9 @@ use Rattle.std.proofs.lemmas.List.{map-append}
 use Rattle.std.proofs.lemmas.List.Concat.{flat_map-append}
 use Rattle.wsn_wire.specs.Frame.{Frame, frame_bytes}
 use Rattle.wsn_rules.specs.Meaning.{Message, Control}
-use Rattle.wsn_rules.specs.ShownPlaces.{AreDealt}
+use Rattle.wsn_rules.specs.ShownOffsets.{AreDealt}
 use Rattle.wsn_rules.specs.BadCharacter.{PlacedByte, placed}
-use Rattle.wsn_rules.specs.ShownPlaces.{end_or, end_of, PlacedFrame, frames_in, placed_frames, IsPlaced, ArePlaced, is_open_message, IsShownWithNext, IsEnd, AreInOrder}
+use Rattle.wsn_rules.specs.ShownOffsets.{end_or, end_of, PlacedFrame, frames_in, placed_frames, IsPlaced, ArePlaced, is_open_message, IsShownWithNext, IsEnd, AreInOrder}
 use Rattle.wsn_rules.specs.ShownStream.{Item, Shown}
 use Rattle.wsn_rules.specs.ShownStream.Item.{Event, Head, Unfinished, UnfinishedHead, RefusedFrame, Unread, Tail}
 use Rattle.wsn_rules.proofs.Prefixes.{nil-push}
@@ -35,7 +35,7 @@ module _ {A : Type 0} where
 pub placed-append : (n : ℕ) (xs ys : List ℕ) → placed n (xs ++ ys) ≡ placed n xs ++ placed (n + length xs) ys
 placed-append n [] ys = let same : n ≡ n + length {A = ℕ} [] = omega arith in ap (λ k. placed k ys) same
 placed-append n (x ∷ xs) ys =
-    let first : PlacedByte = record { place = n; byte = x } in
+    let first : PlacedByte = record { offset = n; byte = x } in
     let same : (n + 1) + length xs ≡ n + length (x ∷ xs) = omega arith in
     ap (λ (ps : List PlacedByte). first ∷ ps) (placed-append (n + 1) xs ys ∙ ap (λ k. placed (n + 1) xs ++ placed k ys) same)
 
@@ -46,7 +46,7 @@ bytes_of_placed n (b ∷ bytes) = ap (λ (bs : List ℕ). b ∷ bs) (bytes_of_pl
 
 end_or-append : (n : ℕ) (xs ys : List PlacedByte) → end_or n (xs ++ ys) ≡ end_or (end_or n xs) ys
 end_or-append n [] ys = refl
-end_or-append n (x ∷ xs) ys = end_or-append (x.place + 1) xs ys
+end_or-append n (x ∷ xs) ys = end_or-append (x.offset + 1) xs ys
 
 -- Bytes before others don't change where these end.
 pub same_end : (n : ℕ) (xs ys : List PlacedByte) → n < end_of ys → end_of (xs ++ ys) ≡ end_of ys
@@ -69,10 +69,10 @@ end_with held n xs some = let end = end_is n xs some in same_end n held (placed 
 pub frames_in-push : (held : List PlacedFrame) (f : PlacedFrame) → frames_in (held ++ f ∷ []) ≡ frames_in held ++ f.frame ∷ []
 frames_in-push held f = map-append (λ (g : PlacedFrame). g.frame) held (f ∷ [])
 
-pub placed_frames-push : (held : List PlacedFrame) (f : PlacedFrame) → placed_frames (held ++ f ∷ []) ≡ placed_frames held ++ placed f.place (frame_bytes f.frame)
+pub placed_frames-push : (held : List PlacedFrame) (f : PlacedFrame) → placed_frames (held ++ f ∷ []) ≡ placed_frames held ++ placed f.offset (frame_bytes f.frame)
 placed_frames-push held f =
-    flat_map-append (λ (g : PlacedFrame). placed g.place (frame_bytes g.frame)) held (f ∷ [])
-    ∙ ap (λ (ps : List PlacedByte). placed_frames held ++ ps) (append-nil (placed f.place (frame_bytes f.frame)))
+    flat_map-append (λ (g : PlacedFrame). placed g.offset (frame_bytes g.frame)) held (f ∷ [])
+    ∙ ap (λ (ps : List PlacedByte). placed_frames held ++ ps) (append-nil (placed f.offset (frame_bytes f.frame)))
 
 -- ---- the order
 
@@ -174,14 +174,14 @@ record Found (held : List PlacedFrame) (f : PlacedFrame) (shown : List Shown) (p
   pub pile : List PlacedByte
   pub after : List (List PlacedByte)
   pub is : piles ≡ before ++ pile ∷ after
-  pub have : ArePlacedAfter held shown (before ++ (placed f.place (frame_bytes f.frame) ++ pile) ∷ after)
+  pub have : ArePlacedAfter held shown (before ++ (placed f.offset (frame_bytes f.frame) ++ pile) ∷ after)
 
 find : (held : List PlacedFrame) (f : PlacedFrame) (shown : List Shown) (piles : List (List PlacedByte)) → ArePlacedAfter (held ++ f ∷ []) shown piles → Found held f shown piles
 find held f [] [] have = absurd (nil-push held f [] (sym have))
 find held f [] (pile ∷ piles) have = absurd have
 find held f (s ∷ shown) [] have = absurd have
 find held f (s ∷ shown) (pile ∷ piles) have =
-    let own = placed f.place (frame_bytes f.frame) in
+    let own = placed f.offset (frame_bytes f.frame) in
     elim (cases_Bool (takes s.item)) [
       | inl holds ↦
           let bytes : placed_frames (if takes s.item then held ++ f ∷ [] else []) ++ pile ≡ placed_frames (if takes s.item then held else []) ++ (own ++ pile) =
@@ -213,7 +213,7 @@ find held f (s ∷ shown) (pile ∷ piles) have =
 
 -- A frame at the offset n.
 abbrev pub at : ℕ → Frame → PlacedFrame
-at n f = record { place = n; frame = f }
+at n f = record { offset = n; frame = f }
 
 pub fragment : (total n : ℕ) (held : List PlacedFrame) (f : Frame) (shown : List Shown) (rest : List ℕ) → Dealt total (n + length (frame_bytes f)) (held ++ at n f ∷ []) shown rest → Dealt total n held shown (frame_bytes f ++ rest)
 fragment total n held f shown rest d =

@@ -1,8 +1,8 @@
 -- Where items are, for bytes that are written out.
 use Rattle.std.proofs.Common.{◌≡◌, ℕ, List, [], ◌∷◌, ◌++◌, map, sym, ap, ◌∙◌, subst}
-use Rattle.wsn_rules.specs.ShownPlaces.{AreDealt}
+use Rattle.wsn_rules.specs.ShownOffsets.{AreDealt}
 use Rattle.wsn_rules.specs.BadCharacter.{PlacedByte, placed}
-use Rattle.wsn_rules.specs.ShownPlaces.{IsPlaced, ArePlaced, AreInPlace}
+use Rattle.wsn_rules.specs.ShownOffsets.{IsPlaced, ArePlaced, AreInPlace}
 use Rattle.wsn_rules.specs.ShownStream.{Shown}
 use Rattle.wsn_rules.proofs.Prefixes.{nil-push, head_same, tail_same}
 use Rattle.wsn_rules.proofs.PlacedBytes.{bytes_of_placed}

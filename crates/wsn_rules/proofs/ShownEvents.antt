@@ -116,7 +116,7 @@ module _ (without : Without) where
       let n = length (stream (before ++ f ∷ [])) in
       ap (event_items without) (cond-true f.fin (shown_after n (items_of_final before f)) [] final) ∙ of_items n (items_of_final before f) ∙ of_final before f kept
 
-  -- An event stands at the index that is the number of those before it.
+  -- An event is at the index that is the number of those before it.
   pub stands : (before : List Frame) (f : Frame) (extra : List Frame) → f.fin ≡ true → is_left_out without (event_at before f) ≡ false
       → slice_get (event_items without (shown_of [] (before ++ f ∷ extra))) (length (events_without without (meaning before))) ≡ Some (item_at before f)
   stands before f extra final kept =

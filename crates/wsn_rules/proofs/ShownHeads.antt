@@ -14,14 +14,14 @@ use Rattle.wsn_rules.specs.Group.{unfinished}
 use Rattle.wsn_rules.specs.Heads.{info_of, heads_from, heads_of, BeginsWithHead, IsBegun}
 use Rattle.wsn_rules.specs.Verdict.{IsRefused, IsVerdict}
 use Rattle.wsn_rules.specs.BadCharacter.{PlacedByte, placed}
-use Rattle.wsn_rules.specs.ShownPlaces.{IsEncodableHead, IsPlaced, ArePlaced, is_open_message, IsEnd, AreInOrder, IsPartOf, AreHeadsInPlace}
+use Rattle.wsn_rules.specs.ShownOffsets.{IsEncodableHead, IsPlaced, ArePlaced, is_open_message, IsEnd, AreInOrder, IsPartOf, AreHeadsInPlace}
 use Rattle.wsn_rules.specs.ShownStream.{Shown, shown_head, IsShownVerdict, IsShownStream}
 use Rattle.wsn_rules.proofs.Prefixes.{append_cancel, two_fronts}
 use Rattle.wsn_rules.proofs.Walk.{AreSpellable, spellable_of_lawful, spellable_tail}
 use Rattle.wsn_rules.proofs.LeastEvident.{evidence_is_some}
 use Rattle.wsn_rules.proofs.BegunHeads.{encodable_begun}
 use Rattle.wsn_rules.proofs.PlacedBytes.{placed-append, end_is, in_order_from}
-use Rattle.wsn_rules.proofs.ShownPlaces.{refused_placed}
+use Rattle.wsn_rules.proofs.ShownOffsets.{refused_placed}
 
 -- Items after the offset n, which are where they say.
 record ArePlacedFrom (bytes : List ℕ) (n : ℕ) (shown : List Shown) : Type 0 where
@@ -57,18 +57,18 @@ head_some : (info : HeadInfo) → 0 < length (head_bytes info.fin info.op info.k
 head_some info = omega arith
 
 -- A head at its offset.
-head_placed : (info : HeadInfo) → IsEncodableHead info → IsPlaced (shown_head info) (placed info.place (head_bytes info.fin info.op info.key info.form info.len))
+head_placed : (info : HeadInfo) → IsEncodableHead info → IsPlaced (shown_head info) (placed info.offset (head_bytes info.fin info.op info.key info.form info.len))
 head_placed info is =
-    let end = end_is info.place (head_bytes info.fin info.op info.key info.form info.len) (head_some info) in
+    let end = end_is info.offset (head_bytes info.fin info.op info.key info.form info.len) (head_some info) in
     record { begins = refl; is_pile = (is, refl); within = omega (arith, end) }
 
-one_head : (bytes : List ℕ) (n : ℕ) (info : HeadInfo) (shown : List Shown) (front after : List ℕ) → bytes ≡ front ++ (head_bytes info.fin info.op info.key info.form info.len ++ after) → info.place ≡ length front → IsEncodableHead info → n ≤ length front
+one_head : (bytes : List ℕ) (n : ℕ) (info : HeadInfo) (shown : List Shown) (front after : List ℕ) → bytes ≡ front ++ (head_bytes info.fin info.op info.key info.form info.len ++ after) → info.offset ≡ length front → IsEncodableHead info → n ≤ length front
     → ArePlacedFrom bytes (shown_head info).after shown → ArePlacedFrom bytes n (shown_head info ∷ shown)
-one_head bytes n info shown front after whole place is from p =
+one_head bytes n info shown front after whole offset is from p =
     let head = head_bytes info.fin info.op info.key info.form info.len in
     let some = head_some info in
-    one_more bytes n (shown_head info) shown front head after whole (λ e. absurd e) refl some (ap (λ k. k + length head) place) (omega (arith, place, from, some))
-    (subst (λ k. IsPlaced (shown_head info) (placed k head)) place (head_placed info is)) p
+    one_more bytes n (shown_head info) shown front head after whole (λ e. absurd e) refl some (ap (λ k. k + length head) offset) (omega (arith, offset, from, some))
+    (subst (λ k. IsPlaced (shown_head info) (placed k head)) offset (head_placed info is)) p
 
 -- The heads of whole frames, and then the rest.
 heads_placed : (bytes : List ℕ) (fs : List Frame) (front rest : List ℕ) (later : List Shown) (n : ℕ) → bytes ≡ front ++ (stream fs ++ rest) → AreSpellable fs → n ≤ length front → ArePlacedFrom bytes (length front + length (stream fs)) later
@@ -93,35 +93,35 @@ heads_placed bytes (f ∷ fs) front rest later n whole each from p =
 
 module _ (role : Role) (limits : Limits) (bytes : List ℕ) (fs : List Frame) where
   -- A refusal, after the offset n.
-  of_refusal : (n : ℕ) (refusal : Refusal) (shown : List Shown) → IsRefused role limits bytes fs refusal.place refusal.reason → n < refusal.place + 1 → IsShownVerdict Frames role limits bytes fs (Refused refusal) shown → ArePlacedFrom bytes n shown
+  of_refusal : (n : ℕ) (refusal : Refusal) (shown : List Shown) → IsRefused role limits bytes fs refusal.offset refusal.reason → n < refusal.offset + 1 → IsShownVerdict Frames role limits bytes fs (Refused refusal) shown → ArePlacedFrom bytes n shown
   of_refusal n refusal shown refused later is =
       let seen = refused.is_evident.seen in
       let some = evidence_is_some role limits (unfinished fs) refusal.reason seen refused.is_evident.evidence in
       subst (λ (ss : List Shown). ArePlacedFrom bytes n ss) (sym is.is)
-      (one_more bytes n _ [] (stream fs) seen refused.is_evident.later refused.is_evident.whole (λ e. absurd e) refl some refused.is_evident.at_place later (refused_placed role limits bytes fs refusal refused is.evidence is.character is.is_evidence) (nothing_placed bytes (refusal.place + 1)))
+      (one_more bytes n _ [] (stream fs) seen refused.is_evident.later refused.is_evident.whole (λ e. absurd e) refl some refused.is_evident.at_offset later (refused_placed role limits bytes fs refusal refused is.evidence is.character is.is_evidence) (nothing_placed bytes (refusal.offset + 1)))
 
   -- What is shown of the verdict, after an offset that all evidence comes after.
-  of_verdict : (n : ℕ) (v : Verdict) (shown : List Shown) → IsVerdict role limits bytes fs v → IsShownVerdict Frames role limits bytes fs v shown → ((refusal : Refusal) → IsRefused role limits bytes fs refusal.place refusal.reason → n < refusal.place + 1) → ArePlacedFrom bytes n shown
+  of_verdict : (n : ℕ) (v : Verdict) (shown : List Shown) → IsVerdict role limits bytes fs v → IsShownVerdict Frames role limits bytes fs v shown → ((refusal : Refusal) → IsRefused role limits bytes fs refusal.offset refusal.reason → n < refusal.offset + 1) → ArePlacedFrom bytes n shown
   of_verdict n (Accepted summary) shown is shown_is later = subst (λ (ss : List Shown). ArePlacedFrom bytes n ss) (sym shown_is) (nothing_placed bytes n)
   of_verdict n (Cut summary) shown is shown_is later = subst (λ (ss : List Shown). ArePlacedFrom bytes n ss) (sym shown_is) (nothing_placed bytes n)
   of_verdict n (Refused refusal) shown is shown_is later = of_refusal n refusal shown is (later refusal is) shown_is
 
-  after_frames : (refusal : Refusal) → IsRefused role limits bytes fs refusal.place refusal.reason → length (stream fs) < refusal.place + 1
+  after_frames : (refusal : Refusal) → IsRefused role limits bytes fs refusal.offset refusal.reason → length (stream fs) < refusal.offset + 1
   after_frames refusal refused =
       let some = evidence_is_some role limits (unfinished fs) refusal.reason refused.is_evident.seen refused.is_evident.evidence in
-      let stops = refused.is_evident.at_place in
+      let stops = refused.is_evident.at_offset in
       omega (arith, some, stops)
 
   -- Evidence comes after a head that is evidence for nothing.
-  after_head : (rest : List ℕ) (whole : bytes ≡ stream fs ++ rest) (info : HeadInfo) → BeginsWithHead role limits fs rest info → (refusal : Refusal) → IsRefused role limits bytes fs refusal.place refusal.reason → (shown_head info).after < refusal.place + 1
+  after_head : (rest : List ℕ) (whole : bytes ≡ stream fs ++ rest) (info : HeadInfo) → BeginsWithHead role limits fs rest info → (refusal : Refusal) → IsRefused role limits bytes fs refusal.offset refusal.reason → (shown_head info).after < refusal.offset + 1
   after_head rest whole info b refusal refused =
       let e = refused.is_evident in
       let rests : b.head ++ b.following ≡ e.seen ++ e.later = sym b.whole ∙ append_cancel (stream fs) rest (e.seen ++ e.later) (sym whole ∙ e.whole) in
-      let stops = e.at_place in
-      let place = b.place in
+      let stops = e.at_offset in
+      let offset = b.offset in
       let head : length b.head ≡ length (head_bytes info.fin info.op info.key info.form info.len) = ap (λ (bs : List ℕ). length bs) b.encoded in
       elim (two_fronts b.head e.seen b.following e.later rests) [
-        | inl p ↦ let longer = more p.0 p.1 in omega (arith, longer, stops, place, head)
+        | inl p ↦ let longer = more p.0 p.1 in omega (arith, longer, stops, offset, head)
         | inr p ↦ absurd (b.has_no_evidence.none e.seen p.0 refusal.reason p.1 e.evidence)
       ]
     where
@@ -144,7 +144,7 @@ module _ (role : Role) (limits : Limits) (bytes : List ℕ) (fs : List Frame) wh
       let parts : bytes ≡ stream fs ++ (head_bytes info.fin info.op info.key info.form info.len ++ b.following) =
       whole ∙ ap (λ (bs : List ℕ). stream fs ++ bs) (b.whole ∙ ap (λ (bs : List ℕ). bs ++ b.following) b.encoded) in
       subst (λ (hs : List HeadInfo). ArePlacedFrom bytes n (map shown_head hs ++ shown)) (sym some.1.1)
-      (one_head bytes n info shown (stream fs) b.following parts b.place (encodable_begun role limits fs rest info b) (omega arith)
+      (one_head bytes n info shown (stream fs) b.following parts b.offset (encodable_begun role limits fs rest info b) (omega arith)
       (of_verdict (shown_head info).after v shown is shown_is (after_head rest whole info b)))
 
 module _ (role : Role) (limits : Limits) where

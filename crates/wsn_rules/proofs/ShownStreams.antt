@@ -171,9 +171,9 @@ module _ (role : Role) (limits : Limits) where
   module _ (detail : Detail) where
     one_refusal_shown : (bytes : List ℕ) (fs : List Frame) (refusal : Refusal) (shown other : List Shown) → IsShownRefusal detail role limits bytes fs refusal shown → IsShownRefusal detail role limits bytes fs refusal other → shown ≡ other
     one_refusal_shown bytes fs refusal shown other p q =
-        let same = one_evidence fs refusal.reason (drop (length (stream fs)) (take (refusal.place + 1) bytes)) p.evidence q.evidence p.character q.character p.is_evidence q.is_evidence in
-        p.is ∙ ap (λ (bs : List ℕ). shown_after (refusal.place + 1) (interrupted detail fs ++ RefusedFrame (length (stream fs)) refusal bs p.character ∷ [])) same.0
-        ∙ ap (λ (c : Option BadCharacter). shown_after (refusal.place + 1) (interrupted detail fs ++ RefusedFrame (length (stream fs)) refusal q.evidence c ∷ [])) same.1 ∙ sym q.is
+        let same = one_evidence fs refusal.reason (drop (length (stream fs)) (take (refusal.offset + 1) bytes)) p.evidence q.evidence p.character q.character p.is_evidence q.is_evidence in
+        p.is ∙ ap (λ (bs : List ℕ). shown_after (refusal.offset + 1) (interrupted detail fs ++ RefusedFrame (length (stream fs)) refusal bs p.character ∷ [])) same.0
+        ∙ ap (λ (c : Option BadCharacter). shown_after (refusal.offset + 1) (interrupted detail fs ++ RefusedFrame (length (stream fs)) refusal q.evidence c ∷ [])) same.1 ∙ sym q.is
 
     one_of_verdict : (bytes : List ℕ) (fs : List Frame) (v : Verdict) (shown other : List Shown) → IsShownVerdict detail role limits bytes fs v shown → IsShownVerdict detail role limits bytes fs v other → shown ≡ other
     one_of_verdict bytes fs (Accepted s) shown other p q = p ∙ sym q
@@ -194,7 +194,7 @@ module _ (role : Role) (limits : Limits) where
   no_event_of_verdict bytes fs (Cut s) shown p = ap events_shown p
   no_event_of_verdict bytes fs (Refused r) shown p =
       let refused = RefusedFrame (length (stream fs)) r p.evidence p.character ∷ [] in
-      ap events_shown p.is ∙ events_after_are (r.place + 1) (open_items fs (Some 0) ++ refused)
+      ap events_shown p.is ∙ events_after_are (r.offset + 1) (open_items fs (Some 0) ++ refused)
       ∙ flat_map-append event_in (open_items fs (Some 0)) refused ∙ ap (λ (es : List MeantEvent). es ++ []) (no_open_event fs (Some 0))
 
   pub events_are_meaning : (bytes : List ℕ) (fs : List Frame) (v : Verdict) (shown : List Shown) → IsVerdict role limits bytes fs v → IsShownStream Events role limits bytes shown → events_shown shown ≡ meaning fs
@@ -280,10 +280,10 @@ module _ (role : Role) (limits : Limits) where
       (all_mapped (λ n. n ≤ length bytes) are.0 (heads_in_bytes role limits bytes fs are.0 are.1))
 
   -- After a refusal it stays the same.
-  pub frames_stay : (detail : Detail) (bytes more : List ℕ) (fs : List Frame) (r : Refusal) (shown : List Shown) → IsRefused role limits bytes fs r.place r.reason → AreShownFrames detail role limits bytes fs shown
+  pub frames_stay : (detail : Detail) (bytes more : List ℕ) (fs : List Frame) (r : Refusal) (shown : List Shown) → IsRefused role limits bytes fs r.offset r.reason → AreShownFrames detail role limits bytes fs shown
       → AreShownFrames detail role limits (bytes ++ more) fs shown
   frames_stay Events bytes more fs r shown refused are = are
-  frames_stay Frames bytes more fs r shown refused are = (are.0, heads_stay role limits bytes more fs r.place r.reason are.0 refused are.1, are.2)
+  frames_stay Frames bytes more fs r shown refused are = (are.0, heads_stay role limits bytes more fs r.offset r.reason are.0 refused are.1, are.2)
 
   frames_go_on : (detail : Detail) (bytes more : List ℕ) (fs extra : List Frame) (shown longer : List Shown) → AreAll role limits bytes fs → AreAll role limits (bytes ++ more) (fs ++ extra)
       → AreShownFrames detail role limits bytes fs shown → AreShownFrames detail role limits (bytes ++ more) (fs ++ extra) longer → length (stream fs) ≤ length bytes → ShowsMore bytes shown longer
@@ -308,7 +308,7 @@ module _ (role : Role) (limits : Limits) where
   module _ (detail : Detail) where
     -- Nothing is shown of the verdict, since the bytes aren't refused: the longer stream continues the frames.
     unrefused_goes_on : (bytes more : List ℕ) (shown longer : List Shown) (p : IsShownStream detail role limits bytes shown) (q : IsShownStream detail role limits (bytes ++ more) longer) → p.of_verdict ≡ []
-        → ((place : ℕ) (reason : Reason) → IsRefused role limits bytes q.frames place reason → ⊥) → ShowsMore bytes shown longer
+        → ((offset : ℕ) (reason : Reason) → IsRefused role limits bytes q.frames offset reason → ⊥) → ShowsMore bytes shown longer
     unrefused_goes_on bytes more shown longer p q none unrefused =
         let a = all_of_verdict role limits bytes p.frames p.verdict p.is_verdict in
         let b = all_of_verdict role limits (bytes ++ more) q.frames q.verdict q.is_verdict in
@@ -331,24 +331,24 @@ module _ (role : Role) (limits : Limits) where
         of_verdict_beyond (Accepted s) is e = subst (λ (ss : List Shown). AllByRecursion (λ (s : Shown). length bytes < s.after) ss) (sym e) tt
         of_verdict_beyond (Cut s) is e = subst (λ (ss : List Shown). AllByRecursion (λ (s : Shown). length bytes < s.after) ss) (sym e) tt
         of_verdict_beyond (Refused r) is e =
-            elim (cases_lt (length bytes) (r.place + 1)) [
-              | inl past ↦ subst (λ (ss : List Shown). AllByRecursion (λ (s : Shown). length bytes < s.after) ss) (sym e.is) (all_after (λ n. length bytes < n) (r.place + 1) _ past)
-              | inr inside ↦ absurd (unrefused r.place r.reason (refused_alike role limits q.frames (bytes ++ more) bytes r.place r.reason (sym (take-append-le (r.place + 1) bytes more inside)) is))
+            elim (cases_lt (length bytes) (r.offset + 1)) [
+              | inl past ↦ subst (λ (ss : List Shown). AllByRecursion (λ (s : Shown). length bytes < s.after) ss) (sym e.is) (all_after (λ n. length bytes < n) (r.offset + 1) _ past)
+              | inr inside ↦ absurd (unrefused r.offset r.reason (refused_alike role limits q.frames (bytes ++ more) bytes r.offset r.reason (sym (take-append-le (r.offset + 1) bytes more inside)) is))
             ]
 
     -- A refusal is all that is shown, whatever follows.
-    refused_goes_on : (bytes more : List ℕ) (shown longer : List Shown) (fs : List Frame) (r : Refusal) → IsRefused role limits bytes fs r.place r.reason → (p : IsShownStream detail role limits bytes shown) → IsShownStream detail role limits (bytes ++ more) longer → ShowsMore bytes shown longer
+    refused_goes_on : (bytes more : List ℕ) (shown longer : List Shown) (fs : List Frame) (r : Refusal) → IsRefused role limits bytes fs r.offset r.reason → (p : IsShownStream detail role limits bytes shown) → IsShownStream detail role limits (bytes ++ more) longer → ShowsMore bytes shown longer
     refused_goes_on bytes more shown longer fs r refused p q =
-        let place = place_within role limits fs bytes r.place r.reason refused.is_evident in
+        let offset = place_within role limits fs bytes r.offset r.reason refused.is_evident in
         let same = one_verdict role limits bytes p.frames fs p.verdict (Refused r) p.is_verdict refused in
         let moved : IsShownRefusal detail role limits bytes fs r p.of_verdict =
         subst (λ (v : Verdict). IsShownVerdict detail role limits bytes fs v p.of_verdict) same.1 (subst (λ (gs : List Frame). IsShownVerdict detail role limits bytes gs p.verdict p.of_verdict) same.0 p.is_of_verdict) in
         let of_frames = subst (λ (gs : List Frame). AreShownFrames detail role limits bytes gs p.of_frames) same.0 p.are_of_frames in
-        let front = take-append-le (r.place + 1) bytes more place in
+        let front = take-append-le (r.offset + 1) bytes more offset in
         let as_longer : IsShownStream detail role limits (bytes ++ more) shown = record {
           frames = fs;
           verdict = Refused r;
-          is_verdict = stays_refused role limits fs bytes more r.place r.reason refused;
+          is_verdict = stays_refused role limits fs bytes more r.offset r.reason refused;
           of_frames = p.of_frames;
           are_of_frames = frames_stay detail bytes more fs r p.of_frames refused of_frames;
           of_verdict = p.of_verdict;
@@ -369,7 +369,7 @@ module _ (role : Role) (limits : Limits) where
               subst (λ (ss : List Shown). AllByRecursion (λ (s : Shown). s.after ≤ length bytes) ss) (sym p.all)
               (all_append (λ (s : Shown). s.after ≤ length bytes) p.of_frames p.of_verdict
               (items_within detail bytes fs p.of_frames before of_frames)
-              (subst (λ (ss : List Shown). AllByRecursion (λ (s : Shown). s.after ≤ length bytes) ss) (sym moved.is) (all_after (λ n. n ≤ length bytes) (r.place + 1) _ place)));
+              (subst (λ (ss : List Shown). AllByRecursion (λ (s : Shown). s.after ≤ length bytes) ss) (sym moved.is) (all_after (λ n. n ≤ length bytes) (r.offset + 1) _ offset)));
           past = tt;
         }
 
@@ -378,20 +378,20 @@ module _ (role : Role) (limits : Limits) where
         refused_goes_on bytes more shown longer p.frames r (subst (λ (v : Verdict). IsVerdict role limits bytes p.frames v) e p.is_verdict) p q
     goes_on_by bytes more shown longer p q (Accepted s) e =
         unrefused_goes_on bytes more shown longer p q (subst (λ (v : Verdict). IsShownVerdict detail role limits bytes p.frames v p.of_verdict) e p.is_of_verdict)
-        (λ place reason refused.
-        let same = one_verdict role limits bytes p.frames q.frames p.verdict (Refused (record { place = place; reason = reason })) p.is_verdict refused in
-        accepted_no_refusal s place reason (sym e ∙ same.1))
+        (λ offset reason refused.
+        let same = one_verdict role limits bytes p.frames q.frames p.verdict (Refused (record { offset = offset; reason = reason })) p.is_verdict refused in
+        accepted_no_refusal s offset reason (sym e ∙ same.1))
       where
-        accepted_no_refusal : (s : Summary) (place : ℕ) (reason : Reason) → Accepted s ≡ Refused (record { place = place; reason = reason }) → ⊥
-        accepted_no_refusal s place reason e = cc
+        accepted_no_refusal : (s : Summary) (offset : ℕ) (reason : Reason) → Accepted s ≡ Refused (record { offset = offset; reason = reason }) → ⊥
+        accepted_no_refusal s offset reason e = cc
     goes_on_by bytes more shown longer p q (Cut s) e =
         unrefused_goes_on bytes more shown longer p q (subst (λ (v : Verdict). IsShownVerdict detail role limits bytes p.frames v p.of_verdict) e p.is_of_verdict)
-        (λ place reason refused.
-        let same = one_verdict role limits bytes p.frames q.frames p.verdict (Refused (record { place = place; reason = reason })) p.is_verdict refused in
-        cut_no_refusal s place reason (sym e ∙ same.1))
+        (λ offset reason refused.
+        let same = one_verdict role limits bytes p.frames q.frames p.verdict (Refused (record { offset = offset; reason = reason })) p.is_verdict refused in
+        cut_no_refusal s offset reason (sym e ∙ same.1))
       where
-        cut_no_refusal : (s : Summary) (place : ℕ) (reason : Reason) → Cut s ≡ Refused (record { place = place; reason = reason }) → ⊥
-        cut_no_refusal s place reason e = cc
+        cut_no_refusal : (s : Summary) (offset : ℕ) (reason : Reason) → Cut s ≡ Refused (record { offset = offset; reason = reason }) → ⊥
+        cut_no_refusal s offset reason e = cc
 
     pub shown_goes_on : (bytes more : List ℕ) (shown longer : List Shown) → IsShownStream detail role limits bytes shown → IsShownStream detail role limits (bytes ++ more) longer →
         (extra : List Shown) × (longer ≡ shown ++ extra) × AllByRecursion (λ (s : Shown). s.after ≤ length bytes) shown × AllByRecursion (λ (s : Shown). length bytes < s.after) extra

@@ -13,13 +13,13 @@ use Rattle.wsn_rules.specs.Summary.{ends_message}
 
 -- A byte of a stream, and its offset.
 pub record PlacedByte : Type 0 where
-  pub place : ℕ
+  pub offset : ℕ
   pub byte : ℕ
 
 -- Bytes in one piece, the first of them at this offset.
 abbrev pub placed : ℕ → List ℕ → List PlacedByte
-placed place [] = []
-placed place (b ∷ bytes) = record { place = place; byte = b } ∷ placed (place + 1) bytes
+placed offset [] = []
+placed offset (b ∷ bytes) = record { offset = offset; byte = b } ∷ placed (offset + 1) bytes
 
 -- The offset of its first byte in the stream, the place of that byte in the payload of the message, from 0, its bytes up
 -- to the offending one, and the end of the payload of the message in frames before the refused one.
@@ -33,14 +33,14 @@ pub record BadCharacter : Type 0 where
 
 -- The offset of the first byte after a head.
 abbrev pub payload_offset : HeadInfo → ℕ
-payload_offset info = info.place + length (head_bytes info.fin info.op info.key info.form info.len)
+payload_offset info = info.offset + length (head_bytes info.fin info.op info.key info.form info.len)
 
 -- The payloads of the data frames among these, the first of which is at this offset.
 abbrev pub placed_payloads : ℕ → List Frame → List PlacedByte
-placed_payloads place [] = []
-placed_payloads place (f ∷ fs) =
-    (if is_data f then placed (payload_offset (info_of place f)) f.payload else [])
-    ++ placed_payloads (place + length (frame_bytes f)) fs
+placed_payloads offset [] = []
+placed_payloads offset (f ∷ fs) =
+    (if is_data f then placed (payload_offset (info_of offset f)) f.payload else [])
+    ++ placed_payloads (offset + length (frame_bytes f)) fs
 
 -- The last n elements.
 abbrev pub last_of : {A : Type 0} → ℕ → List A → List A
@@ -60,7 +60,7 @@ message_payload fs info part = open_payload fs ++ placed (payload_offset info) p
 -- The offset of the first byte; 0 if there is none.
 abbrev pub first_offset : List PlacedByte → ℕ
 first_offset [] = 0
-first_offset (b ∷ bytes) = b.place
+first_offset (b ∷ bytes) = b.offset
 
 -- The bytes without their offsets.
 abbrev pub bytes_of : List PlacedByte → List ℕ

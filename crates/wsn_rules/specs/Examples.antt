@@ -19,7 +19,7 @@ pub data ShortVerdict : Type 0 where
 
 -- The abbreviated verdict agrees with the verdict.
 abbrev pub Abbreviates : ShortVerdict → Verdict → Type 0
-Abbreviates (RefusedAt place reason) (Refused refusal) = (refusal.place ≡ place) × (refusal.reason ≡ reason)
+Abbreviates (RefusedAt offset reason) (Refused refusal) = (refusal.offset ≡ offset) × (refusal.reason ≡ reason)
 Abbreviates (CutAt used) (Cut summary) = summary.used ≡ used
 Abbreviates (AcceptedTo used tail unfinished) (Accepted summary) =
     (summary.used ≡ used) × (summary.tail ≡ tail) × (summary.unfinished ≡ unfinished)

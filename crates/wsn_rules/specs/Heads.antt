@@ -11,12 +11,12 @@ use Rattle.wsn_rules.specs.Evidence.{HasNoEvidence}
 
 -- The head of a frame at this offset.
 abbrev pub info_of : ℕ → Frame → HeadInfo
-info_of place f = record { place = place; fin = f.fin; op = f.op; key = f.key; form = f.form; len = length f.payload }
+info_of offset f = record { offset = offset; fin = f.fin; op = f.op; key = f.key; form = f.form; len = length f.payload }
 
 -- The heads of frames, the first of which is at this offset.
 abbrev pub heads_from : ℕ → List Frame → List HeadInfo
-heads_from place [] = []
-heads_from place (f ∷ fs) = info_of place f ∷ heads_from (place + length (frame_bytes f)) fs
+heads_from offset [] = []
+heads_from offset (f ∷ fs) = info_of offset f ∷ heads_from (offset + length (frame_bytes f)) fs
 
 -- The heads of frames from the start of a stream.
 abbrev pub heads_of : List Frame → List HeadInfo
@@ -28,7 +28,7 @@ pub record BeginsWithHead (role : Role) (limits : Limits) (fs : List Frame) (res
   pub head : List ℕ
   pub following : List ℕ
   pub whole : rest ≡ head ++ following
-  pub place : info.place ≡ length (stream fs)
+  pub offset : info.offset ≡ length (stream fs)
   pub encoded : head ≡ head_bytes info.fin info.op info.key info.form info.len
   pub key : IfSome info.key IsKey
   pub form : FormFits info.form info.len

@@ -35,7 +35,7 @@ pub mod Reports
 pub mod BadCharacter
 pub mod ShownStream
 pub mod ShownEvents
-pub mod ShownPlaces
+pub mod ShownOffsets
 pub mod ShownCapture
 -- for the examples
 pub mod Examples

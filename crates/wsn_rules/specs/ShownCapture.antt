@@ -18,17 +18,25 @@ use Rattle.wsn_rules.specs.ShownStream.{Item, Shown, IsShownStream, IsLeftOver}
 abbrev pub IsDigit : ℕ → Type 0
 IsDigit b = (48 ≤ b) × (b ≤ 57)
 
--- Seconds: digits without a leading zero, a point, and one to nine digits.
+-- Digits without a leading zero, at least one.
+pub record IsWholePart (text : List ℕ) : Type 0 where
+  pub digits : AllByRecursion IsDigit text
+  pub some : 1 ≤ length text
+  pub no_leading_zero : (digit : ℕ) (following : List ℕ) → text ≡ 48 ∷ digit ∷ following → ⊥
+
+-- One to nine digits.
+pub record IsFractionalPart (text : List ℕ) : Type 0 where
+  pub digits : AllByRecursion IsDigit text
+  pub some : 1 ≤ length text
+  pub few : length text ≤ 9
+
+-- Seconds: the two parts, and a point between them.
 pub record IsSeconds (text : List ℕ) : Type 0 where
   pub whole : List ℕ
   pub fraction : List ℕ
   pub is : text ≡ whole ++ codes "." ++ fraction
-  pub whole_digits : AllByRecursion IsDigit whole
-  pub fraction_digits : AllByRecursion IsDigit fraction
-  pub some : 1 ≤ length whole
-  pub some_more : 1 ≤ length fraction
-  pub few : length fraction ≤ 9
-  pub no_leading_zero : (digit : ℕ) (following : List ℕ) → whole ≡ 48 ∷ digit ∷ following → ⊥
+  pub whole_is : IsWholePart whole
+  pub fraction_is : IsFractionalPart fraction
 
 -- The text of a line, without its CR, is a comment that gives this time.
 abbrev pub GivesTime : List ℕ → List ℕ → Type 0

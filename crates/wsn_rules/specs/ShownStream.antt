@@ -103,7 +103,7 @@ shown_of before (f ∷ fs) = shown_at before f ++ shown_of (before ++ f ∷ []) 
 -- What is shown of a frame by its head, with the head's last byte.
 abbrev pub shown_head : HeadInfo → Shown
 shown_head info = record {
-  after = info.place + length (head_bytes info.fin info.op info.key info.form info.len);
+  after = info.offset + length (head_bytes info.fin info.op info.key info.form info.len);
   item = Head info;
 }
 
@@ -136,10 +136,10 @@ pub record IsShownRefusal (detail : Detail) (role : Role) (limits : Limits) (byt
   pub evidence : List ℕ
   pub character : Option BadCharacter
   pub is_evidence :
-      IsShownEvidence role limits fs refusal.reason (drop (length (stream fs)) (take (refusal.place + 1) bytes)) evidence
+      IsShownEvidence role limits fs refusal.reason (drop (length (stream fs)) (take (refusal.offset + 1) bytes)) evidence
       character
   pub is :
-      shown ≡ shown_after (refusal.place + 1)
+      shown ≡ shown_after (refusal.offset + 1)
       (interrupted detail fs ++ RefusedFrame (length (stream fs)) refusal evidence character ∷ [])
 
 -- What is shown of a verdict, beside its frames.
@@ -195,7 +195,7 @@ frame_so_far info payload =
 abbrev pub items_of_part : List Frame → HeadInfo → List ℕ → List Item
 items_of_part fs info part =
     if is_control info.op
-    then open_items fs (Some 0) ++ Unfinished info.place (Control info.op part) 1 (Some (info.len - length part)) ∷ []
+    then open_items fs (Some 0) ++ Unfinished info.offset (Control info.op part) 1 (Some (info.len - length part)) ∷ []
     else open_item fs (unfinished fs ++ frame_so_far info part ∷ []) (Some (info.len - length part)) ∷ []
 
 -- What is left over if only a part of a head has come, or nothing.
@@ -219,7 +219,7 @@ IsLeftOf role limits bytes fs (Accepted summary) items =
 IsLeftOf role limits bytes fs (Cut summary) items =
     IsLeftOfRest role limits fs (drop (length (stream fs)) bytes) items
 IsLeftOf role limits bytes fs (Refused refusal) items =
-    items ≡ items_of_bytes Unread (refusal.place + 1) (drop (refusal.place + 1) bytes)
+    items ≡ items_of_bytes Unread (refusal.offset + 1) (drop (refusal.offset + 1) bytes)
 
 -- What is left over of a stream that ends with these bytes.
 pub record IsLeftOver (role : Role) (limits : Limits) (bytes : List ℕ) (items : List Item) : Type 0 where

@@ -16,26 +16,31 @@ use Rattle.wsn_rules.specs.Summary.{counted}
 -- ---- refused
 
 -- After the frames fs, the next frame's bytes up to the one at this offset are evidence for the reason.
-pub record IsEvidentAt (role : Role) (limits : Limits) (bytes : List ℕ) (fs : List Frame) (place : ℕ) (reason : Reason)
+pub record IsEvidentAt (role : Role) (limits : Limits) (bytes : List ℕ) (fs : List Frame) (offset : ℕ) (reason : Reason)
     : Type 0 where
   pub seen : List ℕ
   pub later : List ℕ
   pub whole : bytes ≡ stream fs ++ (seen ++ later)
-  pub at_place : place + 1 ≡ length (stream fs) + length seen
+  pub at_offset : offset + 1 ≡ length (stream fs) + length seen
   pub evidence : Evidence role limits (unfinished fs) reason seen
 
 -- The offset is earlier; or it is the same, and the number of the reason is not greater.
 abbrev pub ComesFirst : ℕ → Reason → ℕ → Reason → Type 0
-ComesFirst p r place reason = (p < place) ⊎ ((p ≡ place) × (number_of r ≤ number_of reason))
+ComesFirst p r offset reason = (p < offset) ⊎ ((p ≡ offset) × (number_of r ≤ number_of reason))
 
 -- After lawful frames without a Close there is evidence for the reason at this offset, and it has precedence over all
 -- other evidence.
-pub record IsRefused (role : Role) (limits : Limits) (bytes : List ℕ) (fs : List Frame) (place : ℕ) (reason : Reason)
+pub record IsRefused (role : Role) (limits : Limits) (bytes : List ℕ) (fs : List Frame) (offset : ℕ) (reason : Reason)
     : Type 0 where
   pub lawful : IsLawful role limits fs
   pub no_close : HasNoClose fs
-  pub is_evident : IsEvidentAt role limits bytes fs place reason
-  pub least : (p : ℕ) (r : Reason) → IsEvidentAt role limits bytes fs p r → ComesFirst place reason p r
+  pub is_evident : IsEvidentAt role limits bytes fs offset reason
+  pub least : (p : ℕ) (r : Reason) → IsEvidentAt role limits bytes fs p r → ComesFirst offset reason p r
+
+-- The bytes are not refused.
+abbrev pub IsUnrefused : Role → Limits → List ℕ → Type 0
+IsUnrefused role limits bytes =
+    (fs : List Frame) (offset : ℕ) (reason : Reason) → IsRefused role limits bytes fs offset reason → ⊥
 
 -- ---- cut
 
@@ -62,9 +67,9 @@ IsVerdict role limits bytes fs (Accepted summary) =
     IsAccepted role limits bytes fs × (summary ≡ counted fs (length (stream fs)) (length bytes - length (stream fs)))
 IsVerdict role limits bytes fs (Cut summary) =
     IsCut role limits bytes fs × (summary ≡ counted fs (length bytes) 0)
-IsVerdict role limits bytes fs (Refused refusal) = IsRefused role limits bytes fs refusal.place refusal.reason
+IsVerdict role limits bytes fs (Refused refusal) = IsRefused role limits bytes fs refusal.offset refusal.reason
 
 -- The bytes of which a verdict takes account: up to the offending byte, with it, or all.
 abbrev pub judged_bytes : Verdict → List ℕ → List ℕ
-judged_bytes (Refused refusal) bytes = take (refusal.place + 1) bytes
+judged_bytes (Refused refusal) bytes = take (refusal.offset + 1) bytes
 judged_bytes verdict bytes = bytes

@@ -29,13 +29,13 @@ pub fn payloads()
         ≡ placed 2 (0xe2 ∷ []) ++ placed 8 (0x82 ∷ []) }
     ensures with_a_part { message_payload
         (server_frame false Text (0xe2 ∷ 0x82 ∷ []) ∷ server_frame true Ping [] ∷ [])
-        (record { place = 6; fin = true; op = Continue; key = None; form = Shortest; len = 5 }) (0x20 ∷ [])
+        (record { offset = 6; fin = true; op = Continue; key = None; form = Shortest; len = 5 }) (0x20 ∷ [])
         ≡ placed 2 (0xe2 ∷ 0x82 ∷ []) ++ placed 8 (0x20 ∷ []) }
     ensures after_a_message { open_payload (server_frame true Text (codes "A") ∷ server_frame false Text (codes "B") ∷ [])
         ≡ placed 5 (codes "B") }
     ensures none_open { open_payload (server_frame true Text (codes "A") ∷ []) ≡ [] }
     ensures masked { message_payload []
-        (record { place = 0; fin = true; op = Text; key = Some (1 ∷ 2 ∷ 3 ∷ 4 ∷ []); form = Shortest; len = 5 }) (codes "Hi")
+        (record { offset = 0; fin = true; op = Text; key = Some (1 ∷ 2 ∷ 3 ∷ 4 ∷ []); form = Shortest; len = 5 }) (codes "Hi")
         ≡ placed 6 (codes "Hi") }
     ensures earlier { earlier_end
         (server_frame false Text (codes "ab") ∷ server_frame true Ping (codes "x") ∷ server_frame false Continue (codes "cd") ∷ [])
@@ -51,12 +51,12 @@ pub fn payloads()
 /// Only a text with a bad byte has a bad character.
 pub fn reasons()
     ensures text_bad { character_of TextBad []
-        (record { place = 7; fin = true; op = Text; key = None; form = Shortest; len = 5 }) (0xfc ∷ [])
+        (record { offset = 7; fin = true; op = Text; key = None; form = Shortest; len = 5 }) (0xfc ∷ [])
         ≡ Some (record { offset = 9; in_payload = 0; bytes = 0xfc ∷ []; earlier = [] }) }
     ensures text_cut { character_of TextCut []
-        (record { place = 7; fin = true; op = Text; key = None; form = Shortest; len = 1 }) (0xe2 ∷ [])
+        (record { offset = 7; fin = true; op = Text; key = None; form = Shortest; len = 1 }) (0xe2 ∷ [])
         ≡ None }
     ensures close_reason { character_of CloseReason []
-        (record { place = 7; fin = true; op = Text; key = None; form = Shortest; len = 3 }) (0xfc ∷ [])
+        (record { offset = 7; fin = true; op = Text; key = None; form = Shortest; len = 3 }) (0xfc ∷ [])
         ≡ None }
 {}

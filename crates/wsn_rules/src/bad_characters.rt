@@ -25,24 +25,24 @@ ghost use Rattle.wsn_rules.specs.ShownStream.Item.{RefusedFrame};
 pub fn law_bad_character()
     ensures text_bad { (detail : Detail) (role : Role) (limits : Limits) (bytes : List ℕ) (fs : List Frame)
         (refusal : Refusal) (shown : List Shown) →
-        IsBytes bytes → IsRefused role limits bytes fs refusal.place refusal.reason → refusal.reason ≡ TextBad →
+        IsBytes bytes → IsRefused role limits bytes fs refusal.offset refusal.reason → refusal.reason ≡ TextBad →
         IsShownRefusal detail role limits bytes fs refusal shown →
         (earlier : List Shown) × (evidence : List ℕ) × (character : BadCharacter)
         × (shown ≡ earlier ++ record {
-          after = refusal.place + 1;
+          after = refusal.offset + 1;
           item = RefusedFrame (length (stream fs)) refusal evidence (Some character);
         } ∷ [])
         × GoesWrongWith (payload_of (unfinished fs) ++ evidence) character
         × IsEarlierEnd (payload_of (unfinished fs)) character.earlier
         × (length character.bytes ≤ length evidence →
-        character.offset + length character.bytes ≡ refusal.place + 1)
+        character.offset + length character.bytes ≡ refusal.offset + 1)
         × (length evidence < length character.bytes → IsPayloadByte fs character.in_payload character.offset) }
     ensures other { (detail : Detail) (role : Role) (limits : Limits) (bytes : List ℕ) (fs : List Frame)
         (refusal : Refusal) (shown : List Shown) →
         ¬ (refusal.reason ≡ TextBad) → IsShownRefusal detail role limits bytes fs refusal shown →
         (earlier : List Shown) × (evidence : List ℕ)
         × (shown ≡ earlier ++ record {
-          after = refusal.place + 1;
+          after = refusal.offset + 1;
           item = RefusedFrame (length (stream fs)) refusal evidence None;
         } ∷ []) }
     ensures one { (payload : List ℕ) (character other : BadCharacter) →

@@ -71,8 +71,8 @@ pub fn sides()
     ensures accepted_so_far { (s : Summary) → side_of (verdicts.Accepted (record s { close = None })) false ≡ Running }
     ensures cut { (s : Summary) → side_of (verdicts.Cut s) true ≡ Cut }
     ensures cut_so_far { (s : Summary) → side_of (verdicts.Cut s) false ≡ Running }
-    ensures refused { (ended : Bool) → side_of (verdicts.Refused (record { place = 3; reason = CloseCode })) ended
-        ≡ Refused (record { place = 3; reason = CloseCode }) }
+    ensures refused { (ended : Bool) → side_of (verdicts.Refused (record { offset = 3; reason = CloseCode })) ended
+        ≡ Refused (record { offset = 3; reason = CloseCode }) }
 {}
 
 /// The status code that the other endpoint sees.
@@ -225,7 +225,7 @@ pub fn other_captures()
     ensures refused { IsReport greatest (codes "S c1" ∷ [])
         (record {
           client = Running;
-          server = Refused (record { place = 0; reason = ReservedBits });
+          server = Refused (record { offset = 0; reason = ReservedBits });
           first = None;
           echo = None;
           client_sees = Some 1006;
@@ -245,7 +245,7 @@ pub fn other_captures()
     ensures refused_after_a_close { IsReport greatest (codes "C 888000000000" ∷ codes "S 880203ec" ∷ codes "S." ∷ [])
         (record {
           client = Closed None;
-          server = Refused (record { place = 3; reason = CloseCode });
+          server = Refused (record { offset = 3; reason = CloseCode });
           first = Some Client;
           echo = None;
           client_sees = Some 1006;

@@ -7,7 +7,7 @@ use wsn_wire::{Form, LenForm, Op};
 #[derive(Clone, Copy, Debug, PartialEq, Eq)]
 pub struct HeadInfo {
     /// The offset of the frame's first byte, from 0.
-    pub place: u64,
+    pub offset: u64,
     /// FIN: the frame is the last one of its message, or a control frame.
     pub fin: bool,
     /// The opcode.

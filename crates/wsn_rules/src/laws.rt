@@ -36,18 +36,18 @@ pub fn law_unique()
 /// A refused input stays refused at the same offset for the same reason, whatever follows; so is every input with the
 /// same bytes up to that offset. No input that begins with those bytes has another verdict.
 pub fn law_stays_refused()
-    ensures longer { (role : Role) (limits : Limits) (bytes more : List ℕ) (fs : List Frame) (place : ℕ)
+    ensures longer { (role : Role) (limits : Limits) (bytes more : List ℕ) (fs : List Frame) (offset : ℕ)
         (reason : Reason) →
-        IsRefused role limits bytes fs place reason → IsRefused role limits (bytes ++ more) fs place reason }
-    ensures alike { (role : Role) (limits : Limits) (bytes other : List ℕ) (fs : List Frame) (place : ℕ)
+        IsRefused role limits bytes fs offset reason → IsRefused role limits (bytes ++ more) fs offset reason }
+    ensures alike { (role : Role) (limits : Limits) (bytes other : List ℕ) (fs : List Frame) (offset : ℕ)
         (reason : Reason) →
-        IsRefused role limits bytes fs place reason → take (place + 1) other ≡ take (place + 1) bytes →
-        IsRefused role limits other fs place reason }
-    ensures nothing_else { (role : Role) (limits : Limits) (bytes more : List ℕ) (fs gs : List Frame) (place : ℕ)
+        IsRefused role limits bytes fs offset reason → take (offset + 1) other ≡ take (offset + 1) bytes →
+        IsRefused role limits other fs offset reason }
+    ensures nothing_else { (role : Role) (limits : Limits) (bytes more : List ℕ) (fs gs : List Frame) (offset : ℕ)
         (reason : Reason) (verdict : Verdict) →
-        IsRefused role limits bytes fs place reason →
-        IsVerdict role limits (take (place + 1) bytes ++ more) gs verdict →
-        (gs ≡ fs) × (verdict ≡ Refused (record { place = place; reason = reason })) }
+        IsRefused role limits bytes fs offset reason →
+        IsVerdict role limits (take (offset + 1) bytes ++ more) gs verdict →
+        (gs ≡ fs) × (verdict ≡ Refused (record { offset = offset; reason = reason })) }
 {}
 
 /// The frames of a longer input continue those of a prefix, and so does their meaning. Lawful frames that an input
@@ -69,12 +69,12 @@ pub fn law_longer_input()
 pub fn law_the_table_is_whole()
     ensures whole { (role : Role) (limits : Limits) (fs : List Frame) (bytes : List ℕ) →
         InRange limits → IsLawful role limits fs → HasLayout bytes →
-        ((place : ℕ) (reason : Reason) → ¬ (IsEvidentAt role limits (stream fs ++ bytes) fs place reason)) →
+        ((offset : ℕ) (reason : Reason) → ¬ (IsEvidentAt role limits (stream fs ++ bytes) fs offset reason)) →
         (f : Frame) × LawAt role limits fs f × (frame_bytes f ≡ bytes) }
-    ensures sound { (role : Role) (limits : Limits) (fs gs : List Frame) (f : Frame) (following : List ℕ) (place : ℕ)
+    ensures sound { (role : Role) (limits : Limits) (fs gs : List Frame) (f : Frame) (following : List ℕ) (offset : ℕ)
         (reason : Reason) →
         IsLawful role limits (fs ++ f ∷ gs) →
-        ¬ (IsEvidentAt role limits (stream fs ++ (frame_bytes f ++ following)) fs place reason) }
+        ¬ (IsEvidentAt role limits (stream fs ++ (frame_bytes f ++ following)) fs offset reason) }
 {}
 
 /// The frames of a verdict are lawful, and the input begins with their bytes.

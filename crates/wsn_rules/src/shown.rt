@@ -18,7 +18,7 @@ ghost use Rattle.wsn_rules.specs.LeftOut.{events_without};
 ghost use Rattle.wsn_rules.specs.Reports.{IsReportOf};
 ghost use Rattle.wsn_rules.specs.Sides.{sent};
 ghost use Rattle.wsn_rules.specs.ShownStream.{Item, Shown, shown_after, IsShownStream, IsLeftOver, events_shown, heads_shown};
-ghost use Rattle.wsn_rules.specs.ShownPlaces.{AreInPlace, AreHeadsInPlace};
+ghost use Rattle.wsn_rules.specs.ShownOffsets.{AreInPlace, AreHeadsInPlace};
 ghost use Rattle.wsn_rules.specs.ShownEvents.{IsShownAt, ShowsEvent};
 ghost use Rattle.wsn_rules.specs.declared.report.Report.{Report};
 ghost use Rattle.wsn_rules.specs.ShownCapture.{beyond, ShownLine, IsTimeAfter, AreShownAfter, items_with_bytes, IsTimeOfLast, LeftAtEnd, IsShownCapture};
@@ -54,7 +54,7 @@ pub fn law_shown_event()
 /// frames, their number and the number of bytes that it lacks are exact; a refused frame ends with the offending byte and
 /// shows the evidence in its bytes. Each is shown with its last byte, in order; a message that isn't complete, with what
 /// interrupts it. In the detail of frames each head is at its offset, and shown with its last byte.
-pub fn law_shown_places()
+pub fn law_shown_offsets()
     ensures events { (role : Role) (limits : Limits) (bytes : List ℕ) (shown : List Shown) (left : List Item) →
         IsShownStream Events role limits bytes shown → IsLeftOver role limits bytes left →
         AreInPlace bytes (shown ++ shown_after (length bytes) left) }

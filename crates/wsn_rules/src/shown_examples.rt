@@ -39,35 +39,35 @@ pub fn of_heads()
         (server_frame false Text (codes "Hel") ∷ server_frame true Ping [] ∷ server_frame true Continue (codes "lo") ∷ []))
         ≡ record {
           after = 2;
-          item = Head (record { place = 0; fin = false; op = Text; key = None; form = Shortest; len = 3 });
+          item = Head (record { offset = 0; fin = false; op = Text; key = None; form = Shortest; len = 3 });
         }
         ∷ record {
           after = 7;
-          item = Head (record { place = 5; fin = true; op = Ping; key = None; form = Shortest; len = 0 });
+          item = Head (record { offset = 5; fin = true; op = Ping; key = None; form = Shortest; len = 0 });
         }
         ∷ record {
           after = 9;
-          item = Head (record { place = 7; fin = true; op = Continue; key = None; form = Shortest; len = 2 });
+          item = Head (record { offset = 7; fin = true; op = Continue; key = None; form = Shortest; len = 2 });
         } ∷ [] }
     ensures masked { shown_head
-        (record { place = 3; fin = true; op = Binary; key = Some (1 ∷ 2 ∷ 3 ∷ 4 ∷ []); form = Two; len = 100 })
+        (record { offset = 3; fin = true; op = Binary; key = Some (1 ∷ 2 ∷ 3 ∷ 4 ∷ []); form = Two; len = 100 })
         ≡ record {
           after = 11;
           item =
-              Head (record { place = 3; fin = true; op = Binary; key = Some (1 ∷ 2 ∷ 3 ∷ 4 ∷ []); form = Two; len = 100 });
+              Head (record { offset = 3; fin = true; op = Binary; key = Some (1 ∷ 2 ∷ 3 ∷ 4 ∷ []); form = Two; len = 100 });
         } }
 {}
 
 /// What is left over of a stream that ends inside a frame or a message.
 pub fn left_over()
     ensures first_frame { items_of_part []
-        (record { place = 0; fin = true; op = Binary; key = None; form = Shortest; len = 200 }) (0 ∷ 255 ∷ [])
+        (record { offset = 0; fin = true; op = Binary; key = None; form = Shortest; len = 200 }) (0 ∷ 255 ∷ [])
         ≡ Unfinished 0 (Message kind.Binary (0 ∷ 255 ∷ [])) 1 (Some 198) ∷ [] }
     ensures next_frame { items_of_part (server_frame false Text (codes "A") ∷ [])
-        (record { place = 3; fin = true; op = Continue; key = None; form = Shortest; len = 5 }) (codes "BC")
+        (record { offset = 3; fin = true; op = Continue; key = None; form = Shortest; len = 5 }) (codes "BC")
         ≡ Unfinished 0 (Message kind.Text (codes "ABC")) 2 (Some 3) ∷ [] }
     ensures control { items_of_part (server_frame false Text (codes "A") ∷ [])
-        (record { place = 3; fin = true; op = Ping; key = None; form = Shortest; len = 2 }) (codes "p")
+        (record { offset = 3; fin = true; op = Ping; key = None; form = Shortest; len = 2 }) (codes "p")
         ≡ Unfinished 0 (Message kind.Text (codes "A")) 1 (Some 0) ∷ Unfinished 3 (Control Ping (codes "p")) 1 (Some 1) ∷ [] }
     ensures between_frames { items_of_head (server_frame false Text (codes "A") ∷ []) []
         ≡ Unfinished 0 (Message kind.Text (codes "A")) 1 (Some 0) ∷ [] }

@@ -4,7 +4,7 @@ use wsn_wire::Reason;
 #[derive(Clone, Copy, Debug, PartialEq, Eq)]
 pub struct Refusal {
     /// The offset of the offending byte, from 0.
-    pub place: u64,
+    pub offset: u64,
     /// The reason.
     pub reason: Reason,
 }

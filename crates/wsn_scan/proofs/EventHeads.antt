@@ -21,11 +21,11 @@ use Rattle.wsn_scan.proofs.HeadsReported.{heads_push}
 use Rattle.wsn_scan.proofs.FrameEnds.{frames_few}
 use Rattle.wsn_scan.proofs.FedChunks.{takes_none}
 
-heads_from-append : (place : ℕ) (fs gs : List Frame) (next : ℕ) → place + length (stream fs) ≡ next → heads_from place (fs ++ gs) ≡ heads_from place fs ++ heads_from next gs
-heads_from-append place [] gs next is = let same : place ≡ next = omega (arith, is) in ap (λ (n : ℕ). heads_from n gs) same
-heads_from-append place (f ∷ fs) gs next is =
+heads_from-append : (offset : ℕ) (fs gs : List Frame) (next : ℕ) → offset + length (stream fs) ≡ next → heads_from offset (fs ++ gs) ≡ heads_from offset fs ++ heads_from next gs
+heads_from-append offset [] gs next is = let same : offset ≡ next = omega (arith, is) in ap (λ (n : ℕ). heads_from n gs) same
+heads_from-append offset (f ∷ fs) gs next is =
     let size : length (stream (f ∷ fs)) ≡ length (frame_bytes f) + length (stream fs) = length-append (frame_bytes f) (stream fs) in
-    ap (λ (heads : List HeadInfo). info_of place f ∷ heads) (heads_from-append (place + length (frame_bytes f)) fs gs next (omega (arith, is, size)))
+    ap (λ (heads : List HeadInfo). info_of offset f ∷ heads) (heads_from-append (offset + length (frame_bytes f)) fs gs next (omega (arith, is, size)))
 
 -- frames without a byte are none
 none_of : (fs : List Frame) → length (stream fs) ≡ 0 → fs ≡ []
@@ -62,7 +62,7 @@ module _ (old new : Scan) (chunk after : List ℕ) (n : ℕ) (idle : IsIdle old)
     pub more : List Frame
     pub spells : take n chunk ≡ stream more
     pub spellable : AreSpellable more
-    pub place : length bytes ≡ length (stream fs)
+    pub offset : length bytes ≡ length (stream fs)
     pub has_scanned : HasScanned role limits new (bytes ++ take n chunk) (fs ++ more) [] BetweenFrames
 
   more_of : (role : Role) (limits : Limits) (bytes since : List ℕ) (fs : List Frame) (at : Position) → HasScanned role limits old bytes fs since at → IsMore role limits bytes fs × (at ≡ BetweenFrames)
@@ -78,22 +78,22 @@ module _ (old new : Scan) (chunk after : List ℕ) (n : ℕ) (idle : IsIdle old)
           more = on.0;
           spells = on.2;
           spellable = spellable_after fs on.0 (subst (λ (hs : List Frame). AreSpellable hs) on.1 second);
-          place = ap (λ (bs : List ℕ). length bs) before;
+          offset = ap (λ (bs : List ℕ). length bs) before;
           has_scanned = subst (λ (hs : List Frame). HasScanned role limits new (bytes ++ take n chunk) hs [] BetweenFrames) on.1 one.has_scanned;
         },
         is.2,
       )
 
   pub events_prefix : IsRunning old → (more : List HeadInfo) × ConsumesPrefix old new chunk n more
-  events_prefix running = (heads_from place first.more, prefix)
+  events_prefix running = (heads_from offset first.more, prefix)
     where
       first : IsMore running.role running.limits running.bytes running.taken.frames
       first = (more_of running.role running.limits running.bytes running.taken.since running.taken.frames running.taken.position running.taken.has_scanned).0
 
-      place : ℕ
-      place = length running.bytes
+      offset : ℕ
+      offset = length running.bytes
 
-      prefix : ConsumesPrefix old new chunk n (heads_from place first.more)
+      prefix : ConsumesPrefix old new chunk n (heads_from offset first.more)
       prefix role limits bytes heads taken =
           let fs = taken.frames in
           let both = more_of role limits bytes taken.since fs taken.position taken.has_scanned in
@@ -102,11 +102,11 @@ module _ (old new : Scan) (chunk after : List ℕ) (n : ℕ) (idle : IsIdle old)
           let input : limits.input ≡ running.limits.input = ap (λ (l : Limits). l.input) (sym taken.has_scanned.has_consumed.under ∙ running.taken.has_scanned.has_consumed.under) in
           let room = taken.has_scanned.has_consumed.room in
           let own_room = running.taken.has_scanned.has_consumed.room in
-          let sizes : length bytes ≡ place = omega (arith, room, own_room, input) in
-          let next : 0 + length (stream fs) ≡ place = omega (arith, here.place, sizes) in
+          let sizes : length bytes ≡ offset = omega (arith, room, own_room, input) in
+          let next : 0 + length (stream fs) ≡ offset = omega (arith, here.offset, sizes) in
           let before : heads ≡ heads_of fs = taken.heads_are ∙ ap (λ (p : Position). heads_of fs ++ begun_at p) both.1 ∙ append-nil (heads_of fs) in
-          let all : heads_of (fs ++ here.more) ≡ heads ++ heads_from place first.more =
-          heads_from-append 0 fs here.more place next ∙ (λ i. sym before i ++ heads_from place (same i)) in
+          let all : heads_of (fs ++ here.more) ≡ heads ++ heads_from offset first.more =
+          heads_from-append 0 fs here.more offset next ∙ (λ i. sym before i ++ heads_from offset (same i)) in
           record {
             frames = fs ++ here.more;
             since = [];
@@ -138,7 +138,7 @@ event_head old new chunk after found idle takes role limits bytes heads taken =
     let ends = one.ends in
     let before : heads ≡ heads_of fs = taken.heads_are ∙ ap (λ (p : Position). heads_of fs ++ begun_at p) is.2 ∙ append-nil (heads_of fs) in
     let head : info_found old.used found ≡ info_of (length (stream fs)) ends.frame =
-    λ i. record { place = has.has_consumed.used i; fin = sym ends.final i; op = sym ends.op_is i; key = sym ends.key_is i; form = sym ends.form_is i; len = sym ends.size i } in
+    λ i. record { offset = has.has_consumed.used i; fin = sym ends.final i; op = sym ends.op_is i; key = sym ends.key_is i; form = sym ends.form_is i; len = sym ends.size i } in
     record {
       frames = fs ++ ends.frame ∷ [];
       since = [];

@@ -46,7 +46,7 @@ event_part old new chunk after found idle takes some fits role limits bytes rest
     let ends = one.ends in
     let part = whole_part (info_found old.used found) found.size in
     let head : info_found old.used found ≡ info_of (length (stream fs)) ends.frame =
-    λ i. record { place = has.has_consumed.used i; fin = sym ends.final i; op = sym ends.op_is i; key = sym ends.key_is i; form = sym ends.form_is i; len = sym ends.size i } in (
+    λ i. record { offset = has.has_consumed.used i; fin = sym ends.final i; op = sym ends.op_is i; key = sym ends.key_is i; form = sym ends.form_is i; len = sym ends.size i } in (
       record {
         frames = fs ++ ends.frame ∷ [];
         since = [];

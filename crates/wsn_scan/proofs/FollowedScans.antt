@@ -20,7 +20,7 @@ use Rattle.wsn_rules.specs.BadCharacter.{payload_offset}
 use Rattle.wsn_rules.specs.Heads.{heads_of, info_of, BeginsWithHead, IsBegun, AreHeads}
 use Rattle.wsn_rules.specs.Lawful.{IsLawful}
 use Rattle.wsn_rules.specs.ShownStream.{frame_so_far}
-use Rattle.wsn_rules.specs.Verdict.{IsVerdict}
+use Rattle.wsn_rules.specs.Verdict.{IsVerdict, IsUnrefused}
 use Rattle.wsn_rules.proofs.Groups.{group_of_lawful}
 use Rattle.wsn_rules.proofs.MessageText.{of_text_from_group, opcode_of_data, text_of_push}
 use Rattle.wsn_rules.proofs.Prefixes.{append_cancel}
@@ -40,7 +40,6 @@ use Rattle.wsn_scan.specs.declared.stage.Stage.TheVariants as stages
 use Rattle.wsn_scan.specs.declared.scan.Scan.{Scan}
 use Rattle.wsn_scan.specs.Feeding.{HasScannedBytes}
 use Rattle.wsn_scan.specs.FollowedScans.{HasFollowed, IsCall, IsTaken}
-use Rattle.wsn_scan.specs.Judging.{IsUnrefused}
 use Rattle.wsn_scan.specs.Parts.{IsPart, IsPartAt, Finds, Consumes}
 use Rattle.wsn_scan.specs.Positions.{Position, BetweenFrames, InFrame, begun_at}
 use Rattle.wsn_scan.specs.Scans.{HasScanned, IsAt, IsReachedBy, IsRefusedThere, refusal_in, refusal_at}
@@ -294,8 +293,8 @@ module _ (role : Role) (limits : Limits) where
             let now = follows old new chunk after n taken.Part part came done at rest h call (λ same. cc) in
             let all = came ++ take n chunk in
             let size = size_in_frame new all reach.frames reach.position reach.since now part.head payload g.1 in
-            let place = (in_frame new all reach.frames reach.position reach.since now part.head payload g.1).begins.place in
-            omega (arith, size, place, same_size, ap (λ (gs : List Frame). length (stream gs)) g.0)
+            let offset = (in_frame new all reach.frames reach.position reach.since now part.head payload g.1).begins.offset in
+            omega (arith, size, offset, same_size, ap (λ (gs : List Frame). length (stream gs)) g.0)
 
     taken_whole : IsTaken role limits done rest reach.found.before part (drop part.start (take n after)) (take n chunk) reach.frames reach.position reach.since
     unfolding reach reached

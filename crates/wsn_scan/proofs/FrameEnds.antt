@@ -82,8 +82,8 @@ pub record IsWhole (role : Role) (limits : Limits) (fs : List Frame) (head : Hea
   pub length_is : head.len ≡ length frame.payload
 
 -- what is reported of the frame is what its head says
-info_whole : (place : ℕ) (role : Role) (limits : Limits) (fs : List Frame) (head : Head) (wire rest : List ℕ) (w : IsWhole role limits fs head wire rest) → info_of place w.frame ≡ info_at place head
-info_whole place role limits fs head wire rest w = λ i. record { place = place; fin = w.fin_is i; op = w.op_is i; key = w.key_is i; form = w.form_is i; len = sym w.length_is i }
+info_whole : (offset : ℕ) (role : Role) (limits : Limits) (fs : List Frame) (head : Head) (wire rest : List ℕ) (w : IsWhole role limits fs head wire rest) → info_of offset w.frame ≡ info_at offset head
+info_whole offset role limits fs head wire rest w = λ i. record { offset = offset; fin = w.fin_is i; op = w.op_is i; key = w.key_is i; form = w.form_is i; len = sym w.length_is i }
 
 module _ (role : Role) (limits : Limits) (rest wire : List ℕ) (fs : List Frame) (head : Head) (check : PayloadCheck)
     (in_range : InRange limits) (lawful_so_far : IsLawful role limits fs) (in_bytes : IsBytes rest) (holds : HoldsPayload role limits (unfinished fs) head check wire rest) (all : length wire ≡ head.len) where

@@ -29,13 +29,13 @@ use Rattle.wsn_frame.proofs.HeadsAtOnce.{no_items}
 
 -- ---- whole frames
 
-heads_from_push : (place : ℕ) (fs : List Frame) (f : Frame) → heads_from place (fs ++ f ∷ []) ≡ heads_from place fs ++ info_of (place + length (stream fs)) f ∷ []
-heads_from_push place [] f = let here : place ≡ place + 0 = omega arith in ap (λ (n : ℕ). info_of n f ∷ []) here
-heads_from_push place (g ∷ fs) f =
-    let next = place + length (frame_bytes g) in
+heads_from_push : (offset : ℕ) (fs : List Frame) (f : Frame) → heads_from offset (fs ++ f ∷ []) ≡ heads_from offset fs ++ info_of (offset + length (stream fs)) f ∷ []
+heads_from_push offset [] f = let here : offset ≡ offset + 0 = omega arith in ap (λ (n : ℕ). info_of n f ∷ []) here
+heads_from_push offset (g ∷ fs) f =
+    let next = offset + length (frame_bytes g) in
     let size : length (stream (g ∷ fs)) ≡ length (frame_bytes g) + length (stream fs) = length-append (frame_bytes g) (stream fs) in
-    let same : next + length (stream fs) ≡ place + length (stream (g ∷ fs)) = omega (arith, size) in
-    ap (λ (heads : List HeadInfo). info_of place g ∷ heads) (heads_from_push next fs f ∙ ap (λ (n : ℕ). heads_from next fs ++ info_of n f ∷ []) same)
+    let same : next + length (stream fs) ≡ offset + length (stream (g ∷ fs)) = omega (arith, size) in
+    ap (λ (heads : List HeadInfo). info_of offset g ∷ heads) (heads_from_push next fs f ∙ ap (λ (n : ℕ). heads_from next fs ++ info_of n f ∷ []) same)
 
 pub heads_push : (fs : List Frame) (f : Frame) → heads_of (fs ++ f ∷ []) ≡ heads_of fs ++ info_of (length (stream fs)) f ∷ []
 heads_push fs f = let same : 0 + length (stream fs) ≡ length (stream fs) = omega arith in heads_from_push 0 fs f ∙ ap (λ (n : ℕ). heads_of fs ++ info_of n f ∷ []) same
@@ -134,7 +134,7 @@ head_begins_at role limits fs head bytes following rest h has_no_evidence whole 
         head = bytes;
         following = following;
         whole = whole;
-        place = refl;
+        offset = refl;
         encoded = head_encoded role limits fs head bytes h has_no_evidence;
         key = h.of_four;
         form = subst (λ (n : ℕ). FormFits (encoded_form head.encoded head.len) n) is.length_is (subst (λ (g : Form). FormFits g (length f.payload)) is.form_is is.encodable.form);
@@ -216,7 +216,7 @@ refused_begins_none role limits fs front all byte reason is none is_evident info
     ]
   where
     before : (left : List ℕ) → front ≡ b.head ++ left → BeginsWithHead role limits fs front info
-    before left whole = record { head = b.head; following = left; whole = whole; place = b.place; encoded = b.encoded; key = b.key; form = b.form; size = b.size; has_no_evidence = b.has_no_evidence }
+    before left whole = record { head = b.head; following = left; whole = whole; offset = b.offset; encoded = b.encoded; key = b.key; form = b.form; size = b.size; has_no_evidence = b.has_no_evidence }
 
     of : (more : List ℕ) → b.head ≡ front ++ more → byte ∷ [] ≡ more ++ b.following → ⊥
     of [] head_is last = none info (before [] (sym (append-nil front) ∙ sym head_is ∙ sym (append-nil b.head)))
@@ -250,7 +250,7 @@ begun_stays role limits fs rest later reason begun is_evident (inr (inl none)) =
     no_head info b =
         elim (two_fronts rest b.head later b.following b.whole) [
           | inl p ↦ b.has_no_evidence.none rest p.0 reason p.1 is_evident
-          | inr p ↦ none.2 info (record { head = b.head; following = p.0; whole = p.1; place = b.place; encoded = b.encoded; key = b.key; form = b.form; size = b.size; has_no_evidence = b.has_no_evidence })
+          | inr p ↦ none.2 info (record { head = b.head; following = p.0; whole = p.1; offset = b.offset; encoded = b.encoded; key = b.key; form = b.form; size = b.size; has_no_evidence = b.has_no_evidence })
         ]
 
 -- A lawful frame's bytes begin with its head.
@@ -263,7 +263,7 @@ frame_begins role limits fs f gs following lawful =
       head = head;
       following = wire ++ following;
       whole = append_assoc head wire following;
-      place = refl;
+      offset = refl;
       encoded = refl;
       key = encodable.key;
       form = encodable.form;

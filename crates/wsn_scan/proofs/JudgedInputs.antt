@@ -13,13 +13,13 @@ use Rattle.wsn_scan.specs.declared.scan.Scan.{Scan}
 use Rattle.wsn_io.specs.declared.stop.Stop.{Stop}
 use Rattle.wsn_io.specs.declared.stop.Stop.TheVariants as stop
 use Rattle.wsn_rules.specs.Limits.{Limits}
-use Rattle.wsn_rules.specs.Verdict.{IsRefused, IsVerdict}
+use Rattle.wsn_rules.specs.Verdict.{IsRefused, IsVerdict, IsUnrefused}
 use Rattle.wsn_scan.specs.Scans.{HasScanned, room_of, refusal_in, refusal_judged}
 use Rattle.wsn_scan.specs.Positions.{BetweenFrames}
 use Rattle.wsn_scan.specs.Feeding.{HasScannedBytes, HasFed}
 use Rattle.wsn_scan.specs.declared.chunk_reader.ChunkReader.{ChunkReader}
 use Rattle.wsn_scan.specs.ChunkReaders.{HasCome, IsEndOf, IsHaltOf, StopsAt}
-use Rattle.wsn_scan.specs.Judging.{chunk_size, IsJudged, IsJudgedOf, IsReached, IsStopped, IsUnrefused}
+use Rattle.wsn_scan.specs.Judging.{chunk_size, IsJudged, IsJudgedOf, IsReached, IsStopped}
 use Rattle.wsn_rules.proofs.StaysRefused.{place_within}
 use Rattle.wsn_scan.proofs.ChunksSoFar.{received}
 use Rattle.wsn_scan.proofs.Unrefused.{unrefused, refused, unrefused_first, place_after}
@@ -87,12 +87,12 @@ module _ (role : Role) (limits : Limits) where
       refuses_input short refusal fed =
           let taken = fed.consumes role limits came heads read.taken in
           let here = (refused role limits next (came ++ take fed.count chunk) (heads ++ fed.heads) refusal taken (sym fed.answered)).refused in
-          let refused_all : (later : List ℕ) → IsRefused role limits (((came ++ chunk) ++ come.past) ++ later) taken.frames refusal.place refusal.reason =
-          λ later. subst (λ (bs : List ℕ). IsRefused role limits bs taken.frames refusal.place refusal.reason) (parted fed.count later) (here ((drop fed.count chunk ++ come.past) ++ later)) in
-          let following : length came ≤ refusal.place =
-          place_after role limits came (take fed.count chunk) taken.frames refusal.place refusal.reason none_refused
-          (subst (λ (bs : List ℕ). IsRefused role limits bs taken.frames refusal.place refusal.reason) (append-nil (came ++ take fed.count chunk)) (here [])) in
-          let before_end = place_within role limits taken.frames _ refusal.place refusal.reason (here []).is_evident in
+          let refused_all : (later : List ℕ) → IsRefused role limits (((came ++ chunk) ++ come.past) ++ later) taken.frames refusal.offset refusal.reason =
+          λ later. subst (λ (bs : List ℕ). IsRefused role limits bs taken.frames refusal.offset refusal.reason) (parted fed.count later) (here ((drop fed.count chunk ++ come.past) ++ later)) in
+          let following : length came ≤ refusal.offset =
+          place_after role limits came (take fed.count chunk) taken.frames refusal.offset refusal.reason none_refused
+          (subst (λ (bs : List ℕ). IsRefused role limits bs taken.frames refusal.offset refusal.reason) (append-nil (came ++ take fed.count chunk)) (here [])) in
+          let before_end = place_within role limits taken.frames _ refusal.offset refusal.reason (here []).is_evident in
           let evident_whole : length ((came ++ take fed.count chunk) ++ []) ≡ length (came ++ take fed.count chunk) = ap (λ (bs : List ℕ). length bs) (append-nil (came ++ take fed.count chunk)) in
           record {
             received = received limits old new after (came ++ chunk) come;
@@ -113,7 +113,7 @@ module _ (role : Role) (limits : Limits) where
     where
       by_verdict : (rest : List ℕ) → new.remaining ≡ Some rest → all ≡ judged.0 ++ rest → (v : Verdict) → IsReached role limits new judged.0 v → (fs : List Frame) × IsVerdict role limits all fs v
       by_verdict rest left is (Refused refusal) reached =
-          (reached.0, subst (λ (bs : List ℕ). IsRefused role limits bs reached.0 refusal.place refusal.reason) (sym is) (reached.1 rest))
+          (reached.0, subst (λ (bs : List ℕ). IsRefused role limits bs reached.0 refusal.offset refusal.reason) (sym is) (reached.1 rest))
       by_verdict rest left is (Accepted s) reached =
           let nothing : rest ≡ [] = subst IsAtEnd left reached.2 in
           let same : judged.0 ≡ all = sym (is ∙ ap (λ (bs : List ℕ). judged.0 ++ bs) nothing ∙ append-nil judged.0) in

@@ -1,6 +1,5 @@
 pub mod BegunFrames
 pub mod ChunksSoFar
-pub mod CountedParts
 pub mod EmptyFrames
 pub mod EventFrames
 pub mod EventHeads

@@ -10,8 +10,8 @@ use Rattle.wsn_rules.specs.declared.verdict.Verdict.TheVariants.{Accepted, Cut, 
 use Rattle.wsn_io.specs.declared.stop.Stop.{Stop}
 use Rattle.wsn_io.specs.declared.stop.Stop.TheVariants as stop
 use Rattle.wsn_rules.specs.Limits.{Limits}
-use Rattle.wsn_rules.specs.Verdict.{IsVerdict}
-use Rattle.wsn_scan.specs.Judging.{IsJudged, IsReached, IsUnrefused}
+use Rattle.wsn_rules.specs.Verdict.{IsVerdict, IsUnrefused}
+use Rattle.wsn_scan.specs.Judging.{IsJudged, IsReached}
 use Rattle.wsn_rules.proofs.OneVerdict.{one_verdict}
 use Rattle.wsn_rules.proofs.StaysRefused.{refused_alike}
 use Rattle.wsn_scan.proofs.JudgedInputs.{whole_verdict, whole_limit}
@@ -36,7 +36,7 @@ module _ (role : Role) (limits : Limits) (old : Incoming) (all : List ℕ) (know
       by_verdict (Accepted s) reached fs is more none = let size = ap (λ (bs : List ℕ). length bs) (all_came new judged.0 judged.1.received.consumed.consumed reached.2) in omega (arith, reached.3)
       by_verdict (Cut s) reached fs is more none = let size = ap (λ (bs : List ℕ). length bs) (all_came new judged.0 judged.1.received.consumed.consumed reached.2) in omega (arith, reached.3)
       by_verdict (Refused r) reached fs is more none =
-          none fs r.place r.reason (refused_alike role limits fs all (take limits.input all) r.place r.reason (take-take (r.place + 1) limits.input all (omega (arith, reached.3))) is)
+          none fs r.offset r.reason (refused_alike role limits fs all (take limits.input all) r.offset r.reason (take-take (r.offset + 1) limits.input all (omega (arith, reached.3))) is)
 
   pub one_answer : (new other : Incoming) (result same : Result Verdict Stop) → new.failed ≡ false → other.failed ≡ false → IsJudged role limits old new result → IsJudged role limits old other same → result ≡ same
   one_answer new other (Ok v) (Ok w) unfailed also judged again =

@@ -31,21 +31,17 @@ module _ (role : Role) (limits : Limits) (bytes : List ℕ) (fs : List Frame) (r
       let h = came.holds in
       let has_no_evidence = front_without_evidence role limits (unfinished fs) h.head_bytes came.wire (subst (HasNoEvidence role limits (unfinished fs)) h.whole h.has_no_evidence) in
       let encoded = head_encoded role limits fs inside.head h.head_bytes h.is_head has_no_evidence in
-      record {
-        wire = came.wire;
-        whole = whole ∙ ap (λ (bs : List ℕ). stream fs ++ bs) (h.whole ∙ ap (λ (bs : List ℕ). bs ++ came.wire) encoded);
-        within = omega (arith, came.short);
-        unmasked = came.unmasked;
-      }
-
-  as_prefix : (head : HeadInfo) (payload : List ℕ) → IsPayloadSoFar fs bytes head payload → IsPayloadPrefix fs bytes head payload
-  as_prefix head payload all = record {
-    wire = all.wire;
-    later = [];
-    whole = subst (λ (w : List ℕ). bytes ≡ stream fs ++ (head_bytes head.fin head.op head.key head.form head.len ++ w)) (sym (append-nil all.wire)) all.whole;
-    within = all.within;
-    unmasked = all.unmasked;
-  }
+      let info = info_at (length (stream fs)) inside.head in
+      let all = whole ∙ ap (λ (bs : List ℕ). stream fs ++ bs) (h.whole ∙ ap (λ (bs : List ℕ). bs ++ came.wire) encoded) in (
+        record {
+          wire = came.wire;
+          later = [];
+          whole = subst (λ (w : List ℕ). bytes ≡ stream fs ++ (head_bytes info.fin info.op info.key info.form info.len ++ w)) (sym (append-nil came.wire)) all;
+          within = omega (arith, came.short);
+          unmasked = came.unmasked;
+        },
+        refl,
+      )
 
   none_so_far : (at : Position) → at ≡ BetweenFrames → (head : HeadInfo) (payload : List ℕ) → at ≡ InFrame head payload → IsPayloadSoFar fs bytes head payload
   none_so_far at between head payload is = let both : BetweenFrames ≡ InFrame head payload = sym between ∙ is in cc
@@ -67,7 +63,7 @@ module _ (role : Role) (limits : Limits) (bytes : List ℕ) (fs : List Frame) (r
   prefix_at : (stage : Stage) (at : Position) → IsAt role limits stage bytes fs rest at → (head : HeadInfo) (payload : List ℕ) → at ≡ InFrame head payload → IsPayloadPrefix fs bytes head payload
   prefix_at stages.Between at is = none_taken fs bytes at is.2
   prefix_at (stages.Head part) at is = none_taken fs bytes at is.2
-  prefix_at (stages.Payload inside) at is = λ head payload also. as_prefix head payload (so_far_at (stages.Payload inside) at is refl head payload also)
+  prefix_at (stages.Payload inside) at is = λ head payload also. (so_far_at (stages.Payload inside) at is refl head payload also).0
   prefix_at (stages.Closed code) at is = none_taken fs bytes at is.2
   prefix_at (stages.Refused refusal) at is = is.payload
 
@@ -81,7 +77,7 @@ judged_as role limits scan bytes fs rest at has_scanned = of (refusal_in scan) r
     of : (refusal : Option Refusal) → refusal_in scan ≡ refusal → (verdict : Verdict) × IsVerdict role limits bytes fs verdict
     of None none = not_refused role limits scan bytes rest fs at has_scanned none
     of (Some refusal) is =
-        (Refused refusal, subst (λ (bs : List ℕ). IsRefused role limits bs fs refusal.place refusal.reason) (append-nil bytes) ((refused role limits scan bytes (heads_of fs ++ begun_at at) refusal taken is).refused []))
+        (Refused refusal, subst (λ (bs : List ℕ). IsRefused role limits bs fs refusal.offset refusal.reason) (append-nil bytes) ((refused role limits scan bytes (heads_of fs ++ begun_at at) refusal taken is).refused []))
 
 pub position_in : (role : Role) (limits : Limits) (scan : Scan) (bytes : List ℕ) (fs : List Frame) (rest : List ℕ) (at : Position) → HasScanned role limits scan bytes fs rest at → IsPositionIn role limits bytes fs rest at
 position_in role limits scan bytes fs rest at has_scanned = record {

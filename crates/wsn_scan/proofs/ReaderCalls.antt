@@ -48,7 +48,7 @@ module _ (role : Role) (limits : Limits) (old : Incoming) (came : List ℕ) (fs 
         let by = refused.refused_by in
         let is_done : IsJudgedAt role limits mid (came ++ read.more) fs at (Refused refusal) = (
           (fs, by.refused, by.soon, by.within, unfailed),
-          subst (λ (bs : List ℕ). IsRefused role limits bs fs refusal.place refusal.reason) (append-nil (came ++ read.more)) (by.refused []),
+          subst (λ (bs : List ℕ). IsRefused role limits bs fs refusal.offset refusal.reason) (append-nil (came ++ read.more)) (by.refused []),
           by.all_taken,
         ) in
         subst (λ (v : Verdict). IsJudgedAt role limits mid (came ++ read.more) fs at v) (sym (refused_as verdict refusal judged)) is_done

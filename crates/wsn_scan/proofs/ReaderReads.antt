@@ -13,7 +13,7 @@ use Rattle.wsn_rules.specs.declared.verdict.Verdict.{Verdict}
 use Rattle.wsn_rules.specs.declared.verdict.Verdict.TheVariants.{Accepted, Cut, Refused}
 use Rattle.wsn_wire.specs.declared.length_forms.Lengths.TheVariants.{Shortest}
 use Rattle.wsn_rules.specs.Limits.{Limits}
-use Rattle.wsn_rules.specs.Verdict.{IsVerdict}
+use Rattle.wsn_rules.specs.Verdict.{IsVerdict, IsUnrefused}
 use Rattle.wsn_rules.specs.Heads.{heads_of}
 use Rattle.wsn_scan.specs.declared.chunk_reader.ChunkReader.{ChunkReader}
 use Rattle.wsn_scan.specs.declared.frame_reader.FrameReader.{FrameReader}
@@ -23,7 +23,7 @@ use Rattle.wsn_io.specs.declared.stop.Stop.TheVariants as stop
 use Rattle.wsn_scan.specs.ChunkReaders.{HasCounted, HasCome, IsChunkOf, IsHaltOf}
 use Rattle.wsn_scan.specs.Feeding.{HasScannedBytes}
 use Rattle.wsn_scan.specs.Positions.{Position, begun_at}
-use Rattle.wsn_scan.specs.Judging.{IsUnrefused, IsReached}
+use Rattle.wsn_scan.specs.Judging.{IsReached}
 use Rattle.wsn_scan.specs.FrameReaders.{unread}
 use Rattle.wsn_scan.specs.ReadParts.{AllTaken, IsJudgedAt, IsHaltedAt, IsUsed, IsFilled, IsFilledBy}
 use Rattle.wsn_scan.specs.Scans.{HasScanned, refusal_in, refusal_judged}

@@ -115,18 +115,18 @@ module _ (role : Role) (limits : Limits) (old new : FrameReader) (part : Part) (
       let taken_before : HasScannedBytes role limits old.scan h.scanned (heads_of fs ++ begun_at at) = record { frames = fs; since = h.since; position = at; has_scanned = h.has_scanned; heads_are = refl } in
       let has_no_evidence = unrefused role limits old.scan h.scanned (heads_of fs ++ begun_at at) taken_before h.unrefused in
       let size : length following ≡ length h.scanned + n = length-append h.scanned share ∙ ap (λ (k : ℕ). length h.scanned + k) (length-share taken.Refused call) in
-      let past_it : length h.scanned ≤ refusal.place =
-      place_after role limits h.scanned share fs refusal.place refusal.reason has_no_evidence (subst (λ (bs : List ℕ). IsRefused role limits bs fs refusal.place refusal.reason) (append-nil following) (there.refused [])) in
+      let past_it : length h.scanned ≤ refusal.offset =
+      place_after role limits h.scanned share fs refusal.offset refusal.reason has_no_evidence (subst (λ (bs : List ℕ). IsRefused role limits bs fs refusal.offset refusal.reason) (append-nil following) (there.refused [])) in
       let on = goes_on call in
       record {
         refusal = refusal;
         reported = is.1;
         refused_by = record {
           refused = λ later.
-              subst (λ (bs : List ℕ). IsRefused role limits bs fs refusal.place refusal.reason)
+              subst (λ (bs : List ℕ). IsRefused role limits bs fs refusal.offset refusal.reason)
               (sym (append_assoc following on.0 later) ∙ ap (λ (bs : List ℕ). bs ++ later) (sym on.1)) (there.refused (on.0 ++ later));
           soon = omega (arith, length_came limits old came h.scanned h.buffered, past_it, h.buffered.small);
-          within = omega (arith, there.place, at_it.has_scanned.has_consumed.room);
+          within = omega (arith, there.offset, at_it.has_scanned.has_consumed.room);
           all_taken = subst (λ (bs : List ℕ). AllTaken role limits bs fs at) (sym on.1) (there.heads on.0);
         };
       }

@@ -21,10 +21,10 @@ use Rattle.wsn_scan.proofs.HeadsReported.{begun_stays}
 use Rattle.wsn_rules.proofs.NextBytes.{refused_at}
 
 -- the bytes up to the offset are refused, and stay so
-pub refused_here : (role : Role) (limits : Limits) (bytes seen later : List ℕ) (fs : List Frame) (place : ℕ) (reason : Reason) → IsLawful role limits fs → HasNoClose fs
-    → bytes ≡ stream fs ++ seen → place + 1 ≡ length bytes → IsEvidentLast role limits (unfinished fs) reason seen → IsRefused role limits (bytes ++ later) fs place reason
-refused_here role limits bytes seen later fs place reason lawful none whole at is_evident =
-    refused_at role limits fs (bytes ++ later) seen later place reason (ap (λ (bs : List ℕ). bs ++ later) whole ∙ append_assoc (stream fs) seen later)
+pub refused_here : (role : Role) (limits : Limits) (bytes seen later : List ℕ) (fs : List Frame) (offset : ℕ) (reason : Reason) → IsLawful role limits fs → HasNoClose fs
+    → bytes ≡ stream fs ++ seen → offset + 1 ≡ length bytes → IsEvidentLast role limits (unfinished fs) reason seen → IsRefused role limits (bytes ++ later) fs offset reason
+refused_here role limits bytes seen later fs offset reason lawful none whole at is_evident =
+    refused_at role limits fs (bytes ++ later) seen later offset reason (ap (λ (bs : List ℕ). bs ++ later) whole ∙ append_assoc (stream fs) seen later)
     (at ∙ ap length whole ∙ length-append (stream fs) seen) lawful none earlier (record { is_evident = is_evident.is_evident; least = is_evident.least })
   where
     some : (m : ℕ) → m < length seen → drop m seen ≢ []
@@ -43,9 +43,9 @@ refuses role limits old bytes rest last fs at count reason has_consumed none siz
     let same_input : old.context.limits.input ≡ limits.input = ap (λ (b : Limits). b.input) has_consumed.under in
     let room = has_consumed.room in
     let joined = length-append bytes last in
-    let place : old.context.limits.input - (old.room - count) - 1 + 1 ≡ length (bytes ++ last) = omega arith in
+    let offset : old.context.limits.input - (old.room - count) - 1 + 1 ≡ length (bytes ++ last) = omega arith in
     let refused : (later : List ℕ) → IsRefused role limits ((bytes ++ last) ++ later) fs (old.context.limits.input - (old.room - count) - 1) reason =
-    λ later. refused_here role limits (bytes ++ last) (rest ++ last) later fs (old.context.limits.input - (old.room - count) - 1) reason has_consumed.lawful none whole place is_evident in
+    λ later. refused_here role limits (bytes ++ last) (rest ++ last) later fs (old.context.limits.input - (old.room - count) - 1) reason has_consumed.lawful none whole offset is_evident in
     record {
       has_consumed = record {
         sender = has_consumed.sender;
@@ -61,7 +61,7 @@ refuses role limits old bytes rest last fs at count reason has_consumed none siz
       };
       is_at = record {
         refused = refused;
-        place = place;
+        offset = offset;
         heads = λ later. record {
           rest = (rest ++ last) ++ later;
           begun = begun_at at;

@@ -15,11 +15,11 @@ use Rattle.wsn_scan.specs.declared.stage.Stage.TheVariants as stages
 use Rattle.wsn_scan.specs.declared.scan.Scan.{Scan}
 use Rattle.wsn_rules.specs.Limits.{Limits}
 use Rattle.wsn_rules.specs.Group.{unfinished}
-use Rattle.wsn_rules.specs.Verdict.{IsRefused, IsVerdict}
+use Rattle.wsn_rules.specs.Verdict.{IsRefused, IsVerdict, IsUnrefused}
 use Rattle.wsn_scan.specs.Scans.{HasScannedAt, summary_of, taken_of, verdict_between, refusal_at, refusal_in, refusal_judged, IsRefusedThere}
 use Rattle.wsn_scan.specs.Positions.{Position}
 use Rattle.wsn_rules.specs.Heads.{AreHeads}
-use Rattle.wsn_scan.specs.Judging.{HasVerdictAndHeads, IsUnrefused}
+use Rattle.wsn_scan.specs.Judging.{HasVerdictAndHeads}
 use Rattle.wsn_rules.specs.declared.head_info.HeadInfo.{HeadInfo}
 use Rattle.wsn_scan.specs.Feeding.{HasScannedBytes}
 use Rattle.wsn_scan.proofs.HeadsSoFar.{heads_reported}
@@ -68,10 +68,10 @@ module _ (role : Role) (limits : Limits) where
 
   -- bytes with another verdict are not refused
   no_refusal_of : (bytes : List ℕ) (fs : List Frame) → NotRefused role limits bytes fs → IsUnrefused role limits bytes
-  no_refusal_of bytes fs not gs place reason refused =
-      let one = one_verdict role limits bytes fs gs not.verdict (Refused (record { place = place; reason = reason })) not.is refused in
-      let reported : refusal_judged not.verdict ≡ Some (record { place = place; reason = reason }) = ap (λ (v : Verdict). refusal_judged v) one.1 in
-      let both : Some (record { place = place; reason = reason }) ≡ None = sym reported ∙ not.other in
+  no_refusal_of bytes fs not gs offset reason refused =
+      let one = one_verdict role limits bytes fs gs not.verdict (Refused (record { offset = offset; reason = reason })) not.is refused in
+      let reported : refusal_judged not.verdict ≡ Some (record { offset = offset; reason = reason }) = ap (λ (v : Verdict). refusal_judged v) one.1 in
+      let both : Some (record { offset = offset; reason = reason }) ≡ None = sym reported ∙ not.other in
       cc
 
   -- a scan that has not refused
@@ -101,7 +101,7 @@ module _ (role : Role) (limits : Limits) where
       by_refusal None is = is
       by_refusal (Some refusal) is =
           let is_evident = ((refused scan [] heads refusal taken is).refused []).is_evident in
-          absurd (omega (arith, place_within role limits taken.frames [] refusal.place refusal.reason is_evident))
+          absurd (omega (arith, place_within role limits taken.frames [] refusal.offset refusal.reason is_evident))
 
   -- ---- the heads
 
@@ -120,10 +120,10 @@ module _ (role : Role) (limits : Limits) where
       record { frames = taken.frames; is_verdict = there.refused later; are_heads = subst (λ (hs : List HeadInfo). AreHeads role limits (bytes ++ later) taken.frames hs) (sym taken.heads_are) (there.heads later) }
 
   -- bytes that are not refused end before the offset of a later refusal
-  pub place_after : (before more : List ℕ) (fs : List Frame) (place : ℕ) (reason : Reason) → IsUnrefused role limits before → IsRefused role limits (before ++ more) fs place reason → length before ≤ place
-  place_after before more fs place reason none is_evident =
-      elim (cases_lt place (length before)) [
+  pub place_after : (before more : List ℕ) (fs : List Frame) (offset : ℕ) (reason : Reason) → IsUnrefused role limits before → IsRefused role limits (before ++ more) fs offset reason → length before ≤ offset
+  place_after before more fs offset reason none is_evident =
+      elim (cases_lt offset (length before)) [
         | inl less ↦
-            absurd (none fs place reason (refused_alike role limits fs (before ++ more) before place reason (sym (take-append-le (place + 1) before more (omega arith))) is_evident))
+            absurd (none fs offset reason (refused_alike role limits fs (before ++ more) before offset reason (sym (take-append-le (offset + 1) before more (omega arith))) is_evident))
         | inr within ↦ within
       ]

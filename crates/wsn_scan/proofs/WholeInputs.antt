@@ -8,15 +8,15 @@ use Rattle.wsn_io.specs.Transfer.{Incoming}
 use Rattle.wsn_rules.specs.declared.verdict.Verdict.{Verdict}
 use Rattle.wsn_rules.specs.declared.verdict.Verdict.TheVariants.{Accepted, Cut, Refused}
 use Rattle.wsn_rules.specs.Limits.{Limits}
-use Rattle.wsn_rules.specs.Verdict.{IsVerdict}
+use Rattle.wsn_rules.specs.Verdict.{IsVerdict, IsUnrefused}
 use Rattle.wsn_rules.proofs.StaysRefused.{stays_refused, refused_alike}
-use Rattle.wsn_scan.specs.Judging.{IsReached, IsUnrefused, IsWithinLimit}
+use Rattle.wsn_scan.specs.Judging.{IsReached, IsWithinLimit}
 
 module _ (role : Role) (limits : Limits) where
   -- the verdict on what came is that on all of the input
   pub of_all : (new : Incoming) (came rest : List ℕ) (fs : List Frame) (verdict : Verdict) → IsReached role limits new came verdict → new.remaining ≡ Some rest
       → IsVerdict role limits came fs verdict → IsVerdict role limits (came ++ rest) fs verdict × IsWithinLimit limits (came ++ rest) verdict
-  of_all new came rest fs (Refused refusal) reached left is = (stays_refused role limits fs came rest refusal.place refusal.reason is, reached.3)
+  of_all new came rest fs (Refused refusal) reached left is = (stays_refused role limits fs came rest refusal.offset refusal.reason is, reached.3)
   of_all new came rest fs (Accepted s) reached left is =
       let nothing : rest ≡ [] = subst IsAtEnd left reached.2 in
       let all : came ≡ came ++ rest = sym (append-nil came) ∙ ap (λ (bs : List ℕ). came ++ bs) (sym nothing) in
@@ -31,4 +31,4 @@ module _ (role : Role) (limits : Limits) where
   not_past all fs (Accepted s) is within more none = omega (arith, within, more)
   not_past all fs (Cut s) is within more none = omega (arith, within, more)
   not_past all fs (Refused r) is within more none =
-      none fs r.place r.reason (refused_alike role limits fs all (take limits.input all) r.place r.reason (take-take (r.place + 1) limits.input all (omega (arith, within))) is)
+      none fs r.offset r.reason (refused_alike role limits fs all (take limits.input all) r.offset r.reason (take-take (r.offset + 1) limits.input all (omega (arith, within))) is)

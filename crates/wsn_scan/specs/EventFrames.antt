@@ -48,8 +48,8 @@ IsEventFrame role limits chunk after found =
 
 -- the head of a found frame whose first byte is at this offset
 abbrev pub info_found : ℕ → EventFrame → HeadInfo
-info_found place found =
-    record { place = place; fin = true; op = found.op; key = found.key; form = Shortest; len = found.len }
+info_found offset found =
+    record { offset = offset; fin = true; op = found.op; key = found.key; form = Shortest; len = found.len }
 
 -- the part of a chunk that is all of a frame with this head: the chunk has this many bytes of it
 abbrev pub whole_part : HeadInfo → ℕ → Part

@@ -9,7 +9,7 @@ use Rattle.wsn_rules.specs.declared.verdict.Verdict.{Verdict, TheVariants.{Refus
 use Rattle.wsn_io.specs.declared.stop.Stop.{Stop}
 use Rattle.wsn_io.specs.declared.stop.Stop.TheVariants as stop
 use Rattle.wsn_rules.specs.Limits.{Limits}
-use Rattle.wsn_rules.specs.Verdict.{IsRefused, IsVerdict}
+use Rattle.wsn_rules.specs.Verdict.{IsRefused, IsUnrefused, IsVerdict}
 use Rattle.wsn_rules.specs.declared.head_info.HeadInfo.{HeadInfo}
 use Rattle.wsn_rules.specs.Heads.{AreHeads}
 
@@ -17,17 +17,12 @@ use Rattle.wsn_rules.specs.Heads.{AreHeads}
 abbrev pub chunk_size : ℕ
 chunk_size = 4096
 
--- These bytes are not refused.
-abbrev pub IsUnrefused : Role → Limits → List ℕ → Type 0
-IsUnrefused role limits bytes =
-    (fs : List Frame) (place : ℕ) (reason : Reason) → IsRefused role limits bytes fs place reason → ⊥
-
 -- The verdict on the bytes that came. A refusal holds whatever follows; its offset is within the limit, and at most
 -- `chunk_size` - 1 bytes came after it. Any other verdict is on the whole input, which ended within the limit.
 abbrev pub IsReached : Role → Limits → Incoming → List ℕ → Verdict → Type 0
 IsReached role limits new came (Refused refusal) =
-    (fs : List Frame) × ((later : List ℕ) → IsRefused role limits (came ++ later) fs refusal.place refusal.reason)
-    × (length came ≤ refusal.place + chunk_size) × (refusal.place < limits.input) × (new.failed ≡ false)
+    (fs : List Frame) × ((later : List ℕ) → IsRefused role limits (came ++ later) fs refusal.offset refusal.reason)
+    × (length came ≤ refusal.offset + chunk_size) × (refusal.offset < limits.input) × (new.failed ≡ false)
 IsReached role limits new came verdict =
     (fs : List Frame) × IsVerdict role limits came fs verdict × IsAtEnd new.remaining × (length came ≤ limits.input)
     × (new.failed ≡ false)
@@ -55,7 +50,7 @@ pub record IsJudgedOf (role : Role) (limits : Limits) (old new : Incoming) (came
 
 -- The verdict is reached within the limit: a refusal at an offset within it, any other at the input's end.
 abbrev pub IsWithinLimit : Limits → List ℕ → Verdict → Type 0
-IsWithinLimit limits all (Refused refusal) = refusal.place < limits.input
+IsWithinLimit limits all (Refused refusal) = refusal.offset < limits.input
 IsWithinLimit limits all verdict = length all ≤ limits.input
 
 -- Some bytes came, and the answer is right for them.

@@ -30,6 +30,10 @@ pub record IsPayloadPrefix (fs : List Frame) (bytes : List ℕ) (head : HeadInfo
   pub within : length wire ≤ head.len
   pub unmasked : payload ≡ unmasked_by head.key 0 wire
 
+-- The same, and this is all of its payload that came.
+abbrev pub IsPayloadSoFar : List Frame → List ℕ → HeadInfo → List ℕ → Type 0
+IsPayloadSoFar fs bytes head payload = (front : IsPayloadPrefix fs bytes head payload) × (front.later ≡ [])
+
 -- The bytes are lawful frames, which their verdict speaks of, and a rest. All their heads are those of the frames, and of
 -- the frame that has begun, if one has: a prefix of its payload was taken, unmasked.
 pub record IsPositionIn (role : Role) (limits : Limits) (bytes : List ℕ) (fs : List Frame) (rest : List ℕ) (at : Position)
@@ -40,13 +44,6 @@ pub record IsPositionIn (role : Role) (limits : Limits) (bytes : List ℕ) (fs :
   pub heads : AreHeads role limits bytes fs (heads_of fs ++ begun_at at)
   pub payload : (head : HeadInfo) (payload : List ℕ) → at ≡ InFrame head payload →
       IsPayloadPrefix fs bytes head payload
-
--- After the frames fs a frame with this head has begun, and this is all of its payload that came, unmasked.
-pub record IsPayloadSoFar (fs : List Frame) (bytes : List ℕ) (head : HeadInfo) (payload : List ℕ) : Type 0 where
-  pub wire : List ℕ
-  pub whole : bytes ≡ stream fs ++ (head_bytes head.fin head.op head.key head.form head.len ++ wire)
-  pub within : length wire ≤ head.len
-  pub unmasked : payload ≡ unmasked_by head.key 0 wire
 
 -- The rest after whole frames: any bytes; or a head that is valid so far, after frames without a Close, and then this
 -- payload, which is unmasked here.

@@ -31,11 +31,11 @@ pub record ReadsPart (role : Role) (limits : Limits) (reader : FrameReader) (par
   pub soon : part.ends ≡ true → length came ≤ length (stream frames) + chunk_size
 
 -- It takes a whole message of this kind, whose frame's first byte is at this offset, and holds the message's bytes.
-pub record TakesMessage (role : Role) (limits : Limits) (reader : FrameReader) (kind : Kind) (place : ℕ) (came : List ℕ)
+pub record TakesMessage (role : Role) (limits : Limits) (reader : FrameReader) (kind : Kind) (offset : ℕ) (came : List ℕ)
     (fs : List Frame) (at : Position) : Type 0 where
   pub part : Part
   pub whole : IsWholeMessage part kind
-  pub place_is : part.head.place ≡ place
+  pub offset_is : part.head.offset ≡ offset
   pub takes : ReadsPart role limits reader part came fs at
 
 -- All of these bytes are taken: each whole frame to its end, and each head.
@@ -81,9 +81,9 @@ pub record IsUsed (role : Role) (limits : Limits) (reader : FrameReader) (came :
 -- and each whole frame was taken to its end, and each head.
 pub record IsRefusedBy (role : Role) (limits : Limits) (came : List ℕ) (fs : List Frame) (at : Position)
     (refusal : Refusal) : Type 0 where
-  pub refused : (later : List ℕ) → IsRefused role limits (came ++ later) fs refusal.place refusal.reason
-  pub soon : length came ≤ refusal.place + chunk_size
-  pub within : refusal.place < limits.input
+  pub refused : (later : List ℕ) → IsRefused role limits (came ++ later) fs refusal.offset refusal.reason
+  pub soon : length came ≤ refusal.offset + chunk_size
+  pub within : refusal.offset < limits.input
   pub all_taken : AllTaken role limits came fs at
 
 -- The scan has refused, and its refusal is that of the bytes that came.

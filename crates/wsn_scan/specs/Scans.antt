@@ -45,8 +45,8 @@ pub record IsInPayload (role : Role) (limits : Limits) (group : List Frame) (ins
 -- Whatever follows, the stream is refused at the last of these bytes, and all their heads were taken.
 pub record IsRefusedThere (role : Role) (limits : Limits) (refusal : Refusal) (bytes : List ℕ) (fs : List Frame)
     (at : Position) : Type 0 where
-  pub refused : (later : List ℕ) → IsRefused role limits (bytes ++ later) fs refusal.place refusal.reason
-  pub place : refusal.place + 1 ≡ length bytes
+  pub refused : (later : List ℕ) → IsRefused role limits (bytes ++ later) fs refusal.offset refusal.reason
+  pub offset : refusal.offset + 1 ≡ length bytes
   pub heads : (later : List ℕ) → AreHeads role limits (bytes ++ later) fs (heads_of fs ++ begun_at at)
   pub payload : (head : _) (payload : List ℕ) → at ≡ InFrame head payload → IsPayloadPrefix fs bytes head payload
 
@@ -140,7 +140,7 @@ refusal_judged verdict = None
 
 -- the refusal of a scan that consumes `count` bytes more, the last of which is the offending byte
 abbrev pub refusal_of : Scan → ℕ → Reason → Refusal
-refusal_of scan count reason = record { place = scan.context.limits.input - (scan.room - count) - 1; reason = reason }
+refusal_of scan count reason = record { offset = scan.context.limits.input - (scan.room - count) - 1; reason = reason }
 
 -- ---- a call
 
@@ -231,8 +231,8 @@ BeginsFrame old new start head chunk after n taken part =
     (Finds taken part (drop part.start (take n after)) fs BetweenFrames) × Consumes taken part (length chunk) n
 
 -- The same, and it takes a part.
-abbrev pub BeginsAt : Scan → Scan → ℕ → Head → List ℕ → List ℕ → ℕ → Part → Type 0
-BeginsAt old new start head chunk after n part = BeginsFrame old new start head chunk after n taken.Part part
+abbrev pub TakesFirstPart : Scan → Scan → ℕ → Head → List ℕ → List ℕ → ℕ → Part → Type 0
+TakesFirstPart old new start head chunk after n part = BeginsFrame old new start head chunk after n taken.Part part
 
 -- The scan consumes `count` bytes more, the last of this head or of its frame's payload, of which `done` bytes came, and
 -- takes this part of the frame.

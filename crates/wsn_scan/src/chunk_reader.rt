@@ -5,9 +5,8 @@ ghost use Rattle.wsn_io.specs.declared.stop.Stop.{Stop};
 ghost use Rattle.wsn_scan.specs.ChunkReaders.{HasCome, IsNextOf, has_passed, chunks_ahead};
 
 use std::io::Read;
-use wsn_io::Stop;
+use wsn_io::{Input, Stop};
 use wsn_rules::Limits;
-use wsn_wire::Input;
 
 /// The maximum number of bytes that one read returns.
 pub const CHUNK: usize = 4096;

@@ -11,9 +11,9 @@ use crate::chunk_reader::{CHUNK, ChunkReader};
 use crate::part::{Part, Taken};
 use crate::scan::Scan;
 use std::io::Read;
-use wsn_io::Stop;
+use wsn_io::{Input, Stop};
 use wsn_rules::{HeadInfo, Limits, Verdict};
-use wsn_wire::{Input, Kind, Role};
+use wsn_wire::{Kind, Role};
 
 /// Reads an input and takes it apart into its frames as they come, and then gives the verdict (RFC 6455 section 5.2). It
 /// holds at most [`CHUNK`] bytes of the input.
@@ -113,7 +113,7 @@ impl FrameReader {
         let (count, head) = event_in(byte, &mut self.scan, &mut self.buffer, from, self.end)?;
         self.at = from + count;
         self.from = self.at - head.len as usize;
-        Some((kind, head.place))
+        Some((kind, head.offset))
     }
 
     /// Takes the frames that come next if each is whole in the buffer, ends an event and leaves no message open (RFC 6455

@@ -1,14 +1,14 @@
 ghost use Rattle.std.specs.Prelude.{◌≡◌, ℕ, ◌<◌, List, Some, length, take, IfOk, Err, ◌↔◌, false, true};
 ghost use Rattle.wsn_wire.specs.Frame.{Frame};
-ghost use Rattle.wsn_scan.specs.Judging.{IsJudged, IsUnrefused};
-ghost use Rattle.wsn_rules.specs.Verdict.{IsVerdict};
+ghost use Rattle.wsn_scan.specs.Judging.{IsJudged};
+ghost use Rattle.wsn_rules.specs.Verdict.{IsVerdict, IsUnrefused};
 
 use crate::chunk_reader::{CHUNK, ChunkReader};
 use crate::scan::Scan;
 use std::io::Read;
-use wsn_io::Stop;
+use wsn_io::{Input, Stop};
 use wsn_rules::{Limits, Verdict};
-use wsn_wire::{Input, Role};
+use wsn_wire::Role;
 
 /// Reads an input to its verdict: to its end, or up to a refusal (RFC 6455 sections 5 and 7). `role` is the endpoint
 /// that sent the stream. The input is read in chunks of at most 4,096 bytes, and at most one byte past the input limit.

@@ -20,7 +20,7 @@ impl Part {
     pub fn new() -> Part {
         Part {
             head: HeadInfo {
-                place: 0,
+                offset: 0,
                 fin: false,
                 op: Op::Continue,
                 key: None,

@@ -1,5 +1,6 @@
 mod events;
 mod feeding;
+mod heads;
 mod parts;
 mod verdicts;
 

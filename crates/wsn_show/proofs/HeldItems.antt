@@ -17,12 +17,8 @@ use Rattle.wsn_rules.proofs.LawfulLists.{law_at_split, lawful_front}
 use Rattle.wsn_rules.proofs.MessageText.{text_of_push, reason_is_text}
 use Rattle.wsn_print.specs.declared.shown.ShownEvent.{ShownEvent}
 use Rattle.wsn_print.specs.declared.shown.HeldBytes.{HeldBytes}
-use Rattle.wsn_print.specs.declared.shown.Remainder.{Remainder}
-use Rattle.wsn_print.specs.declared.shown.Remainder.TheVariants.{Unread, Tail}
-use Rattle.wsn_shown_text.specs.CharacterText.{item_lines}
-use Rattle.wsn_shown_text.specs.ShownText.{item_line}
 use Rattle.wsn_print.proofs.HeldParts.{first_held}
-use Rattle.wsn_print.specs.ShownParts.{HoldsFirst, IsFrontOf, IsEndOf, event_of, Represents, HasTextReason, item_of_remainder}
+use Rattle.wsn_print.specs.ShownParts.{HoldsFirst, IsFrontOf, IsEndOf, event_of, Represents, HasTextReason}
 use Rattle.wsn_show.specs.declared.first_bytes.FirstBytes.{FirstBytes}
 use Rattle.wsn_show.specs.declared.last_bytes.LastBytes.{LastBytes}
 use Rattle.wsn_show.specs.declared.message_so_far.MessageSoFar.{MessageSoFar}
@@ -170,9 +166,3 @@ module _ (role : Role) (limits : Limits) (fs : List Frame) (f : Frame) (lawful :
 
   pub text_reason : HasTextReason (Control f.op f.payload)
   text_reason = reason_of f.op refl
-
--- ---- the lines of a remainder
-
-pub lines_of_remainder : (n : ℕ) (role : Role) (time : Option (List ℕ)) (which : Remainder) (offset : ℕ) (all : List ℕ) → item_lines n role time (item_of_remainder which offset all) ≡ item_line n role time (item_of_remainder which offset all)
-lines_of_remainder n role time Unread offset all = refl
-lines_of_remainder n role time Tail offset all = refl

@@ -48,7 +48,7 @@ length-placed place bytes = sym (length-map (placed place bytes) (λ (b : Placed
 -- One more of the bytes, of which all but the first `skipped` are taken.
 pub placed_push : (offset skipped i : ℕ) (bytes : List ℕ) (place byte : ℕ) → skipped ≤ i → i < length bytes → place ≡ offset + i → byte ≡ get_or bytes i 0
     → placed (offset + skipped) (drop skipped (take (i + 1) bytes)) ≡ placed (offset + skipped) (drop skipped (take i bytes)) ++ placed place (byte ∷ [])
-placed_push offset skipped i bytes place byte from within place_is byte_is =
+placed_push offset skipped i bytes place byte from within offset_is byte_is =
     let before = take i bytes in
     let size : length before ≡ i = length-take-le i bytes (omega (arith, within)) in
     let next : i + 1 ≡ suc i = omega arith in
@@ -56,7 +56,7 @@ placed_push offset skipped i bytes place byte from within place_is byte_is =
     let left : length (drop skipped before) ≡ i - skipped = length-drop skipped before ∙ ap (λ (m : ℕ). m - skipped) size in
     ap (λ (bs : List ℕ). placed (offset + skipped) (drop skipped bs)) one ∙ ap (λ (bs : List ℕ). placed (offset + skipped) bs) (drop-append-le skipped before (byte ∷ []) (omega (arith, size, from)))
     ∙ placed-append (offset + skipped) (drop skipped before) (byte ∷ [])
-    ∙ ap (λ (m : ℕ). placed (offset + skipped) (drop skipped before) ++ placed m (byte ∷ [])) (omega (arith, left, place_is, from))
+    ∙ ap (λ (m : ℕ). placed (offset + skipped) (drop skipped before) ++ placed m (byte ∷ [])) (omega (arith, left, offset_is, from))
 
 -- All but the last n bytes don't matter, if n is four or more.
 pub skipping : (last : LastPayload) (came : List PlacedByte) (offset n skipped : ℕ) (bytes : List ℕ) → 4 ≤ n → skipped ≡ length bytes - n → HasLastPayload last (came ++ placed (offset + skipped) (drop skipped bytes)) → HasLastPayload last (came ++ placed offset bytes)
@@ -84,9 +84,9 @@ with_last last came offset n bytes all four is has =
 
 -- One more byte.
 pub pushed : (held : List StreamByte) (came : List PlacedByte) (byte : StreamByte) (now : List StreamByte) → placed_bytes held ≡ last_of 4 came → now ≡ drop (length held - 3) held ++ byte ∷ []
-    → placed_bytes now ≡ last_of 4 (came ++ placed byte.place (byte.byte ∷ []))
+    → placed_bytes now ≡ last_of 4 (came ++ placed byte.offset (byte.byte ∷ []))
 pushed held came byte now is now_is =
-    let size : length (placed_bytes held) ≡ length held = length-map held (λ (b : StreamByte). record { place = b.place; byte = b.byte }) in
-    ap placed_bytes now_is ∙ map-append (λ (b : StreamByte). record { place = b.place; byte = b.byte }) (drop (length held - 3) held) (byte ∷ [])
-    ∙ ap (λ (ps : List PlacedByte). ps ++ placed byte.place (byte.byte ∷ [])) (sym (drop-map (λ (b : StreamByte). record { place = b.place; byte = b.byte }) (length held - 3) held) ∙ ap (λ (m : ℕ). drop (m - 3) (placed_bytes held)) (sym size))
-    ∙ sym (last_of_push 3 came (placed_bytes held) (record { place = byte.place; byte = byte.byte }) is)
+    let size : length (placed_bytes held) ≡ length held = length-map held (λ (b : StreamByte). record { offset = b.offset; byte = b.byte }) in
+    ap placed_bytes now_is ∙ map-append (λ (b : StreamByte). record { offset = b.offset; byte = b.byte }) (drop (length held - 3) held) (byte ∷ [])
+    ∙ ap (λ (ps : List PlacedByte). ps ++ placed byte.offset (byte.byte ∷ [])) (sym (drop-map (λ (b : StreamByte). record { offset = b.offset; byte = b.byte }) (length held - 3) held) ∙ ap (λ (m : ℕ). drop (m - 3) (placed_bytes held)) (sym size))
+    ∙ sym (last_of_push 3 came (placed_bytes held) (record { offset = byte.offset; byte = byte.byte }) is)

@@ -5,8 +5,7 @@ use Rattle.std.proofs.lemmas.Bool.{eqb-true, eq-eqb}
 use Rattle.std.proofs.Math.Seq.{drop-cons}
 use Rattle.std.proofs.lemmas.List.{take-append-drop}
 use Rattle.memchr.specs.Find.{IsFirstByte, is_byte}
-use Rattle.wsn_rules.specs.ShownCapture.{IsDigit, IsSeconds}
-use Rattle.wsn_show.specs.Times.{IsWhole, IsFraction}
+use Rattle.wsn_rules.specs.ShownCapture.{IsDigit, IsWholePart, IsFractionalPart, IsSeconds}
 
 -- no digit is a point
 no_point : (whole rest : List ℕ) (k : ℕ) → AllByRecursion IsDigit whole → k < length whole → get_or (whole ++ rest) k 0 ≡ 46 → ⊥
@@ -42,18 +41,14 @@ parted text k first =
 whole_text : (text : List ℕ) (seconds : IsSeconds text) → text ≡ seconds.whole ++ 46 ∷ seconds.fraction
 whole_text text seconds = seconds.is ∙ append_assoc seconds.whole (46 ∷ []) seconds.fraction
 
-pub seconds_of_parts : (text : List ℕ) (k : ℕ) → IsFirstByte (is_byte 46) text (Some k) → IsWhole (take k text)
-    → IsFraction (drop (k + 1) text) → IsSeconds text
+pub seconds_of_parts : (text : List ℕ) (k : ℕ) → IsFirstByte (is_byte 46) text (Some k) → IsWholePart (take k text)
+    → IsFractionalPart (drop (k + 1) text) → IsSeconds text
 seconds_of_parts text k first whole fraction = record {
   whole = take k text;
   fraction = drop (k + 1) text;
   is = parted text k first ∙ sym (append_assoc (take k text) (46 ∷ []) (drop (k + 1) text));
-  whole_digits = whole.digits;
-  fraction_digits = fraction.digits;
-  some = whole.some;
-  some_more = fraction.some;
-  few = fraction.few;
-  no_leading_zero = whole.no_leading_zero;
+  whole_is = whole;
+  fraction_is = fraction;
 }
 
 point_within : (whole fraction : List ℕ) → length whole < length (whole ++ 46 ∷ fraction)
@@ -70,16 +65,16 @@ first_point whole fraction k digits first =
     omega (arith, not_less, not_more)
 
 pub parts_of_seconds : (text : List ℕ) (k : ℕ) → IsFirstByte (is_byte 46) text (Some k) → IsSeconds text
-    → IsWhole (take k text) × IsFraction (drop (k + 1) text)
+    → IsWholePart (take k text) × IsFractionalPart (drop (k + 1) text)
 parts_of_seconds text k first seconds =
     let here = subst (λ (bs : List ℕ). IsFirstByte (is_byte 46) bs (Some k)) (whole_text text seconds) first in
-    let at : k ≡ length seconds.whole = first_point seconds.whole seconds.fraction k seconds.whole_digits here in
+    let at : k ≡ length seconds.whole = first_point seconds.whole seconds.fraction k seconds.whole_is.digits here in
     let front : take k text ≡ seconds.whole =
     ap (λ (bs : List ℕ). take k bs) (whole_text text seconds) ∙ ap (λ (n : ℕ). take n (seconds.whole ++ 46 ∷ seconds.fraction)) at ∙ take_whole seconds.whole (46 ∷ seconds.fraction) in
     let back : drop (k + 1) text ≡ seconds.fraction =
     ap (λ (bs : List ℕ). drop (k + 1) bs) (whole_text text seconds) ∙ ap (λ (n : ℕ). drop (n + 1) (seconds.whole ++ 46 ∷ seconds.fraction)) at ∙ drop_whole seconds.whole seconds.fraction in (
-      subst IsWhole (sym front) (record { digits = seconds.whole_digits; some = seconds.some; no_leading_zero = seconds.no_leading_zero }),
-      subst IsFraction (sym back) (record { digits = seconds.fraction_digits; some = seconds.some_more; few = seconds.few }),
+      subst IsWholePart (sym front) seconds.whole_is,
+      subst IsFractionalPart (sym back) seconds.fraction_is,
     )
 
 pub no_seconds : (text : List ℕ) → IsFirstByte (is_byte 46) text None → IsSeconds text → ⊥
@@ -88,7 +83,7 @@ no_seconds text none seconds =
     here (length seconds.whole) (omega arith) (point_within seconds.whole seconds.fraction) (eq-eqb _ 46 (point_there seconds.whole seconds.fraction))
 
 -- a leading zero
-pub leading_zero : (text : List ℕ) → 2 ≤ length text → get_or text 0 0 ≡ 48 → IsWhole text → ⊥
+pub leading_zero : (text : List ℕ) → 2 ≤ length text → get_or text 0 0 ≡ 48 → IsWholePart text → ⊥
 leading_zero [] two is whole = omega (arith, two)
 leading_zero (b ∷ []) two is whole = omega (arith, two)
 leading_zero (b ∷ c ∷ text) two is whole = whole.no_leading_zero c text (ap (λ (d : ℕ). d ∷ c ∷ text) is)

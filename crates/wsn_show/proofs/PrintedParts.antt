@@ -61,7 +61,7 @@ module _ (role : Role) (limits : Limits) (fs : List Frame) (f : Frame) (lawful :
 -- ---- what is left over
 
 module _ (fs : List Frame) (head : HeadInfo) (part : List ℕ) where
-  pub part_of_control_is : is_control head.op ≡ true → items_of_part fs head part ≡ open_items fs (Some 0) ++ Unfinished head.place (Control head.op part) 1 (Some (head.len - length part)) ∷ []
+  pub part_of_control_is : is_control head.op ≡ true → items_of_part fs head part ≡ open_items fs (Some 0) ++ Unfinished head.offset (Control head.op part) 1 (Some (head.len - length part)) ∷ []
   part_of_control_is control = cond-true (is_control head.op) _ _ control
 
   pub part_of_data_is : is_control head.op ≡ false → items_of_part fs head part ≡ open_item fs (unfinished fs ++ frame_so_far head part ∷ []) (Some (head.len - length part)) ∷ []

@@ -93,7 +93,7 @@ module _ (detail : Detail) (role : Role) (limits : Limits) (scan : Scan) (parts 
         scanned = r.scanned;
         reported = r.reported;
         refused = r.refused;
-        place = r.place;
+        offset = r.offset;
         first = adds r.unread (omega (arith, size, small)) r.first;
         of_frames = r.of_frames;
         are_of_frames = r.are_of_frames;

@@ -131,10 +131,10 @@ module _ (role : Role) (limits : Limits) (old new : Scan) (chunk after : List �
     some : 0 < n
     some =
         let before = unrefused_so_far role limits old came done frames.at frames.rest frames.followed in
-        let refused = subst (λ (bs : List ℕ). IsRefused role limits bs done refusal.place refusal.reason) (append-nil (came ++ share)) (reaches.1.refused []) in
-        let place = reaches.1.place in
+        let refused = subst (λ (bs : List ℕ). IsRefused role limits bs done refusal.offset refusal.reason) (append-nil (came ++ share)) (reaches.1.refused []) in
+        let offset = reaches.1.offset in
         let own = size_of_share role limits old new chunk after n taken.Refused part came done frames.at frames.rest frames.followed call in
-        omega (arith, place_after role limits came share done refusal.place refusal.reason before refused, place, own, length-append came share)
+        omega (arith, place_after role limits came share done refusal.offset refusal.reason before refused, offset, own, length-append came share)
 
     abbrev evidence : List ℕ
     evidence = held_at frames.at frames.rest ++ take n after
@@ -181,19 +181,19 @@ module _ (role : Role) (limits : Limits) (old new : Scan) (chunk after : List �
     character = character_at refusal.reason done frames.at (take n after)
 
     module _ (info : HeadInfo) (payload : List ℕ) (here : frames.at ≡ InFrame info payload) (is_bad : refusal.reason ≡ TextBad) where
-      bad : IsRefused role limits (came ++ take n chunk) done refusal.place TextBad
-      bad = subst (IsRefused role limits (came ++ share) done refusal.place) is_bad (subst (λ (bs : List ℕ). IsRefused role limits bs done refusal.place refusal.reason) (append-nil (came ++ share)) (reaches.1.refused []))
+      bad : IsRefused role limits (came ++ take n chunk) done refusal.offset TextBad
+      bad = subst (IsRefused role limits (came ++ share) done refusal.offset) is_bad (subst (λ (bs : List ℕ). IsRefused role limits bs done refusal.offset refusal.reason) (append-nil (came ++ share)) (reaches.1.refused []))
 
       -- The offending byte is the last one.
       seen_is : bad.is_evident.seen ≡ frames.rest ++ take n chunk
       seen_is =
           let seen = bad.is_evident.seen in
           let later = bad.is_evident.later in
-          let stops = bad.is_evident.at_place in
-          let place = reaches.1.place in
+          let stops = bad.is_evident.at_offset in
+          let offset = reaches.1.offset in
           let all : length (came ++ share) ≡ length (stream done) + (length seen + length later) =
           ap (λ (bs : List ℕ). length bs) bad.is_evident.whole ∙ length-append (stream done) (seen ++ later) ∙ ap (λ (m : ℕ). length (stream done) + m) (length-append seen later) in
-          let none : later ≡ [] = no_items later (omega (arith, stops, place, all)) in
+          let none : later ≡ [] = no_items later (omega (arith, stops, offset, all)) in
           sym (append-nil seen) ∙ ap (λ (bs : List ℕ). seen ++ bs) (sym none) ∙ append_cancel (stream done) (seen ++ later) longer (sym bad.is_evident.whole ∙ reaches.0.has_consumed.whole)
 
       begins_seen : (b : BeginsWithHead role limits done bad.is_evident.seen info) × (b.following ≡ (in_frame role limits old came done frames.at frames.rest frames.followed info payload here).begins.following ++ take n chunk)
@@ -204,7 +204,7 @@ module _ (role : Role) (limits : Limits) (old new : Scan) (chunk after : List �
               head = b.head;
               following = b.following;
               whole = seen_is ∙ b.whole;
-              place = b.place;
+              offset = b.offset;
               encoded = b.encoded;
               key = b.key;
               form = b.form;
@@ -224,7 +224,7 @@ module _ (role : Role) (limits : Limits) (old new : Scan) (chunk after : List �
       of_text =
           let b = begins_seen.0 in
           let size = size_in_frame role limits old came done frames.at frames.rest frames.followed info payload here in
-          let place = (in_frame role limits old came done frames.at frames.rest frames.followed info payload here).begins.place in
+          let offset = (in_frame role limits old came done frames.at frames.rest frames.followed info payload here).begins.offset in
           let few_open = few_open role limits old came done frames.at frames.rest frames.followed in
           let most = few role limits old came done frames.at frames.rest frames.followed in
           let came_is = rest_few role limits old came done frames.at frames.rest frames.followed in
@@ -234,9 +234,9 @@ module _ (role : Role) (limits : Limits) (old new : Scan) (chunk after : List �
           let taken = length-take n after in
           let wire : wire_payload info.key b.following ≡ payload ++ take n after = ap (λ (bs : List ℕ). wire_payload info.key bs) begins_seen.1 ∙ sym payload_is in
           record {
-            data_frame = of_data role limits (came ++ share) done refusal.place in_bytes bad info b;
-            sized = omega (arith, size, place);
-            ends_bad = subst (λ (bs : List ℕ). EndsBad (payload_of (unfinished done) ++ bs)) wire (ends_bad role limits (came ++ share) done refusal.place in_bytes bad info b);
+            data_frame = of_data role limits (came ++ share) done refusal.offset in_bytes bad info b;
+            sized = omega (arith, size, offset);
+            ends_bad = subst (λ (bs : List ℕ). EndsBad (payload_of (unfinished done) ++ bs)) wire (ends_bad role limits (came ++ share) done refusal.offset in_bytes bad info b);
             small = omega (arith, came_is, most, room, all, input, taken);
             few_bytes = omega (arith, few_open, size, came_is, most, room, all, input, taken);
           }
@@ -270,11 +270,11 @@ module _ (role : Role) (limits : Limits) (old new : Scan) (chunk after : List �
     refused_step first printed =
         let there = reaches.1 in
         let items = interrupted detail done ++ RefusedFrame (length (stream done)) refusal evidence character ∷ [] in
-        let extra = shown_after (refusal.place + 1) items in
+        let extra = shown_after (refusal.offset + 1) items in
         let whole = reaches.0.has_consumed.whole in
-        let at_end = there.place in
-        let seen : drop (length (stream done)) (take (refusal.place + 1) (came ++ share)) ≡ longer =
-        ap (λ (bs : List ℕ). drop (length (stream done)) bs) (take_all (refusal.place + 1) (came ++ share) (omega (arith, at_end)) ∙ whole) ∙ drop_at (stream done) longer (length (stream done)) refl in
+        let at_end = there.offset in
+        let seen : drop (length (stream done)) (take (refusal.offset + 1) (came ++ share)) ≡ longer =
+        ap (λ (bs : List ℕ). drop (length (stream done)) bs) (take_all (refusal.offset + 1) (came ++ share) (omega (arith, at_end)) ∙ whole) ∙ drop_at (stream done) longer (length (stream done)) refl in
         let now : HasShownRefusal detail role limits new parts_after (came ++ share) (shown ++ extra) = record {
           done = done;
           refusal = refusal;
@@ -285,7 +285,7 @@ module _ (role : Role) (limits : Limits) (old new : Scan) (chunk after : List �
           scanned = record { frames = done; since = longer; position = frames.at; has_scanned = reaches.0; heads_are = refl };
           reported = is;
           refused = there.refused;
-          place = there.place;
+          offset = there.offset;
           first = first;
           of_frames = shown;
           are_of_frames = are_so_far detail role limits (came ++ share) longer done frames.at shown (lawful_done role limits old came done frames.at frames.rest frames.followed) whole begun frames.is;
@@ -296,7 +296,7 @@ module _ (role : Role) (limits : Limits) (old new : Scan) (chunk after : List �
         record {
           extra = extra;
           has = inr now;
-          printed = subst (Prints context out out_after) (sym (items_after (refusal.place + 1) items)) printed;
+          printed = subst (Prints context out out_after) (sym (items_after (refusal.offset + 1) items)) printed;
         }
 
 -- A call with bytes consumes some, unless it refuses.

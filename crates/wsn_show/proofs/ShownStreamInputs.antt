@@ -14,7 +14,7 @@ use Rattle.wsn_rules.specs.declared.verdict.Refusal.{Refusal}
 use Rattle.wsn_rules.specs.declared.verdict.Verdict.{Verdict}
 use Rattle.wsn_rules.specs.declared.verdict.Verdict.TheVariants.{Accepted, Cut, Refused}
 use Rattle.wsn_rules.specs.Limits.{Limits}
-use Rattle.wsn_rules.specs.Verdict.{IsRefused, IsVerdict}
+use Rattle.wsn_rules.specs.Verdict.{IsRefused, IsVerdict, IsUnrefused}
 use Rattle.wsn_rules.specs.ShownStream.{Item, Shown, IsShownStream, IsLeftOver}
 use Rattle.wsn_rules.specs.ShownCapture.{beyond}
 use Rattle.wsn_rules.proofs.OneVerdict.{one_verdict}
@@ -24,7 +24,7 @@ use Rattle.wsn_rules.proofs.ShownLines.{nothing_shown}
 use Rattle.wsn_print.specs.ShownParts.EntryPosition.{InStream}
 use Rattle.wsn_scan.specs.declared.chunk_reader.ChunkReader.{ChunkReader}
 use Rattle.wsn_scan.specs.ChunkReaders.{HasCome, IsEndOf, IsHaltOf}
-use Rattle.wsn_scan.specs.Judging.{chunk_size, IsReached, IsUnrefused}
+use Rattle.wsn_scan.specs.Judging.{chunk_size, IsReached}
 use Rattle.wsn_list.specs.Listing.{IsEnded, IsListAnswer, IsReadUpToRefusal}
 use Rattle.wsn_scan.proofs.ChunksSoFar.{received, within_limit}
 use Rattle.wsn_scan.proofs.JudgedInputs.{stopped_unrefused}
@@ -45,8 +45,8 @@ module _ (role : Role) (limits : Limits) (style : Style) where
     pub written : IsWritten first now text
 
   none_refused : IsUnrefused role limits []
-  none_refused fs place reason refused =
-      let within = place_within role limits fs [] place reason refused.is_evident in absurd (omega (arith, within))
+  none_refused fs offset reason refused =
+      let within = place_within role limits fs [] offset reason refused.is_evident in absurd (omega (arith, within))
 
   pub begins : (input : Incoming) (chunks : ChunkReader) (output : Outgoing) (view : Viewed) → HasCome limits input input chunks [] → HasViewed role limits style view [] → output.failed ≡ false →
       HasShownInput input input chunks output output view []
@@ -69,7 +69,7 @@ module _ (role : Role) (limits : Limits) (style : Style) where
   left_with : (came : List ℕ) (fs : List Frame) (verdict : Verdict) (left : List Item) → IsUnrefused role limits came → IsVerdict role limits came fs verdict → IsLeftOver role limits came left → IsLeftWith role limits came verdict left
   left_with came fs (Accepted s) left none is over = over
   left_with came fs (Cut s) left none is over = over
-  left_with came fs (Refused r) left none is over = absurd (none fs r.place r.reason is)
+  left_with came fs (Refused r) left none is over = absurd (none fs r.offset r.reason is)
 
   module _ (came : List ℕ) (first now mid after : Outgoing) (text : List ℕ) (none : IsUnrefused role limits came) (is_text : IsItemText role limits style came text)
       (written : IsWritten first now text) (left : List Item) (is_left : IsLeftOver role limits came left)
@@ -151,7 +151,7 @@ module _ (role : Role) (limits : Limits) (style : Style) where
       reached : (fs : List Frame) (verdict : Verdict) → IsVerdict role limits came fs verdict → IsReached role limits new came verdict
       reached fs (Accepted s) is = (fs, is, end.at_end, end.within, end.unfailed)
       reached fs (Cut s) is = (fs, is, end.at_end, end.within, end.unfailed)
-      reached fs (Refused r) is = absurd (read.unrefused fs r.place r.reason is)
+      reached fs (Refused r) is = absurd (read.unrefused fs r.offset r.reason is)
 
       pub ended : (result : Result Verdict Stop) → EndsStream role limits style came first after result → IsStreamShown role limits style old new first after result
       ended (Ok verdict) e = record {
@@ -164,7 +164,7 @@ module _ (role : Role) (limits : Limits) (style : Style) where
       ended (Err stop.Write) e = record {
         came = came;
         received = end.received;
-        answer = (end.unfailed, λ fs place reason refused. absurd (read.unrefused fs place reason refused));
+        answer = (end.unfailed, λ fs offset reason refused. absurd (read.unrefused fs offset reason refused));
         printed = (e.1.0, subst (λ (bs : List ℕ). IsPrintedText role limits style bs e.1.0) (sym within_all) e.1.1, e.1.2);
         at_once = λ is. record { done = came; last = []; whole = sym (append-nil came); short = omega arith; written = e.2 };
       }
@@ -217,9 +217,9 @@ module _ (role : Role) (limits : Limits) (style : Style) where
       short_last = omega (arith, short, length-append chunk come.past)
 
       up_to_refusal : IsReadUpToRefusal role limits all_came
-      up_to_refusal fs place reason refused =
-          let place_is = place_after role limits came last_bytes fs place reason read.unrefused (subst (λ (bs : List ℕ). IsRefused role limits bs fs place reason) after_came refused) in
-          omega (arith, place_is, length-append (came ++ chunk) come.past, length-append came chunk, short)
+      up_to_refusal fs offset reason refused =
+          let offset_is = place_after role limits came last_bytes fs offset reason read.unrefused (subst (λ (bs : List ℕ). IsRefused role limits bs fs offset reason) after_came refused) in
+          omega (arith, offset_is, length-append (came ++ chunk) come.past, length-append came chunk, short)
 
       pub write_failed : after.failed ≡ true → IsStreamShown role limits style old new first after (Err stop.Write)
       write_failed failed = record {
@@ -239,7 +239,7 @@ module _ (role : Role) (limits : Limits) (style : Style) where
         wrote = elim written_now [ inl went ↦ went | inr part ↦ (let both : true ≡ false = sym part.0 ∙ works in absurd cc) ]
 
         -- the bytes are refused
-        module _ (fs : List Frame) (refusal : Refusal) (refused : IsRefused role limits (came ++ chunk) fs refusal.place refusal.reason) (last : Outgoing) where
+        module _ (fs : List Frame) (refusal : Refusal) (refused : IsRefused role limits (came ++ chunk) fs refusal.offset refusal.reason) (last : Outgoing) where
           abbrev verdict_text : List ℕ
           verdict_text = styled_verdict style (Refused refusal)
 
@@ -254,19 +254,19 @@ module _ (role : Role) (limits : Limits) (style : Style) where
             is = ap (λ (bs : List ℕ). bs ++ verdict_text) (sym (append-nil lines));
           }
 
-          refused_all : (more : List ℕ) → IsRefused role limits (all_came ++ more) fs refusal.place refusal.reason
+          refused_all : (more : List ℕ) → IsRefused role limits (all_came ++ more) fs refusal.offset refusal.reason
           refused_all more =
-              subst (λ (bs : List ℕ). IsRefused role limits bs fs refusal.place refusal.reason) (sym (append_assoc (came ++ chunk) come.past more))
-              (stays_refused role limits fs (came ++ chunk) (come.past ++ more) refusal.place refusal.reason refused)
+              subst (λ (bs : List ℕ). IsRefused role limits bs fs refusal.offset refusal.reason) (sym (append_assoc (came ++ chunk) come.past more))
+              (stays_refused role limits fs (came ++ chunk) (come.past ++ more) refusal.offset refusal.reason refused)
 
-          within : refusal.place < limits.input
+          within : refusal.offset < limits.input
           within =
-              let inside = place_within role limits fs (came ++ chunk) refusal.place refusal.reason refused.is_evident in
+              let inside = place_within role limits fs (came ++ chunk) refusal.offset refusal.reason refused.is_evident in
               let room = come.counted.room in
               omega (arith, inside, room)
 
-          soon : length all_came ≤ refusal.place + chunk_size
-          soon = up_to_refusal fs refusal.place refusal.reason (subst (λ (bs : List ℕ). IsRefused role limits bs fs refusal.place refusal.reason) (append-nil all_came) (refused_all []))
+          soon : length all_came ≤ refusal.offset + chunk_size
+          soon = up_to_refusal fs refusal.offset refusal.reason (subst (λ (bs : List ℕ). IsRefused role limits bs fs refusal.offset refusal.reason) (append-nil all_came) (refused_all []))
 
           shown_before : (verdict : List ℕ) → Appends after.written last.written verdict → IsWrittenAtLeast (IsItemText role limits style came) first last
           shown_before verdict put = (
@@ -309,5 +309,5 @@ module _ (role : Role) (limits : Limits) (style : Style) where
         goes_on fs verdict is other = record { come = come; viewed = viewed; unrefused = none_now; text = lines; is_text = text_now; written = wrote }
           where
             none_now : IsUnrefused role limits (came ++ chunk)
-            none_now gs place reason refused =
-                other (record { place = place; reason = reason }) (one_verdict role limits (came ++ chunk) fs gs verdict (Refused (record { place = place; reason = reason })) is refused).1
+            none_now gs offset reason refused =
+                other (record { offset = offset; reason = reason }) (one_verdict role limits (came ++ chunk) fs gs verdict (Refused (record { offset = offset; reason = reason })) is refused).1

@@ -117,7 +117,7 @@ module _ (detail : Detail) (role : Role) (limits : Limits) (scan : Scan) (parts 
 
     no_refusal : (fs : List Frame) (refusal : Refusal) → IsVerdict role limits came fs (Refused refusal) → ⊥
     no_refusal fs refusal is =
-        unrefused_so_far role limits scan came done frames.at frames.rest frames.followed fs refusal.place refusal.reason is
+        unrefused_so_far role limits scan came done frames.at frames.rest frames.followed fs refusal.offset refusal.reason is
 
     verdict_of : (verdict : Verdict) × IsVerdict role limits came done verdict
     verdict_of = judged_so_far role limits scan came done frames.at frames.rest frames.followed
@@ -141,19 +141,19 @@ module _ (detail : Detail) (role : Role) (limits : Limits) (scan : Scan) (parts 
 
   refusal_shown : HasShownRefusal detail role limits scan parts came shown → IsShownStream detail role limits came shown
   refusal_shown r =
-      let at_end = r.place in
-      let front : take (r.refusal.place + 1) came ≡ take (r.refusal.place + 1) r.read =
-      ap (λ (bs : List ℕ). take (r.refusal.place + 1) bs) r.whole ∙ take-append-le (r.refusal.place + 1) r.read r.unread (omega (arith, at_end)) in
+      let at_end = r.offset in
+      let front : take (r.refusal.offset + 1) came ≡ take (r.refusal.offset + 1) r.read =
+      ap (λ (bs : List ℕ). take (r.refusal.offset + 1) bs) r.whole ∙ take-append-le (r.refusal.offset + 1) r.read r.unread (omega (arith, at_end)) in
       let own = r.is_of_refusal in
       record {
         frames = r.done;
         verdict = Refused r.refusal;
-        is_verdict = subst (λ (bs : List ℕ). IsRefused role limits bs r.done r.refusal.place r.refusal.reason) (sym r.whole) (r.refused r.unread);
+        is_verdict = subst (λ (bs : List ℕ). IsRefused role limits bs r.done r.refusal.offset r.refusal.reason) (sym r.whole) (r.refused r.unread);
         of_frames = r.of_frames;
         are_of_frames =
             subst (λ (bs : List ℕ). AreShownFrames detail role limits bs r.done r.of_frames) (sym r.whole)
             (frames_stay role limits detail r.read r.unread r.done r.refusal r.of_frames
-            (subst (λ (bs : List ℕ). IsRefused role limits bs r.done r.refusal.place r.refusal.reason) (append-nil r.read) (r.refused [])) r.are_of_frames);
+            (subst (λ (bs : List ℕ). IsRefused role limits bs r.done r.refusal.offset r.refusal.reason) (append-nil r.read) (r.refused [])) r.are_of_frames);
         of_verdict = r.of_refusal;
         is_of_verdict = record {
           evidence = own.evidence;
@@ -173,7 +173,7 @@ module _ (detail : Detail) (role : Role) (limits : Limits) (scan : Scan) (parts 
   verdict_on : (read unread : List ℕ) (fs : List Frame) (verdict : Verdict) (refusal : Refusal) → refusal_judged verdict ≡ Some refusal → IsVerdict role limits read fs verdict → IsVerdict role limits (read ++ unread) fs verdict
   verdict_on read unread fs (Accepted summary) refusal is judged = absurd cc
   verdict_on read unread fs (Cut summary) refusal is judged = absurd cc
-  verdict_on read unread fs (Refused own) refusal is judged = stays_refused role limits fs read unread own.place own.reason judged
+  verdict_on read unread fs (Refused own) refusal is judged = stays_refused role limits fs read unread own.offset own.reason judged
 
   pub judged : (verdict : Verdict) → ((bytes rest : List ℕ) (fs : List Frame) (at : Position) → HasScanned role limits scan bytes fs rest at → IsVerdict role limits bytes fs verdict) → refusal_judged verdict ≡ refusal_in scan
       → HasShown detail role limits scan parts came shown → (fs : List Frame) × IsVerdict role limits came fs verdict
@@ -187,28 +187,28 @@ module _ (detail : Detail) (role : Role) (limits : Limits) (scan : Scan) (parts 
 
   -- ---- bytes after a refusal
 
-  pub record LeavesUnread (place : ℕ) : Type 0 where
+  pub record LeavesUnread (offset : ℕ) : Type 0 where
     pub unread : List ℕ
     pub first : HasFirst parts.rest unread
-    pub small : place + 1 < 2 ^ 64
-    pub left_over : IsLeftOver role limits came (items_of_bytes Unread (place + 1) unread)
+    pub small : offset + 1 < 2 ^ 64
+    pub left_over : IsLeftOver role limits came (items_of_bytes Unread (offset + 1) unread)
 
-  pub leaves_unread : (refusal : Refusal) → refusal_in scan ≡ Some refusal → HasShown detail role limits scan parts came shown → LeavesUnread refusal.place
+  pub leaves_unread : (refusal : Refusal) → refusal_in scan ≡ Some refusal → HasShown detail role limits scan parts came shown → LeavesUnread refusal.offset
   leaves_unread refusal is (inl frames) = let both : Some refusal ≡ None = sym is ∙ frames.followed.unrefused in absurd cc
   leaves_unread refusal is (inr r) =
       let same : r.refusal ≡ refusal = let both : Some r.refusal ≡ Some refusal = sym r.reported ∙ is in cc in
-      let at_end = r.place in
+      let at_end = r.offset in
       let room = r.scanned.has_scanned.has_consumed.room in
       let input = r.scanned.has_scanned.has_consumed.in_range.input in
-      subst (λ (own : Refusal). LeavesUnread own.place) same (record {
+      subst (λ (own : Refusal). LeavesUnread own.offset) same (record {
         unread = r.unread;
         first = r.first;
         small = omega (arith, at_end, room, input);
         left_over = record {
           frames = r.done;
           verdict = Refused r.refusal;
-          is_verdict = subst (λ (bs : List ℕ). IsRefused role limits bs r.done r.refusal.place r.refusal.reason) (sym r.whole) (r.refused r.unread);
-          is = ap (λ (bs : List ℕ). items_of_bytes Unread (r.refusal.place + 1) bs) (sym (ap (λ (bs : List ℕ). drop (r.refusal.place + 1) bs) r.whole ∙ drop_at r.read r.unread (r.refusal.place + 1) (sym at_end)));
+          is_verdict = subst (λ (bs : List ℕ). IsRefused role limits bs r.done r.refusal.offset r.refusal.reason) (sym r.whole) (r.refused r.unread);
+          is = ap (λ (bs : List ℕ). items_of_bytes Unread (r.refusal.offset + 1) bs) (sym (ap (λ (bs : List ℕ). drop (r.refusal.offset + 1) bs) r.whole ∙ drop_at r.read r.unread (r.refusal.offset + 1) (sym at_end)));
         };
       })
 
@@ -236,7 +236,7 @@ module _ (detail : Detail) (role : Role) (limits : Limits) (scan : Scan) (parts 
     is_sound (InFrame info payload) is =
         let begun = in_frame role limits scan came fs frames.at frames.rest h info payload is in
         let within = begun.within in (
-          begun.begins.place,
+          begun.begins.offset,
           λ control. let short = begun_control role limits fs frames.rest info begun.begins control in omega (arith, short, within),
           λ other. begun_kind role limits fs frames.rest info payload h.has_scanned.has_consumed.lawful begun.begins other,
           begun.text,

@@ -49,8 +49,8 @@ module _ (role : Role) (limits : Limits) (fs : List Frame) (f : Frame) (head : H
   op_is : f.op ≡ head.op
   op_is = sym (ap (λ (h : HeadInfo). h.op) w.head_is)
 
-  place_is : head.place ≡ length (stream fs)
-  place_is = ap (λ (h : HeadInfo). h.place) w.head_is
+  offset_is : head.offset ≡ length (stream fs)
+  offset_is = ap (λ (h : HeadInfo). h.offset) w.head_is
 
   -- ---- a frame that is an event by itself
 
@@ -70,15 +70,15 @@ module _ (role : Role) (limits : Limits) (fs : List Frame) (f : Frame) (head : H
         | inr other ↦ kept_after_whole message fs f (ap not other) (alone_final message alone) (alone_none message alone kept other) kept
       ]
 
-  -- The event that it is, which this stands for.
+  -- The event that it is, which this represents.
   pub alone_event : (message : MessageSoFar) → IsAlone message head → KeepsMessage message fs [] → (n : ℕ) (shown : ShownEvent) → n ≤ 4096 → shown.op ≡ head.op → shown.bytes ≡ length payload → shown.held.now ≡ take 4096 payload → shown.frames ≡ 1
-      → IsEventOf n fs f head.place shown
+      → IsEventOf n fs f head.offset shown
   alone_event message alone kept n shown few op bytes held frames =
       elim (cases_Bool (is_control f.op)) [
         | inl control ↦
             let short = control_short role limits fs f w.lawful control in
             let represents = represents_control n shown f.op f.payload control own_op size (own_held ∙ take_all 4096 f.payload (omega (arith, short))) in
-            control_event role limits fs f w.lawful n head.place shown control own_op represents frames place_is
+            control_event role limits fs f w.lawful n head.offset shown control own_op represents frames offset_is
         | inr other ↦
             let none = alone_none message alone kept other in
             let group = unfinished fs ++ f ∷ [] in
@@ -86,7 +86,7 @@ module _ (role : Role) (limits : Limits) (fs : List Frame) (f : Frame) (head : H
             let begins : shown.op ≡ first_op group = own_op ∙ sym (ap (λ (gs : List Frame). first_op (gs ++ f ∷ [])) none) in
             let represents = represents_message n shown group (payload_of group) (kind_of_data role limits fs f w.lawful other) begins (size ∙ ap (λ (bs : List ℕ). length bs) (sym payload_is))
             (first_held n (payload_of group) shown.held.now few (own_held ∙ ap (λ (bs : List ℕ). take 4096 bs) (sym payload_is))) in
-            message_event role limits fs f w.lawful n head.place shown other begins represents (frames ∙ sym (ap (λ (gs : List Frame). length (gs ++ f ∷ [])) none)) (place_is ∙ sym (offset_of_none fs none))
+            message_event role limits fs f w.lawful n head.offset shown other begins represents (frames ∙ sym (ap (λ (gs : List Frame). length (gs ++ f ∷ [])) none)) (offset_is ∙ sym (offset_of_none fs none))
       ]
     where
       own_op : shown.op ≡ f.op

@@ -6,7 +6,7 @@ use Rattle.wsn_rules.specs.Entries.{Entry, without_cr}
 use Rattle.wsn_rules.specs.Entries.Entry.{Mark}
 use Rattle.wsn_rules.specs.declared.report.Report.{Report}
 use Rattle.wsn_rules.specs.Reports.{IsEndedEarly}
-use Rattle.wsn_print.specs.declared.format.Format.{Format, TheVariants.{Text, Json}}
+use Rattle.wsn_print.specs.declared.format.Format.{Format, TheVariants.{Text, People, Json}}
 use Rattle.wsn_print.specs.Json.{string_field, field, boolean}
 use Rattle.wsn_shown_text.specs.ShownObjects.{side_word}
 use Rattle.wsn_show.specs.declared.ended_by.EndedBy.{EndedBy}
@@ -59,4 +59,5 @@ ended_by_object by =
 abbrev pub ended_by_text : Format → Option EndedBy → List ℕ
 ended_by_text format None = []
 ended_by_text Text (Some by) = ended_by_line by
+ended_by_text People (Some by) = ended_by_line by
 ended_by_text Json (Some by) = ended_by_object by

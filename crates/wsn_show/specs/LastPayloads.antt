@@ -13,7 +13,7 @@ use Rattle.wsn_show.specs.declared.last_payload.HeldCharacter.{HeldCharacter}
 
 -- The bytes, as they are held.
 abbrev pub placed_bytes : List StreamByte → List PlacedByte
-placed_bytes = map (λ b. record { place = b.place; byte = b.byte })
+placed_bytes = map (λ b. record { offset = b.offset; byte = b.byte })
 
 -- These bytes came, and the last four are held.
 abbrev pub HasLastPayload : LastPayload → List PlacedByte → Type 0

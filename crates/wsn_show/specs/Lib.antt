@@ -6,7 +6,6 @@ pub mod StreamParts
 pub mod ShownItems
 pub mod ShownSoFar
 pub mod TakenParts
-pub mod Times
 pub mod EndedBy
 pub mod EndNotes
 pub mod CaptureViews

@@ -54,8 +54,8 @@ pub record HasShownRefusal (detail : Detail) (role : Role) (limits : Limits) (sc
   pub whole : came ≡ read ++ unread
   pub scanned : HasScannedBytes role limits scan read heads
   pub reported : refusal_in scan ≡ Some refusal
-  pub refused : (later : List ℕ) → IsRefused role limits (read ++ later) done refusal.place refusal.reason
-  pub place : refusal.place + 1 ≡ length read
+  pub refused : (later : List ℕ) → IsRefused role limits (read ++ later) done refusal.offset refusal.reason
+  pub offset : refusal.offset + 1 ≡ length read
   pub first : HasFirst parts.rest unread
   pub of_frames : List Shown
   pub are_of_frames : AreShownFrames detail role limits read done of_frames

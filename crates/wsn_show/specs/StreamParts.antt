@@ -92,7 +92,7 @@ BeginsIfText group = first_op group ≡ Text → BeginsText (payload_of group)
 -- begins UTF-8 if it is a text.
 abbrev pub IsSoundPart : List Frame → Position → Type 0
 IsSoundPart fs BetweenFrames = ⊤
-IsSoundPart fs (InFrame head payload) = (head.place ≡ length (stream fs))
+IsSoundPart fs (InFrame head payload) = (head.offset ≡ length (stream fs))
     × (is_control head.op ≡ true → length payload ≤ 125)
     × (is_control head.op ≡ false → HasKind (first_op (unfinished fs ++ frame_so_far head payload ∷ [])))
     × (is_control head.op ≡ false → BeginsIfText (unfinished fs ++ frame_so_far head payload ∷ []))

@@ -19,7 +19,7 @@ pub fn text_of(format: Format, ended_by: Option<EndedBy>) -> &'static [u8]
 {
     match (format, ended_by) {
         (_, None) => b"",
-        (Format::Text, Some(ended_by)) => line_of(ended_by),
+        (Format::Text | Format::People, Some(ended_by)) => line_of(ended_by),
         (Format::Json, Some(ended_by)) => object_of(ended_by),
     }
 }

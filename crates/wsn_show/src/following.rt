@@ -76,7 +76,7 @@ impl StreamParts {
         put_begun(output, context, &part.head);
         if part.ends && self.is_event(&part.head) {
             let event = whole_event(part.head.op, payload);
-            self.put_event(output, context, part.head.place, &event);
+            self.put_event(output, context, part.head.offset, &event);
             self.next(size);
         } else {
             self.begin(part.head);

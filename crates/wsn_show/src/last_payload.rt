@@ -15,7 +15,7 @@ const CHARACTER_MAX: usize = 4;
 /// A byte of a stream, and its offset.
 #[derive(Clone, Copy, Default)]
 pub struct StreamByte {
-    pub place: u64,
+    pub offset: u64,
     pub byte: u8,
 }
 
@@ -53,9 +53,9 @@ impl LastPayload {
     {
         let skipped = bytes.len().saturating_sub(CHARACTER_MAX);
         for index in skipped..bytes.len() {
-            let place = end.saturating_sub((bytes.len() - index) as u64);
+            let offset = end.saturating_sub((bytes.len() - index) as u64);
             self.push(StreamByte {
-                place,
+                offset,
                 byte: bytes[index],
             });
         }
@@ -65,7 +65,7 @@ impl LastPayload {
     #[tactic(none)]
     fn push(&mut self, byte: StreamByte)
         ensures { (came : List PlacedByte) → HasLastPayload self.old came →
-            HasLastPayload self.new (came ++ placed byte.place (byte.byte ∷ [])) }
+            HasLastPayload self.new (came ++ placed byte.offset (byte.byte ∷ [])) }
     {
         self.make_room();
         self.held.push(byte);
@@ -81,7 +81,7 @@ impl LastPayload {
         }
     }
 
-    /// The bad character of a message whose payload, of so many bytes, ends with its first bad byte, and in earlier frames
+    /// The bad character of a message whose payload, of this many bytes, ends with its first bad byte, and in earlier frames
     /// with `earlier`.
     #[tactic(none)]
     pub fn bad_character(&self, count: u64, earlier: KeptBytes<EARLIER_MAX>) -> HeldCharacter
@@ -93,7 +93,7 @@ impl LastPayload {
         let first = bytes.len() - len;
         bytes.drop_front(first);
         HeldCharacter {
-            offset: self.place_at(first),
+            offset: self.offset_at(first),
             in_payload: count.saturating_sub(len as u64),
             bytes,
             earlier,
@@ -114,11 +114,11 @@ impl LastPayload {
 
     /// The offset of the byte with this index among those that are held; 0 if there is none.
     #[tactic(none)]
-    fn place_at(&self, index: usize) -> u64
+    fn offset_at(&self, index: usize) -> u64
         ensures { result ≡ first_offset (drop index (placed_bytes self.now.held.items)) }
     {
         match self.held.as_slice().get(index) {
-            Some(held) => held.place,
+            Some(held) => held.offset,
             None => 0,
         }
     }

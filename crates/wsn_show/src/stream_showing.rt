@@ -2,7 +2,7 @@ ghost use Rattle.std.specs.Prelude.{◌≡◌, ℕ, List, false};
 ghost use Rattle.wsn_io.specs.Transfer.{Outgoing, IsWritten};
 ghost use Rattle.wsn_wire.specs.declared.endpoint.Role.{Role};
 ghost use Rattle.wsn_rules.specs.Limits.{Limits};
-ghost use Rattle.wsn_scan.specs.Judging.{IsUnrefused};
+ghost use Rattle.wsn_rules.specs.Verdict.{IsUnrefused};
 ghost use Rattle.wsn_list.specs.Listing.{IsEnded};
 ghost use Rattle.wsn_show.specs.ShownSoFar.{HasViewed};
 ghost use Rattle.wsn_print.specs.declared.style.Style.{Style};

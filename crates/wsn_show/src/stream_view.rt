@@ -146,7 +146,7 @@ impl StreamView {
         let parts = &self.parts;
         match self.scan.finish() {
             Verdict::Refused(refusal) => {
-                let offset = refusal.place.saturating_add(1);
+                let offset = refusal.offset.saturating_add(1);
                 parts.put_remainder(output, &context, Remainder::Unread, offset);
             }
             Verdict::Accepted(summary) => match summary.close {

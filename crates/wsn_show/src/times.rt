@@ -1,7 +1,6 @@
 ghost use Rattle.std.specs.Prelude.{◌≡◌, ◌↔◌, ◌++◌, MatchOption, IsTrue, codes};
 ghost use Rattle.std.specs.List.{AllByRecursion};
-ghost use Rattle.wsn_rules.specs.ShownCapture.{IsDigit, IsSeconds, GivesTime, GivesNoTime};
-ghost use Rattle.wsn_show.specs.Times.{IsWhole, IsFraction};
+ghost use Rattle.wsn_rules.specs.ShownCapture.{IsDigit, IsWholePart, IsFractionalPart, IsSeconds, GivesTime, GivesNoTime};
 
 use memchr::memchr;
 use std::marker::Model;
@@ -32,7 +31,7 @@ fn is_seconds(text: &[u8]) -> bool
 /// Whether a text is digits without a leading zero, at least one.
 #[tactic(auto, using(crate::proofs::Points::leading_zero, crate::proofs::Points::no_leading_zero))]
 fn is_whole(text: &[u8]) -> bool
-    ensures { IsTrue result ↔ IsWhole text.now }
+    ensures { IsTrue result ↔ IsWholePart text.now }
 {
     match text {
         [] | [b'0', _, ..] => false,
@@ -42,7 +41,7 @@ fn is_whole(text: &[u8]) -> bool
 
 /// Whether a text is one to nine digits.
 fn is_fraction(text: &[u8]) -> bool
-    ensures { IsTrue result ↔ IsFraction text.now }
+    ensures { IsTrue result ↔ IsFractionalPart text.now }
 {
     are_digits(text) && matches!(text.len(), 1..=9)
 }

@@ -52,8 +52,9 @@ view_is n all character some =
 pub view_unseen : (n : ℕ) (all : List ℕ) (character : BadCharacter) → n ≡ 0 → codes "- -" ≡ character_view n all character
 view_unseen n all character none = ap (λ (k : ℕ). character_view k all character) (sym none)
 
-pub line_is : (front word place space view end : List ℕ) → front ++ ((word ++ place ++ space) ++ (view ++ end)) ≡ front ++ word ++ place ++ space ++ view ++ end
-line_is front word place space view end = simp append_assoc
+pub line_is : (side space offset word place gap view end : List ℕ)
+    → side ++ ((space ++ offset ++ word ++ place ++ gap) ++ (view ++ end)) ≡ side ++ (space ++ offset) ++ word ++ place ++ gap ++ view ++ end
+line_is side space offset word place gap view end = simp append_assoc
 
 -- ---- its object
 

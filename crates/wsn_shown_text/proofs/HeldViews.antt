@@ -1,19 +1,16 @@
 -- The views of bytes of which a part is held.
-use Rattle.std.proofs.Common.{◌≡◌, ◌≢◌, ℕ, suc, zero, ◌+◌, ◌*◌, ◌-◌, ◌<◌, ◌≤◌, inl, inr, Bool, true, false, nat_lt, ◌==◌, ◌&&◌, if◌then◌else◌, Option, List, [], ◌∷◌, ◌++◌, length, take, drop, get_or, refl, sym, ap, ◌∙◌, codes, decimal, append_assoc, arith, length-drop}
+use Rattle.std.proofs.Common.{◌≡◌, ◌≢◌, ℕ, suc, zero, ◌+◌, ◌*◌, ◌-◌, ◌<◌, ◌≤◌, inl, inr, Bool, true, false, nat_lt, ◌==◌, ◌&&◌, if◌then◌else◌, List, [], ◌∷◌, ◌++◌, length, take, drop, get_or, refl, sym, ap, ◌∙◌, codes, append_assoc, arith, length-drop}
 use Rattle.std.proofs.Math.Seq.{take-length, take-add}
 use Rattle.std.proofs.lemmas.List.{length-take, length-take-le, take-take, take-append-drop, drop-drop}
 use Rattle.std.proofs.lemmas.Bool.Decides.{nat_tests}
 use Rattle.std.proofs.lemmas.Str.{utf8_valid_len_le}
 use Rattle.std.specs.Str.Lossy.{utf8_valid_len}
 use Rattle.hex.specs.Hex.{encode_with, encode_lower, lower_digits}
-use Rattle.wsn_wire.specs.declared.endpoint.Role.{Role}
-use Rattle.wsn_print.specs.declared.shown.Remainder.{Remainder}
-use Rattle.wsn_print.specs.declared.shown.Remainder.TheVariants as remainders
 use Rattle.wsn_shown_text.specs.Views.{Shown, PayloadView, EndView, view_of_close}
 use Rattle.wsn_shown_text.specs.Views.Shown.{Hex, Code, NoCode}
-use Rattle.wsn_shown_text.specs.ShownText.{front_text, item_line, seen_text, view_text, end_text, hex_view, reason_text}
+use Rattle.wsn_shown_text.specs.ShownText.{seen_text, view_text, end_text, reason_text}
 use Rattle.wsn_print.specs.EscapedText.{quoted}
-use Rattle.wsn_print.specs.ShownParts.{text_part, HoldsFirst, HoldsLast, remainder_word, item_of_remainder}
+use Rattle.wsn_print.specs.ShownParts.{text_part, HoldsFirst, HoldsLast}
 
 -- All bytes are held.
 pub all_held : (n : ℕ) (all : List ℕ) → HoldsFirst n all all
@@ -146,9 +143,3 @@ pub no_code : (n : ℕ) (body : List ℕ) → length body < 2 → as_view NoCode
 no_code n [] short = refl
 no_code n (high ∷ []) short = refl
 no_code n (high ∷ low ∷ reason) short = absurd (omega arith)
-
-pub remainder_is : (n : ℕ) (role : Role) (time : Option (List ℕ)) (which : Remainder) (offset : ℕ) (all : List ℕ)
-    → front_text role time offset ++ ((remainder_word which ++ codes " " ++ decimal (length all) ++ codes " ") ++ (hex_view n all ++ codes "\n"))
-    ≡ item_line n role time (item_of_remainder which offset all)
-remainder_is n role time remainders.Unread offset all = simp append_assoc
-remainder_is n role time remainders.Tail offset all = simp append_assoc

@@ -4,7 +4,9 @@ pub mod JsonTexts
 pub mod VisibleTexts
 pub mod TextFronts
 pub mod VisibleLines
+pub mod VisiblePeople
 pub mod CommentLines
-pub mod ObjectPieces
+pub mod Entries
+pub mod PeopleTexts
 pub mod PlacedItems
 pub mod DifferingParts

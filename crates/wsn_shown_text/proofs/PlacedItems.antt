@@ -1,4 +1,4 @@
--- The item that an event to be shown stands for.
+-- The item that an event to be shown represents.
 use Rattle.std.proofs.Common.{◌≡◌, ℕ, Option, None, Some, List, ◌++◌, codes, append_assoc}
 use Rattle.wsn_wire.specs.declared.endpoint.Role.{Role}
 use Rattle.wsn_rules.specs.declared.compared.Compared.TheVariants.{Different}

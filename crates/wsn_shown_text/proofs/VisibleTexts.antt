@@ -5,7 +5,7 @@ use Rattle.std.proofs.Math.Seq.{take-length}
 use Rattle.std.proofs.lemmas.Bool.{cases_Bool, and_parts, or_cases, cases_lt}
 use Rattle.std.proofs.lemmas.Bool.Decides.{nat_tests}
 use Rattle.std.proofs.lemmas.List.{append-nil}
-use Rattle.std.proofs.lemmas.Str.{IsUtf8-nil, IsUtf8-append, IsUtf8-encode, IsUtf8-from_ascii, IsUtf8-from_is_utf8, chars-nil, chars-append, chars-encodes, chars-IsAscii, scalars-chars}
+use Rattle.std.proofs.lemmas.Str.{IsUtf8-nil, IsUtf8-append, IsUtf8-encode, IsUtf8-from_ascii, IsUtf8-from_is_utf8, utf8_valid_len-IsUtf8, chars-nil, chars-append, chars-encodes, chars-IsAscii, scalars-chars}
 use Rattle.std.proofs.lemmas.Str.Ascii.{IsAscii-nil, IsAscii-cons}
 use Rattle.std.specs.Char.{encode_utf8, IsScalar}
 use Rattle.std.specs.List.{AllByRecursion}
@@ -108,7 +108,7 @@ number_by c false test most =
 number_visible : (c : ℕ) → c < 0x110000 → IsAllVisible (ascii_escape c)
 number_visible c most = number_by c (nat_lt c 0x10000) refl most
 
-plain_visible : (c : ℕ) → IsScalar c → is_hidden c ≡ false → IsAllVisible (encode_utf8 c)
+pub plain_visible : (c : ℕ) → IsScalar c → is_hidden c ≡ false → IsAllVisible (encode_utf8 c)
 plain_visible c scalar visible =
     let scalars : all_scalars (c ∷ []) ≡ true = rw scalar refl in
     let is : chars (encode_utf8 c) ≡ c ∷ [] = ap chars (sym (append-nil (encode_utf8 c))) ∙ chars-encodes (c ∷ []) scalars in
@@ -205,6 +205,12 @@ unfolding utf8_valid_len
 utf8_if_all text test =
     let all : valid_len_up_to text (length text) ≡ length text = grind (arith, nat_tests) in
     subst IsUtf8 (ap (λ (n : ℕ). take n text) all ∙ take-length text) (front_is_utf8 text (length text))
+
+pub readable_visible : (text : List ℕ) → IsUtf8 text → IsAllVisible (comment_text text)
+readable_visible text utf8 =
+    let whole : (utf8_valid_len text == length text) ≡ true = grind (arith, nat_tests, utf8_valid_len-IsUtf8 text utf8) in
+    subst IsAllVisible (sym (ap (λ (b : Bool). if b then flat_map comment_character (chars text) else flat_map comment_byte text) whole))
+    (characters_visible comment_character comment_character_visible text utf8)
 
 pub comment_visible : (text : List ℕ) → IsBytes text → IsAllVisible (comment_text text)
 comment_visible text fits = elim (cases_Bool (utf8_valid_len text == length text)) [

@@ -67,7 +67,7 @@ character_view n evidence character =
 -- The line of a bad character, with its place in the payload, after the evidence for its refusal.
 abbrev pub character_line : ℕ → Role → Option (List ℕ) → List ℕ → BadCharacter → List ℕ
 character_line n role time evidence character =
-    front_text role time character.offset ++ codes "bad-character " ++ decimal character.in_payload ++ codes " "
+    front_text role time character.offset ++ codes " bad-character " ++ decimal character.in_payload ++ codes " "
     ++ character_view n evidence character ++ codes "\n"
 
 -- The same if there is one.

@@ -4,12 +4,12 @@ use Rattle.std.specs.Prelude.{ℕ, Option, None, Some, List, ◌++◌, codes}
 use Rattle.wsn_wire.specs.declared.endpoint.Role.{Role}
 use Rattle.wsn_rules.specs.declared.compared.Compared.TheVariants.{Different}
 use Rattle.wsn_rules.specs.ShownStream.{Item}
-use Rattle.wsn_print.specs.declared.format.Format.{Format, TheVariants.{Text, Json}}
+use Rattle.wsn_print.specs.declared.format.Format.{Format, TheVariants.{Text, People, Json}}
 use Rattle.wsn_print.specs.VerdictText.{comparison_line}
 use Rattle.wsn_shown_text.specs.DifferingText.{differ_line, differ_field}
 use Rattle.wsn_print.specs.Json.{field, string_field, number_field}
-use Rattle.wsn_shown_text.specs.ShownText.{offset_of, item_line}
-use Rattle.wsn_shown_text.specs.ShownObjects.{object_front, item_type, item_fields}
+use Rattle.wsn_shown_text.specs.ShownText.{item_line}
+use Rattle.wsn_shown_text.specs.ShownObjects.{open_object}
 use Rattle.wsn_print.specs.ShownParts.EntryPosition.{InStream}
 
 -- An event of one of the streams; a dash if it has no more events.
@@ -26,9 +26,7 @@ difference_lines n role k one other =
 -- The object of an event of one of the streams, without its LF; null if it has no more events.
 abbrev pub event_value : ℕ → Role → Option Item → List ℕ
 event_value n role None = codes "null"
-event_value n role (Some item) =
-    (object_front (item_type item) role InStream ++ number_field (codes "offset") (offset_of item) ++ item_fields n item)
-    ++ codes "}"
+event_value n role (Some item) = open_object n role InStream item ++ codes "}"
 
 -- The answer's members, one for each stream's event, and where the payloads differ.
 abbrev pub difference_object : ℕ → Role → ℕ → Option Item → Option Item → List ℕ
@@ -40,5 +38,6 @@ difference_object n role k one other =
 
 -- In a format.
 abbrev pub difference_text : Format → ℕ → Role → ℕ → Option Item → Option Item → List ℕ
-difference_text Text n role k one other = difference_lines n role k one other
-difference_text Json n role k one other = difference_object n role k one other
+difference_text Text = difference_lines
+difference_text People = difference_lines
+difference_text Json = difference_object

@@ -13,7 +13,7 @@ use Rattle.wsn_rules.specs.Meaning.{payload_in}
 
 -- ---- JSON strings
 
--- The character that an ASCII character behind a backslash stands for: `"`, `\` and `/` for themselves; b, f, n, r and
+-- The character that an ASCII character after a backslash represents: `"`, `\` and `/` for themselves; b, f, n, r and
 -- t for U+0008, U+000C, U+000A, U+000D and U+0009.
 abbrev pub unescaped : ℕ → Option ℕ
 unescaped letter =
@@ -28,7 +28,7 @@ unescaped letter =
 abbrev pub IsPlain : ℕ → List ℕ → Type 0
 IsPlain c bytes = (0x20 ≤ c) × (c ≢ 34) × (c ≢ 92) × (bytes ≡ encode_utf8 c)
 
--- A backslash and the character that stands for this one.
+-- A backslash and the character that represents this one.
 abbrev pub IsShortEscape : ℕ → List ℕ → Type 0
 IsShortEscape c bytes = (letter : ℕ) × (unescaped letter ≡ Some c) × (bytes ≡ 92 ∷ letter ∷ [])
 
@@ -97,6 +97,16 @@ abbrev pub ShowsTextReason : Item → Type 0
 ShowsTextReason (Event offset event frames) = HasTextReason event
 ShowsTextReason item = ⊤
 
+-- The bytes of an item's bad character, if it has one.
+abbrev pub bad_bytes : Item → List ℕ
+bad_bytes (RefusedFrame offset refusal evidence (Some character)) = character.bytes
+bad_bytes item = []
+
 -- The text is a line that ends with the only character in it that is hidden, an LF.
 abbrev pub IsVisibleLine : List ℕ → Type 0
 IsVisibleLine line = (text : List ℕ) × (line ≡ text ++ codes "\n") × IsAllVisible text
+
+-- The text is one such line, or two.
+abbrev pub AreVisibleLines : List ℕ → Type 0
+AreVisibleLines text = IsVisibleLine text
+    ⊎ ((first : List ℕ) × (second : List ℕ) × (text ≡ first ++ second) × IsVisibleLine first × IsVisibleLine second)

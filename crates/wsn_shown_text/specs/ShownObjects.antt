@@ -1,21 +1,21 @@
 -- The JSON objects of `show`, one a line, each with its LF: entries of what both sides sent, and comments.
-use Rattle.std.specs.Prelude.{ℕ, ◌==◌, Bool, if◌then◌else◌, None, Some, List, [], ◌∷◌, ◌++◌, length, drop, codes}
+use Rattle.std.specs.Prelude.{ℕ, ◌==◌, Bool, if◌then◌else◌, Some, List, [], ◌∷◌, ◌++◌, length, drop, flat_map, codes}
 use Rattle.std.specs.Str.Lossy.{utf8_valid_len}
 use Rattle.hex.specs.Hex.{encode_lower}
 use Rattle.wsn_wire.specs.declared.endpoint.Role.{Role, TheVariants.{Client, Server}}
-use Rattle.wsn_rules.specs.declared.head_info.HeadInfo.{HeadInfo}
 use Rattle.wsn_rules.specs.ShownStream.{Item}
-use Rattle.wsn_rules.specs.ShownStream.Item.{Event, Head, Unfinished, UnfinishedHead, RefusedFrame, Unread, Tail}
+use Rattle.wsn_rules.specs.ShownOffsets.{offset_of}
 use Rattle.wsn_print.specs.Json.{field, string_field, number_field, number_or_null_field}
-use Rattle.wsn_print.specs.Objects.{refusal_fields, head_fields}
+use Rattle.wsn_print.specs.Objects.{refusal_fields, head_members}
 use Rattle.wsn_shown_text.specs.CharacterText.{character_fields}
 use Rattle.wsn_print.specs.EscapedText.{quoted}
 use Rattle.wsn_print.specs.ShownParts.{EntryPosition}
 use Rattle.wsn_print.specs.ShownParts.EntryPosition.{InLine, AtEnd, InStream}
 use Rattle.wsn_shown_text.specs.AsciiText.{ascii_quoted}
-use Rattle.wsn_shown_text.specs.Views.{Shown, PayloadView, EndView, view_of_bytes, view_of_end, view_of_event, view_of_unfinished}
+use Rattle.wsn_shown_text.specs.Members.{Member, members, end_members, item_type}
+use Rattle.wsn_shown_text.specs.Members.Member.{Mark, Word, Number, Lacks, Frame, Refused, Seen, Ending, Bad}
+use Rattle.wsn_shown_text.specs.Views.{Shown, PayloadView, EndView}
 use Rattle.wsn_shown_text.specs.Views.Shown.{Text, Ascii, Hex, Code, NoCode}
-use Rattle.wsn_shown_text.specs.ShownText.{event_word, event_size, offset_of}
 
 -- ---- views
 
@@ -78,51 +78,33 @@ object_front kind role position =
     codes "{\"type\":\"" ++ kind ++ codes "\"" ++ line_field position ++ string_field (codes "side") (side_word role)
     ++ time_key position ++ time_value position
 
--- The word, the payload bytes and the frames of an event.
-abbrev pub event_fields : List ℕ → ℕ → ℕ → List ℕ
-event_fields word bytes frames =
-    string_field (codes "event") word ++ number_field (codes "bytes") bytes ++ number_field (codes "frames") frames
+-- A member.
+abbrev pub member_field : Member → List ℕ
+member_field (Mark word) = []
+member_field (Word name word) = string_field name word
+member_field (Number name number) = number_field name number
+member_field (Lacks lacks) = number_or_null_field (codes "lacks") lacks
+member_field (Frame head) = head_members head
+member_field (Refused refusal) = refusal_fields (codes "place") refusal
+member_field (Seen n view) = view_fields view
+member_field (Ending n end) = end_fields end
+member_field (Bad n evidence character) = character_fields n evidence character
 
--- The type of an item's object.
-abbrev pub item_type : Item → List ℕ
-item_type (Event offset event frames) = codes "event"
-item_type (Head info) = codes "frame"
-item_type (Unfinished offset event frames lacks) = codes "unfinished"
-item_type (UnfinishedHead offset) = codes "unfinished"
-item_type (RefusedFrame offset refusal evidence character) = codes "refused"
-item_type (Unread offset bytes) = codes "unread"
-item_type (Tail offset bytes) = codes "tail"
+-- The object of an item of an endpoint's stream without its end, with views of at most n bytes.
+abbrev pub open_object : ℕ → Role → EntryPosition → Item → List ℕ
+open_object n role position item =
+    object_front (item_type item) role position ++ number_field (codes "offset") (offset_of item)
+    ++ flat_map member_field (members n item)
 
--- A frame of an endpoint's stream.
-abbrev pub shown_frame_object : Role → EntryPosition → HeadInfo → List ℕ
-shown_frame_object role position head = object_front (codes "frame") role position ++ head_fields head ++ codes "}\n"
-
--- The members of an item after its offset, with views of at most n bytes. (A frame has all its members by its head.)
-abbrev pub item_fields : ℕ → Item → List ℕ
-item_fields n (Event offset event frames) =
-    event_fields (event_word event) (event_size event) frames ++ view_fields (view_of_event n event)
-item_fields n (Head info) = []
-item_fields n (Unfinished offset event frames lacks) =
-    event_fields (event_word event) (event_size event) frames ++ number_or_null_field (codes "lacks") lacks
-    ++ view_fields (view_of_unfinished n event)
-item_fields n (UnfinishedHead offset) =
-    event_fields (codes "head") 0 0 ++ number_or_null_field (codes "lacks") None ++ hex_field []
-item_fields n (RefusedFrame offset refusal evidence character) =
-    refusal_fields (codes "place") refusal ++ end_fields (view_of_end n evidence) ++ character_fields n evidence character
-item_fields n (Unread offset bytes) = number_field (codes "bytes") (length bytes) ++ view_fields (view_of_bytes n bytes)
-item_fields n (Tail offset bytes) = number_field (codes "bytes") (length bytes) ++ view_fields (view_of_bytes n bytes)
-
--- An item of an endpoint's stream.
+-- The object.
 abbrev pub item_object : ℕ → Role → EntryPosition → Item → List ℕ
-item_object n role position (Head info) = shown_frame_object role position info
-item_object n role position item =
-    object_front (item_type item) role position ++ number_field (codes "offset") (offset_of item) ++ item_fields n item
-    ++ codes "}\n"
+item_object n role position item = open_object n role position item ++ codes "}\n"
 
 -- An endpoint's end mark. The offset is the number of bytes that the endpoint sent.
 abbrev pub end_object : Role → EntryPosition → ℕ → List ℕ
 end_object role position sent =
-    object_front (codes "end") role position ++ number_field (codes "offset") sent ++ codes "}\n"
+    object_front (codes "end") role position ++ number_field (codes "offset") sent ++ flat_map member_field end_members
+    ++ codes "}\n"
 
 -- ---- comments
 

@@ -1,16 +1,16 @@
 -- The lines of `show`, each with its LF: entries of what both sides sent, and end marks. (Comments are in `EscapedText`.)
-use Rattle.std.specs.Prelude.{ℕ, ◌==◌, ◌&&◌, if◌then◌else◌, Option, None, Some, List, [], ◌∷◌, ◌++◌, length, codes, decimal}
+use Rattle.std.specs.Prelude.{ℕ, ◌==◌, ◌&&◌, if◌then◌else◌, Option, None, Some, List, [], ◌∷◌, ◌++◌, flat_map, codes, decimal}
 use Rattle.hex.specs.Hex.{encode_lower}
 use Rattle.wsn_wire.specs.declared.endpoint.Role.{Role, TheVariants.{Client, Server}}
-use Rattle.wsn_wire.specs.declared.opcode.Kind.{Kind}
-use Rattle.wsn_wire.specs.declared.opcode.Kind.TheVariants as kinds
-use Rattle.wsn_rules.specs.Meaning.{MeantEvent, Message, Control}
+use Rattle.wsn_rules.specs.Meaning.{MeantEvent}
 use Rattle.wsn_rules.specs.ShownStream.{Item}
-use Rattle.wsn_rules.specs.ShownStream.Item.{Event, Head, Unfinished, UnfinishedHead, RefusedFrame, Unread, Tail}
-use Rattle.wsn_print.specs.Fields.{number_text, refusal_text, op_word}
+use Rattle.wsn_rules.specs.ShownOffsets.{offset_of}
+use Rattle.wsn_print.specs.Fields.{number_text, refusal_text}
 use Rattle.wsn_print.specs.HeadText.{head_fields}
 use Rattle.wsn_print.specs.EscapedText.{quoted}
 use Rattle.wsn_shown_text.specs.AsciiText.{ascii_quoted}
+use Rattle.wsn_shown_text.specs.Members.{Member, members, end_members}
+use Rattle.wsn_shown_text.specs.Members.Member.{Mark, Word, Number, Lacks, Frame, Refused, Seen, Ending, Bad}
 use Rattle.wsn_shown_text.specs.Views.{Shown, PayloadView, EndView, view_of_text, view_of_bytes, view_of_end, view_of_body, view_of_event, view_of_unfinished}
 use Rattle.wsn_shown_text.specs.Views.Shown.{Text, Ascii, Hex, Code, NoCode}
 
@@ -70,25 +70,17 @@ unfinished_view n event = view_text n (view_of_unfinished n event)
 
 -- ---- entries
 
--- The word for a kind of message.
-abbrev pub kind_word : Kind → List ℕ
-kind_word kinds.Text = codes "text"
-kind_word kinds.Binary = codes "binary"
-
--- The word for what an event is.
-abbrev pub event_word : MeantEvent → List ℕ
-event_word (Message kind payload) = kind_word kind
-event_word (Control op body) = op_word op
-
--- The number of an event's payload bytes.
-abbrev pub event_size : MeantEvent → ℕ
-event_size (Message kind payload) = length payload
-event_size (Control op body) = length body
-
--- The word, the payload bytes and the frames of an event.
-abbrev pub event_text : MeantEvent → ℕ → List ℕ
-event_text event frames =
-    event_word event ++ codes " " ++ decimal (event_size event) ++ codes " " ++ decimal frames
+-- A member, after a space.
+abbrev pub member_text : Member → List ℕ
+member_text (Mark word) = codes " " ++ word
+member_text (Word name word) = codes " " ++ word
+member_text (Number name number) = codes " " ++ decimal number
+member_text (Lacks lacks) = codes " lacks " ++ number_text lacks
+member_text (Frame head) = codes " " ++ head_fields head
+member_text (Refused refusal) = codes " " ++ refusal_text refusal
+member_text (Seen n view) = codes " " ++ view_text n view
+member_text (Ending n end) = codes " " ++ end_text n end
+member_text (Bad n evidence character) = []
 
 -- The letter of an endpoint.
 abbrev pub role_letter : Role → List ℕ
@@ -102,41 +94,13 @@ time_text (Some seconds) = seconds
 
 -- What is in front of each entry: the endpoint, the time, and an offset in the endpoint's stream.
 abbrev pub front_text : Role → Option (List ℕ) → ℕ → List ℕ
-front_text role time offset =
-    role_letter role ++ codes " " ++ time_text time ++ codes " " ++ decimal offset ++ codes " "
+front_text role time offset = role_letter role ++ codes " " ++ time_text time ++ (codes " " ++ decimal offset)
 
--- Bytes that belong to no frame: a word, their number, and the first of them.
-abbrev pub bytes_text : ℕ → List ℕ → List ℕ → List ℕ
-bytes_text n word bytes = word ++ codes " " ++ decimal (length bytes) ++ codes " " ++ hex_view n bytes
-
--- An item's own offset.
-abbrev pub offset_of : Item → ℕ
-offset_of (Event offset event frames) = offset
-offset_of (Head info) = info.place
-offset_of (Unfinished offset event frames lacks) = offset
-offset_of (UnfinishedHead offset) = offset
-offset_of (RefusedFrame offset refusal evidence character) = offset
-offset_of (Unread offset bytes) = offset
-offset_of (Tail offset bytes) = offset
-
--- An item, with views of at most n bytes.
-abbrev pub item_text : ℕ → Item → List ℕ
-item_text n (Event offset event frames) = event_text event frames ++ codes " " ++ event_view n event
-item_text n (Head info) = head_fields info
-item_text n (Unfinished offset event frames lacks) =
-    codes "unfinished " ++ event_text event frames ++ codes " lacks " ++ number_text lacks ++ codes " "
-    ++ unfinished_view n event
-item_text n (UnfinishedHead offset) = codes "unfinished head 0 0 lacks - -"
-item_text n (RefusedFrame offset refusal evidence character) = refusal_text refusal ++ codes " " ++ end_view n evidence
-item_text n (Unread offset bytes) = bytes_text n (codes "unread") bytes
-item_text n (Tail offset bytes) = bytes_text n (codes "tail") bytes
-
--- The line of an item of an endpoint's stream.
+-- The line of an item of an endpoint's stream, with views of at most n bytes.
 abbrev pub item_line : ℕ → Role → Option (List ℕ) → Item → List ℕ
-item_line n role time item = front_text role time (offset_of item) ++ item_text n item ++ codes "\n"
-
--- ---- end marks
+item_line n role time item =
+    front_text role time (offset_of item) ++ flat_map member_text (members n item) ++ codes "\n"
 
 -- The line of an endpoint's end mark. The offset is the number of bytes that the endpoint sent.
 abbrev pub end_line : Role → Option (List ℕ) → ℕ → List ℕ
-end_line role time sent = front_text role time sent ++ codes "end\n"
+end_line role time sent = front_text role time sent ++ flat_map member_text end_members ++ codes "\n"

@@ -3,22 +3,22 @@ ghost use Rattle.hex.specs.Hex.{encode_lower};
 ghost use Rattle.wsn_io.specs.Stops.{IsWrittenOrStops};
 ghost use Rattle.wsn_print.specs.Json.{number_field, field};
 ghost use Rattle.wsn_print.specs.EscapedText.{quoted};
-ghost use Rattle.wsn_print.specs.ShownParts.{IsEndOf, time_of, character_of, character_in};
+ghost use Rattle.wsn_print.specs.ShownParts.{IsEndOf, time_at, position_of, character_of, character_in};
 ghost use Rattle.wsn_shown_text.specs.CharacterText.{from_character, whole_characters, end_part, known_text, text_before, byte_escape, character_text, character_view, character_line, shown_bytes, truncated_text, character_object, character_fields};
 
-use crate::entries::put_front;
+use crate::fronts::put_side;
 use crate::line_views::{put_hex, put_if};
 use crate::object_views::{put_hex_field, put_truncated};
 use crate::views::{end_of, front_of};
 use std::io::Write;
 use wsn_io::{Output, Stop, put_line};
 use wsn_print::{
-    Front, HeldBytes, KeptBytes, Line, ShownCharacter, ViewLimit, push_number_field, put_quoted,
-    put_quoted_characters,
+    EntryFront, HeldBytes, KeptBytes, Line, ShownCharacter, ViewLimit, push_number_field,
+    put_quoted, put_quoted_characters,
 };
 
-/// The maximum length in bytes of the word and a place in the payload, with a number of twenty digits.
-const PLACE_MAX: usize = 35;
+/// The space for an offset, the word and a place in the payload in bytes, with two numbers of twenty digits.
+const PLACE_MAX: usize = 57;
 
 /// The most bytes of a byte that is escaped: `\x` and two digits.
 const BYTE_MAX: usize = 4;
@@ -31,37 +31,36 @@ const PLACES_MAX: usize = 80;
 
 /// Writes the line of a bad character, such as `C - 18 bad-character 12 e920 .."Ren\xe9\x20"`: its front, with the
 /// character's offset, its place in the payload of the message, its bytes up to the offending one, and the text up to
-/// that byte, with `..` before it if some of the message before isn't shown. The front's own offset isn't printed. `Stop::Write`
-/// if the writer fails: a prefix of the line was written.
+/// that byte, with `..` before it if some of the message before isn't shown. The front's own offset isn't printed.
 #[tactic(none)]
-pub fn put_bad_character<W: Write>(
+pub(crate) fn put_character_line<W: Write>(
     to: &mut Output<W>,
     view: ViewLimit,
-    front: &Front<'_>,
+    front: &EntryFront<'_>,
     evidence: &HeldBytes<'_>,
     character: &ShownCharacter<'_>,
 ) -> Result<(), Stop>
     requires { to.old.failed ≡ false }
     ensures { (all : List ℕ) → IsEndOf (view / 2) all evidence.now →
-        IsWrittenOrStops to.old to.new (character_line view front.now.role (time_of front.now) all
+        IsWrittenOrStops to.old to.new (character_line view front.now.role (time_at (position_of front.now.origin)) all
         (character_of character.now)) result }
 {
-    let front = Front {
-        offset: character.offset,
-        ..*front
-    };
-    put_front(to, &front)?;
-    put_line(to, line_of_place(character.in_payload).bytes())?;
+    put_side(to, front)?;
+    put_line(
+        to,
+        line_of_place(character.offset, character.in_payload).bytes(),
+    )?;
     put_character_view(to, view, evidence, character)?;
     put_line(to, b"\n")
 }
 
-#[tactic(none)]
-fn line_of_place(in_payload: u64) -> Line<PLACE_MAX>
-    ensures { result ≡ codes "bad-character " ++ decimal in_payload ++ codes " " }
+fn line_of_place(offset: u64, in_payload: u64) -> Line<PLACE_MAX>
+    ensures { result ≡ codes " " ++ decimal offset ++ codes " bad-character " ++ decimal in_payload ++ codes " " }
 {
     let mut line = Line::new();
-    line.push("bad-character ");
+    line.push(" ");
+    line.push_number(offset);
+    line.push(" bad-character ");
     line.push_number(in_payload);
     line.push(" ");
     line
@@ -113,7 +112,7 @@ fn put_character_text<W: Write>(
 /// The last bytes up to the offending one that are shown: the end of what is known of earlier frames, and then that of the
 /// evidence.
 #[tactic(none)]
-fn end_of_text(
+pub(crate) fn end_of_text(
     view: ViewLimit,
     evidence: &HeldBytes<'_>,
     character: &ShownCharacter<'_>,
@@ -132,7 +131,7 @@ fn end_of_text(
 
 /// The whole characters that are shown before a bad one, the last of these bytes.
 #[tactic(none)]
-fn text_before<'a>(end: &'a [u8], character: &ShownCharacter<'_>) -> &'a str
+pub(crate) fn text_before<'a>(end: &'a [u8], character: &ShownCharacter<'_>) -> &'a str
     ensures { (n : ℕ) (evidence : List ℕ) →
         end.now ≡ end_part n (known_text evidence (character_of character.now)) →
         result.now ≡ text_before n evidence (character_of character.now) }

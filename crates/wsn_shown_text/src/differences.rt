@@ -10,13 +10,13 @@ ghost use Rattle.wsn_print.specs.ShownParts.{IsPlaced, StandsFor};
 
 use crate::differing::put_differ_line;
 use crate::differing_members::put_differ_field;
-use crate::entries::put_event;
-use crate::shown_objects::put_event_members;
+use crate::fields::Shape;
+use crate::items::put_placed;
 use std::io::Write;
 use wsn_io::{Output, Stop, put_line};
 use wsn_print::{
-    Difference, EntryFront, Format, Front, Line, Origin, PlacedEvent, ViewLimit,
-    line_of_difference, push_number_field, push_string_field,
+    Difference, Format, Line, PlacedEvent, ViewLimit, line_of_difference, push_number_field,
+    push_string_field,
 };
 use wsn_wire::Role;
 
@@ -40,7 +40,7 @@ pub fn put_difference_as<W: Write>(
         IsWrittenOrStops to.old to.new (difference_text format view role difference.now.index one other) result }
 {
     match format {
-        Format::Text => put_difference(to, view, role, difference),
+        Format::Text | Format::People => put_difference(to, view, role, difference),
         Format::Json => put_difference_object(to, view, role, difference),
     }
 }
@@ -93,12 +93,8 @@ fn put_placed_line<W: Write>(
         IsWrittenOrStops to.old to.new (event_line view role (Some (Event offset event frames))) result }
     ensures unfailed { IfOk result (λ done. to.new.failed ≡ false) }
 {
-    let front = Front {
-        role,
-        time: None,
-        offset: placed.offset,
-    };
-    put_event(to, view, &front, &placed.event)
+    put_placed(to, Shape::Line, view, role, placed)?;
+    put_line(to, b"\n")
 }
 
 fn put_difference_object<W: Write>(
@@ -162,11 +158,6 @@ fn put_placed_object<W: Write>(
         IsWrittenOrStops to.old to.new (event_value view role (Some (Event offset event frames))) result }
     ensures unfailed { IfOk result (λ done. to.new.failed ≡ false) }
 {
-    let front = EntryFront {
-        role,
-        origin: Origin::Stream,
-        offset: placed.offset,
-    };
-    put_event_members(to, view, &front, &placed.event)?;
+    put_placed(to, Shape::Object, view, role, placed)?;
     put_line(to, b"}")
 }

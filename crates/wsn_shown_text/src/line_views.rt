@@ -41,7 +41,7 @@ pub(crate) fn put_view<W: Write>(
 }
 
 /// Whether nothing is shown of what isn't empty.
-fn is_hidden(limit: ViewLimit, more: bool) -> bool
+pub(crate) fn is_hidden(limit: ViewLimit, more: bool) -> bool
     ensures { result ≡ (limit == 0 && more) }
 {
     limit.bytes() == 0 && more
@@ -110,7 +110,7 @@ fn put_code<W: Write>(to: &mut Output<W>, code: u16, reason: &[u8]) -> Result<()
     put_reason(to, reason)
 }
 
-fn line_of_code(code: u16) -> Line<CODE_MAX>
+pub(crate) fn line_of_code(code: u16) -> Line<CODE_MAX>
     ensures { result ≡ decimal code }
 {
     let mut line = Line::new();
@@ -132,7 +132,7 @@ fn put_reason<W: Write>(to: &mut Output<W>, reason: &[u8]) -> Result<(), Stop>
 }
 
 /// Writes bytes in hexadecimal; a dash for none.
-fn put_hex_text<W: Write>(to: &mut Output<W>, bytes: &[u8]) -> Result<(), Stop>
+pub(crate) fn put_hex_text<W: Write>(to: &mut Output<W>, bytes: &[u8]) -> Result<(), Stop>
     requires { to.old.failed ≡ false }
     ensures { IsWrittenOrStops to.old to.new (hex_text bytes.now) result }
 {

@@ -35,8 +35,8 @@ pub fn of_events()
 
 /// The lines of frames: the offset is the frame's own, and the key is shown.
 pub fn of_frames()
-    ensures masked { item_line 48 Client (Some (codes "0.000596")) (Head (record { place = 0; fin = true; op = Text; key = Some (0x37 ∷ 0xfa ∷ 0x21 ∷ 0x3d ∷ []); form = Shortest; len = 5 })) ≡ codes "C 0.000596 0 fin text 37fa213d 5\n" }
-    ensures not_final { item_line 0 Server None (Head (record { place = 300; fin = false; op = Continue; key = None; form = Two; len = 100 })) ≡ codes "S - 300 more cont - 100 two\n" }
+    ensures masked { item_line 48 Client (Some (codes "0.000596")) (Head (record { offset = 0; fin = true; op = Text; key = Some (0x37 ∷ 0xfa ∷ 0x21 ∷ 0x3d ∷ []); form = Shortest; len = 5 })) ≡ codes "C 0.000596 0 fin text 37fa213d 5\n" }
+    ensures not_final { item_line 0 Server None (Head (record { offset = 300; fin = false; op = Continue; key = None; form = Two; len = 100 })) ≡ codes "S - 300 more cont - 100 two\n" }
 {}
 
 /// Views of 0 to 6 bytes, and of 48: characters are shown whole, and half as many bytes in hexadecimal as of a text.
@@ -140,14 +140,14 @@ pub fn of_unfinished()
     ensures at_the_end_without_a_time { item_entry format.Text 48 Server (AtEnd None) (UnfinishedHead 9) ≡ codes "S - 9 unfinished head 0 0 lacks - -\n" }
 {}
 
-/// The lines of refusals and of the bytes behind them, of tails and of end marks.
+/// The lines of refusals and of the bytes after them, of tails and of end marks.
 pub fn of_refusals()
-    ensures refused { item_line 48 Server None (RefusedFrame 7 (record { place = 11; reason = TextBad }) (codes "Gr" ++ (0xfc ∷ [])) None) ≡ codes "S - 7 refused 11 text-bad 1007 4772fc\n" }
-    ensures refused_at_6 { item_line 6 Server None (RefusedFrame 7 (record { place = 11; reason = TextBad }) (codes "Gr" ++ (0xfc ∷ [])) None) ≡ codes "S - 7 refused 11 text-bad 1007 4772fc\n" }
-    ensures refused_at_5 { item_line 5 Server None (RefusedFrame 7 (record { place = 11; reason = TextBad }) (codes "Gr" ++ (0xfc ∷ [])) None) ≡ codes "S - 7 refused 11 text-bad 1007 ..72fc\n" }
-    ensures refused_at_2 { item_line 2 Server None (RefusedFrame 7 (record { place = 11; reason = TextBad }) (codes "Gr" ++ (0xfc ∷ [])) None) ≡ codes "S - 7 refused 11 text-bad 1007 ..fc\n" }
-    ensures refused_at_1 { item_line 1 Server None (RefusedFrame 7 (record { place = 11; reason = TextBad }) (codes "Gr" ++ (0xfc ∷ [])) None) ≡ codes "S - 7 refused 11 text-bad 1007 ..\n" }
-    ensures refused_at_0 { item_line 0 Server None (RefusedFrame 7 (record { place = 11; reason = TextBad }) (codes "Gr" ++ (0xfc ∷ [])) None) ≡ codes "S - 7 refused 11 text-bad 1007 -\n" }
+    ensures refused { item_line 48 Server None (RefusedFrame 7 (record { offset = 11; reason = TextBad }) (codes "Gr" ++ (0xfc ∷ [])) None) ≡ codes "S - 7 refused 11 text-bad 1007 4772fc\n" }
+    ensures refused_at_6 { item_line 6 Server None (RefusedFrame 7 (record { offset = 11; reason = TextBad }) (codes "Gr" ++ (0xfc ∷ [])) None) ≡ codes "S - 7 refused 11 text-bad 1007 4772fc\n" }
+    ensures refused_at_5 { item_line 5 Server None (RefusedFrame 7 (record { offset = 11; reason = TextBad }) (codes "Gr" ++ (0xfc ∷ [])) None) ≡ codes "S - 7 refused 11 text-bad 1007 ..72fc\n" }
+    ensures refused_at_2 { item_line 2 Server None (RefusedFrame 7 (record { offset = 11; reason = TextBad }) (codes "Gr" ++ (0xfc ∷ [])) None) ≡ codes "S - 7 refused 11 text-bad 1007 ..fc\n" }
+    ensures refused_at_1 { item_line 1 Server None (RefusedFrame 7 (record { offset = 11; reason = TextBad }) (codes "Gr" ++ (0xfc ∷ [])) None) ≡ codes "S - 7 refused 11 text-bad 1007 ..\n" }
+    ensures refused_at_0 { item_line 0 Server None (RefusedFrame 7 (record { offset = 11; reason = TextBad }) (codes "Gr" ++ (0xfc ∷ [])) None) ≡ codes "S - 7 refused 11 text-bad 1007 -\n" }
     ensures unread { item_line 48 Server None (Unread 12 ((0xdf ∷ []) ++ codes "e" ++ (0x88 ∷ 0x02 ∷ 0x03 ∷ 0xef ∷ []))) ≡ codes "S - 12 unread 6 df65880203ef\n" }
     ensures unread_at_4 { item_line 4 Server None (Unread 12 ((0xdf ∷ []) ++ codes "e" ++ (0x88 ∷ 0x02 ∷ 0x03 ∷ 0xef ∷ []))) ≡ codes "S - 12 unread 6 df65 ..\n" }
     ensures tail { item_line 0 Client None (Tail 2 ((0x81 ∷ []))) ≡ codes "C - 2 tail 1 -\n" }
@@ -172,8 +172,8 @@ pub fn of_bad_characters()
     ensures after_earlier_frames_at_8 { character_line 8 Server None (0x20 ∷ []) (record { offset = 5; in_payload = 3; bytes = 0xe2 ∷ 0x82 ∷ 0x20 ∷ []; earlier = codes "abc" ++ (0xe2 ∷ 0x82 ∷ []) }) ≡ codes "S - 5 bad-character 3 e28220 ..\"c\\xe2\\x82\\x20\"\n" }
     ensures after_the_end_of_a_long_frame { character_line 200 Server None (0xfc ∷ []) (record { offset = 100; in_payload = 96; bytes = 0xfc ∷ []; earlier = codes "bcd" }) ≡ codes "S - 100 bad-character 96 fc ..\"bcd\\xfc\"\n" }
     ensures after_a_hidden_character { character_line 48 Server None (0x09 ∷ 0xfc ∷ []) (record { offset = 3; in_payload = 1; bytes = 0xfc ∷ []; earlier = [] }) ≡ codes "S - 3 bad-character 1 fc \"\\u0009\\xfc\"\n" }
-    ensures after_its_refusal { item_lines 48 Server None (RefusedFrame 7 (record { place = 11; reason = TextBad }) (codes "Gr" ++ (0xfc ∷ [])) (Some (record { offset = 11; in_payload = 2; bytes = 0xfc ∷ []; earlier = [] }))) ≡ codes "S - 7 refused 11 text-bad 1007 4772fc\nS - 11 bad-character 2 fc \"Gr\\xfc\"\n" }
-    ensures without_one { item_lines 48 Server None (RefusedFrame 7 (record { place = 7; reason = ReservedBits }) (0xc1 ∷ []) None) ≡ codes "S - 7 refused 7 reserved-bits 1002 c1\n" }
+    ensures after_its_refusal { item_lines 48 Server None (RefusedFrame 7 (record { offset = 11; reason = TextBad }) (codes "Gr" ++ (0xfc ∷ [])) (Some (record { offset = 11; in_payload = 2; bytes = 0xfc ∷ []; earlier = [] }))) ≡ codes "S - 7 refused 11 text-bad 1007 4772fc\nS - 11 bad-character 2 fc \"Gr\\xfc\"\n" }
+    ensures without_one { item_lines 48 Server None (RefusedFrame 7 (record { offset = 7; reason = ReservedBits }) (0xc1 ∷ []) None) ≡ codes "S - 7 refused 7 reserved-bits 1002 c1\n" }
 {}
 
 /// The lines of comments: hidden characters are escaped; of what is not UTF-8, all bytes that are not printable ASCII. A

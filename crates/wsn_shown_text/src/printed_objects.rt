@@ -12,9 +12,9 @@ ghost use Rattle.wsn_rules.specs.declared.report.Outcome.TheVariants as outcome;
 ghost use Rattle.wsn_rules.specs.declared.report.Side.TheVariants as side;
 ghost use Rattle.wsn_rules.specs.declared.verdict.Verdict.TheVariants.{Accepted, Cut, Refused};
 ghost use Rattle.wsn_rules.specs.Meaning.{Message, Control};
-ghost use Rattle.wsn_rules.specs.ShownStream.Item.{Event, Unfinished, UnfinishedHead, RefusedFrame, Unread, Tail};
+ghost use Rattle.wsn_rules.specs.ShownStream.Item.{Event, Head, Unfinished, UnfinishedHead, RefusedFrame, Unread, Tail};
 ghost use Rattle.wsn_print.specs.Objects.{verdict_object, frame_object, report_object, comparison_object};
-ghost use Rattle.wsn_shown_text.specs.ShownObjects.{item_object, end_object, shown_frame_object, comment_object};
+ghost use Rattle.wsn_shown_text.specs.ShownObjects.{item_object, end_object, comment_object};
 ghost use Rattle.wsn_print.specs.ShownParts.EntryPosition.{InLine, AtEnd, InStream};
 
 /// The objects of verdicts.
@@ -59,13 +59,13 @@ pub fn of_verdicts()
       pongs = 0;
       close = None;
     })) ≡ codes "{\"type\":\"verdict\",\"verdict\":\"cut\",\"used\":2,\"unfinished\":0,\"frames\":1,\"messages\":0,\"pings\":0,\"pongs\":0}\n" }
-    ensures refused { verdict_object (Refused (record { place = 11; reason = TextBad })) ≡ codes "{\"type\":\"verdict\",\"verdict\":\"refused\",\"offset\":11,\"reason\":\"text-bad\",\"code\":1007}\n" }
+    ensures refused { verdict_object (Refused (record { offset = 11; reason = TextBad })) ≡ codes "{\"type\":\"verdict\",\"verdict\":\"refused\",\"offset\":11,\"reason\":\"text-bad\",\"code\":1007}\n" }
 {}
 
 /// The objects of frames.
 pub fn of_frames()
     ensures masked { frame_object (record {
-      place = 0;
+      offset = 0;
       fin = true;
       op = op.Text;
       key = Some (0x37 ∷ 0xfa ∷ 0x21 ∷ 0x3d ∷ []);
@@ -73,7 +73,7 @@ pub fn of_frames()
       len = 5;
     }) ≡ codes "{\"type\":\"frame\",\"offset\":0,\"fin\":true,\"opcode\":\"text\",\"key\":\"37fa213d\",\"length\":5,\"form\":\"shortest\"}\n" }
     ensures not_final { frame_object (record {
-      place = 0;
+      offset = 0;
       fin = false;
       op = op.Binary;
       key = None;
@@ -81,7 +81,7 @@ pub fn of_frames()
       len = 0;
     }) ≡ codes "{\"type\":\"frame\",\"offset\":0,\"fin\":false,\"opcode\":\"binary\",\"key\":null,\"length\":0,\"form\":\"two\"}\n" }
     ensures continued { frame_object (record {
-      place = 7;
+      offset = 7;
       fin = true;
       op = op.Continue;
       key = None;
@@ -89,7 +89,7 @@ pub fn of_frames()
       len = 65535;
     }) ≡ codes "{\"type\":\"frame\",\"offset\":7,\"fin\":true,\"opcode\":\"cont\",\"key\":null,\"length\":65535,\"form\":\"eight\"}\n" }
     ensures small_key { frame_object (record {
-      place = 13;
+      offset = 13;
       fin = true;
       op = op.Ping;
       key = Some (0x00 ∷ 0x00 ∷ 0x00 ∷ 0x01 ∷ []);
@@ -102,7 +102,7 @@ pub fn of_frames()
 pub fn of_reports()
     ensures failed { report_object (record {
       client = side.Closed (Some 1000);
-      server = side.Refused (record { place = 11; reason = TextBad });
+      server = side.Refused (record { offset = 11; reason = TextBad });
       first = Some Client;
       echo = None;
       client_sees = Some 1006;
@@ -161,7 +161,7 @@ pub fn of_comparisons()
       pongs = 0;
       close = None;
     }))) ≡ codes "{\"type\":\"comparison\",\"answer\":\"first\",\"verdict\":{\"verdict\":\"cut\",\"used\":2,\"unfinished\":0,\"frames\":1,\"messages\":0,\"pings\":0,\"pongs\":0}}\n" }
-    ensures second { comparison_object (NotAccepted true (Refused (record { place = 5; reason = TextBad }))) ≡ codes "{\"type\":\"comparison\",\"answer\":\"second\",\"verdict\":{\"verdict\":\"refused\",\"offset\":5,\"reason\":\"text-bad\",\"code\":1007}}\n" }
+    ensures second { comparison_object (NotAccepted true (Refused (record { offset = 5; reason = TextBad }))) ≡ codes "{\"type\":\"comparison\",\"answer\":\"second\",\"verdict\":{\"verdict\":\"refused\",\"offset\":5,\"reason\":\"text-bad\",\"code\":1007}}\n" }
 {}
 
 /// The objects of complete events, in a line of a capture, at its end and in a stream.
@@ -182,8 +182,8 @@ pub fn of_events()
 
 /// The objects of refusals, of what is unfinished, unread or a tail, of end marks and of frames.
 pub fn of_other_entries()
-    ensures refused { item_object 48 Server (InLine 1 None) (RefusedFrame 7 (record { place = 11; reason = TextBad }) (0x47 ∷ 0x72 ∷ 0xfc ∷ []) None) ≡ codes "{\"type\":\"refused\",\"line\":1,\"side\":\"server\",\"time\":null,\"offset\":7,\"place\":11,\"reason\":\"text-bad\",\"code\":1007,\"hex\":\"4772fc\"}\n" }
-    ensures refused_at_2 { item_object 2 Server (InLine 1 None) (RefusedFrame 7 (record { place = 11; reason = TextBad }) (0x47 ∷ 0x72 ∷ 0xfc ∷ []) None) ≡ codes "{\"type\":\"refused\",\"line\":1,\"side\":\"server\",\"time\":null,\"offset\":7,\"place\":11,\"reason\":\"text-bad\",\"code\":1007,\"hex\":\"fc\",\"truncated\":true}\n" }
+    ensures refused { item_object 48 Server (InLine 1 None) (RefusedFrame 7 (record { offset = 11; reason = TextBad }) (0x47 ∷ 0x72 ∷ 0xfc ∷ []) None) ≡ codes "{\"type\":\"refused\",\"line\":1,\"side\":\"server\",\"time\":null,\"offset\":7,\"place\":11,\"reason\":\"text-bad\",\"code\":1007,\"hex\":\"4772fc\"}\n" }
+    ensures refused_at_2 { item_object 2 Server (InLine 1 None) (RefusedFrame 7 (record { offset = 11; reason = TextBad }) (0x47 ∷ 0x72 ∷ 0xfc ∷ []) None) ≡ codes "{\"type\":\"refused\",\"line\":1,\"side\":\"server\",\"time\":null,\"offset\":7,\"place\":11,\"reason\":\"text-bad\",\"code\":1007,\"hex\":\"fc\",\"truncated\":true}\n" }
     ensures unfinished { item_object 4 Server (InLine 9 None) (Unfinished 17 (Message kind.Binary (0x00 ∷ 0xff ∷ 0x00 ∷ [])) 1 (Some 144)) ≡ codes "{\"type\":\"unfinished\",\"line\":9,\"side\":\"server\",\"time\":null,\"offset\":17,\"event\":\"binary\",\"bytes\":3,\"frames\":1,\"lacks\":144,\"hex\":\"00ff\",\"truncated\":true}\n" }
     ensures unfinished_text { item_object 48 Server (AtEnd None) (Unfinished 0 (Message kind.Text (codes "A")) 1 None) ≡ codes "{\"type\":\"unfinished\",\"side\":\"server\",\"time\":null,\"offset\":0,\"event\":\"text\",\"bytes\":1,\"frames\":1,\"lacks\":null,\"text\":\"A\"}\n" }
     ensures unfinished_ping { item_object 48 Server (AtEnd None) (Unfinished 3 (Control Ping (codes "p")) 1 (Some 1)) ≡ codes "{\"type\":\"unfinished\",\"side\":\"server\",\"time\":null,\"offset\":3,\"event\":\"ping\",\"bytes\":1,\"frames\":1,\"lacks\":1,\"hex\":\"70\"}\n" }
@@ -192,15 +192,15 @@ pub fn of_other_entries()
     ensures unread_with_a_time { item_object 48 Server (AtEnd (Some (codes "1.5"))) (Unread 12 (0xdf ∷ 0x65 ∷ [])) ≡ codes "{\"type\":\"unread\",\"side\":\"server\",\"time\":1.5,\"offset\":12,\"bytes\":2,\"hex\":\"df65\"}\n" }
     ensures tail { item_object 0 Client InStream (Tail 2 (0x81 ∷ [])) ≡ codes "{\"type\":\"tail\",\"side\":\"client\",\"offset\":2,\"bytes\":1,\"hex\":\"\",\"truncated\":true}\n" }
     ensures end_mark { end_object Server (InLine 4 None) 18 ≡ codes "{\"type\":\"end\",\"line\":4,\"side\":\"server\",\"time\":null,\"offset\":18}\n" }
-    ensures frame { shown_frame_object Client (InLine 1 (Some (codes "0.5"))) (record { place = 0; fin = true; op = op.Text; key = None; form = Shortest; len = 5 }) ≡ codes "{\"type\":\"frame\",\"line\":1,\"side\":\"client\",\"time\":0.5,\"offset\":0,\"fin\":true,\"opcode\":\"text\",\"key\":null,\"length\":5,\"form\":\"shortest\"}\n" }
+    ensures frame { item_object 48 Client (InLine 1 (Some (codes "0.5"))) (Head (record { offset = 0; fin = true; op = op.Text; key = None; form = Shortest; len = 5 })) ≡ codes "{\"type\":\"frame\",\"line\":1,\"side\":\"client\",\"time\":0.5,\"offset\":0,\"fin\":true,\"opcode\":\"text\",\"key\":null,\"length\":5,\"form\":\"shortest\"}\n" }
 {}
 
 /// The objects of refusals with a bad character.
 pub fn of_bad_characters()
-    ensures whole { item_object 48 Client (InLine 1 None) (RefusedFrame 0 (record { place = 19; reason = TextBad }) (codes "{\"name\":\"Ren" ++ (0xe9 ∷ 0x20 ∷ [])) (Some (record { offset = 18; in_payload = 12; bytes = 0xe9 ∷ 0x20 ∷ []; earlier = [] }))) ≡ codes "{\"type\":\"refused\",\"line\":1,\"side\":\"client\",\"time\":null,\"offset\":0,\"place\":19,\"reason\":\"text-bad\",\"code\":1007,\"hex\":\"7b226e616d65223a2252656ee920\",\"character\":{\"offset\":18,\"in_payload\":12,\"hex\":\"e920\",\"before\":\"{\\\"name\\\":\\\"Ren\"}}\n" }
-    ensures at_10 { item_object 10 Client (InLine 1 None) (RefusedFrame 0 (record { place = 19; reason = TextBad }) (codes "{\"name\":\"Ren" ++ (0xe9 ∷ 0x20 ∷ [])) (Some (record { offset = 18; in_payload = 12; bytes = 0xe9 ∷ 0x20 ∷ []; earlier = [] }))) ≡ codes "{\"type\":\"refused\",\"line\":1,\"side\":\"client\",\"time\":null,\"offset\":0,\"place\":19,\"reason\":\"text-bad\",\"code\":1007,\"hex\":\"52656ee920\",\"truncated\":true,\"character\":{\"offset\":18,\"in_payload\":12,\"hex\":\"e920\",\"before\":\"Ren\",\"truncated\":true}}\n" }
-    ensures at_0 { item_object 0 Client (InLine 1 None) (RefusedFrame 0 (record { place = 19; reason = TextBad }) (codes "{\"name\":\"Ren" ++ (0xe9 ∷ 0x20 ∷ [])) (Some (record { offset = 18; in_payload = 12; bytes = 0xe9 ∷ 0x20 ∷ []; earlier = [] }))) ≡ codes "{\"type\":\"refused\",\"line\":1,\"side\":\"client\",\"time\":null,\"offset\":0,\"place\":19,\"reason\":\"text-bad\",\"code\":1007,\"hex\":\"\",\"truncated\":true,\"character\":{\"offset\":18,\"in_payload\":12,\"hex\":\"\",\"before\":\"\",\"truncated\":true}}\n" }
-    ensures of_two_frames { item_object 48 Server InStream (RefusedFrame 4 (record { place = 6; reason = TextBad }) (0x20 ∷ []) (Some (record { offset = 2; in_payload = 0; bytes = 0xe2 ∷ 0x82 ∷ 0x20 ∷ []; earlier = 0xe2 ∷ 0x82 ∷ [] }))) ≡ codes "{\"type\":\"refused\",\"side\":\"server\",\"offset\":4,\"place\":6,\"reason\":\"text-bad\",\"code\":1007,\"hex\":\"20\",\"character\":{\"offset\":2,\"in_payload\":0,\"hex\":\"e28220\",\"before\":\"\"}}\n" }
+    ensures whole { item_object 48 Client (InLine 1 None) (RefusedFrame 0 (record { offset = 19; reason = TextBad }) (codes "{\"name\":\"Ren" ++ (0xe9 ∷ 0x20 ∷ [])) (Some (record { offset = 18; in_payload = 12; bytes = 0xe9 ∷ 0x20 ∷ []; earlier = [] }))) ≡ codes "{\"type\":\"refused\",\"line\":1,\"side\":\"client\",\"time\":null,\"offset\":0,\"place\":19,\"reason\":\"text-bad\",\"code\":1007,\"hex\":\"7b226e616d65223a2252656ee920\",\"character\":{\"offset\":18,\"in_payload\":12,\"hex\":\"e920\",\"before\":\"{\\\"name\\\":\\\"Ren\"}}\n" }
+    ensures at_10 { item_object 10 Client (InLine 1 None) (RefusedFrame 0 (record { offset = 19; reason = TextBad }) (codes "{\"name\":\"Ren" ++ (0xe9 ∷ 0x20 ∷ [])) (Some (record { offset = 18; in_payload = 12; bytes = 0xe9 ∷ 0x20 ∷ []; earlier = [] }))) ≡ codes "{\"type\":\"refused\",\"line\":1,\"side\":\"client\",\"time\":null,\"offset\":0,\"place\":19,\"reason\":\"text-bad\",\"code\":1007,\"hex\":\"52656ee920\",\"truncated\":true,\"character\":{\"offset\":18,\"in_payload\":12,\"hex\":\"e920\",\"before\":\"Ren\",\"truncated\":true}}\n" }
+    ensures at_0 { item_object 0 Client (InLine 1 None) (RefusedFrame 0 (record { offset = 19; reason = TextBad }) (codes "{\"name\":\"Ren" ++ (0xe9 ∷ 0x20 ∷ [])) (Some (record { offset = 18; in_payload = 12; bytes = 0xe9 ∷ 0x20 ∷ []; earlier = [] }))) ≡ codes "{\"type\":\"refused\",\"line\":1,\"side\":\"client\",\"time\":null,\"offset\":0,\"place\":19,\"reason\":\"text-bad\",\"code\":1007,\"hex\":\"\",\"truncated\":true,\"character\":{\"offset\":18,\"in_payload\":12,\"hex\":\"\",\"before\":\"\",\"truncated\":true}}\n" }
+    ensures of_two_frames { item_object 48 Server InStream (RefusedFrame 4 (record { offset = 6; reason = TextBad }) (0x20 ∷ []) (Some (record { offset = 2; in_payload = 0; bytes = 0xe2 ∷ 0x82 ∷ 0x20 ∷ []; earlier = 0xe2 ∷ 0x82 ∷ [] }))) ≡ codes "{\"type\":\"refused\",\"side\":\"server\",\"offset\":4,\"place\":6,\"reason\":\"text-bad\",\"code\":1007,\"hex\":\"20\",\"character\":{\"offset\":2,\"in_payload\":0,\"hex\":\"e28220\",\"before\":\"\"}}\n" }
 {}
 
 /// The objects of comments: what follows the `#`, as a text, or in hexadecimal if it is not UTF-8.

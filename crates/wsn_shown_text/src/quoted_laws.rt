@@ -9,7 +9,9 @@ ghost use Rattle.wsn_rules.specs.ShownStream.{Item};
 ghost use Rattle.wsn_print.specs.EscapedText.{quoted, comment_line};
 ghost use Rattle.wsn_shown_text.specs.ShownText.{item_line, end_line};
 ghost use Rattle.wsn_shown_text.specs.CharacterText.{character_line};
-ghost use Rattle.wsn_shown_text.specs.QuotedTexts.{IsJsonString, IsAllVisible, IsVisibleLine, bytes_in, ShowsTextReason};
+ghost use Rattle.wsn_print.specs.ShownParts.{EntryPosition, time_at};
+ghost use Rattle.wsn_shown_text.specs.PeopleText.{people_line, people_end_line};
+ghost use Rattle.wsn_shown_text.specs.QuotedTexts.{IsJsonString, IsAllVisible, IsVisibleLine, AreVisibleLines, bad_bytes, bytes_in, ShowsTextReason};
 
 /// A quoted text is a JSON string of the text (RFC 8259 section 7), and a JSON string is one of one text alone. So a
 /// quoted text can be read back.
@@ -26,7 +28,7 @@ pub fn law_quoted_is_visible()
 {}
 
 /// Nothing of a line of `show` is hidden but the LF at its end: of an item, whatever its payload is, of a bad character,
-/// of an end mark and of a comment.
+/// of an end mark and of a comment; nor of one for people, where an item with a bad character has two lines.
 pub fn law_lines_are_visible()
     ensures item { (n : ℕ) (role : Role) (time : Option (List ℕ)) (item : Item) →
         IfSome time IsAllVisible → IsBytes (bytes_in item) → ShowsTextReason item →
@@ -37,6 +39,11 @@ pub fn law_lines_are_visible()
     ensures end_mark { (role : Role) (time : Option (List ℕ)) (sent : ℕ) → IfSome time IsAllVisible →
         IsVisibleLine (end_line role time sent) }
     ensures comment { (text : List ℕ) → IsBytes text → IsVisibleLine (comment_line text) }
+    ensures people { (n : ℕ) (role : Role) (position : EntryPosition) (item : Item) →
+        IfSome (time_at position) IsAllVisible → IsBytes (bytes_in item) → IsBytes (bad_bytes item) →
+        ShowsTextReason item → AreVisibleLines (people_line n role position item) }
+    ensures people_end { (role : Role) (position : EntryPosition) (sent : ℕ) → IfSome (time_at position) IsAllVisible →
+        IsVisibleLine (people_end_line role position sent) }
 {}
 
 /// Two different comments never have the same line: a hidden character or a byte that isn't printable is escaped, and a

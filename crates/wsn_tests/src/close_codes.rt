@@ -4,9 +4,10 @@ use crate::expecting::{expect, expect_of};
 use std::process::Abort;
 use wsn_doubles::readers::Chopped;
 use wsn_doubles::vectors::greatest;
+use wsn_io::Input;
 use wsn_scan::{Verdict, judge};
 use wsn_text::code_allowed;
-use wsn_wire::{Input, Role};
+use wsn_wire::Role;
 
 /// The first and the last code of a range, and whether a Close may carry them.
 const CODES: [(u16, u16, bool); 8] = [

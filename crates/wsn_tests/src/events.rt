@@ -6,8 +6,9 @@ use std::alloc::Global;
 use std::process::Abort;
 use wsn_canon::{Event, Small, is_lawful, put_event};
 use wsn_doubles::writers::{Full, Narrow};
+use wsn_io::Output;
 use wsn_scan::Stop;
-use wsn_wire::{Kind, Output, Role};
+use wsn_wire::{Kind, Role};
 
 fn message(rt: &impl Abort, alloc: Global, kind: Kind, bytes: &[u8]) -> Event {
     Event::Message(kind, bytes.to_vec(alloc).expect(rt, "memory"))

@@ -7,8 +7,8 @@ use std::process::Abort;
 use wsn_canon::{Next, Source};
 use wsn_doubles::answer_lines::{answer_line, line_of, stop_line, verdict_line};
 use wsn_doubles::readers::Chopped;
+use wsn_io::Input;
 use wsn_scan::{Stop, Verdict};
-use wsn_wire::Input;
 
 /// Fails unless this holds.
 pub fn expect(rt: &impl Abort, holds: bool)

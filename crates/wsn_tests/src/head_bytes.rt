@@ -3,12 +3,13 @@
 use crate::expecting::{expect_bytes, expect_of};
 use std::process::Abort;
 use wsn_wire::{
-    FirstByte, Form, LenForm, Lengths, Op, Reason, Role, eight, first, head, head_as, second, two,
+    FirstByte, Form, LenForm, Lengths, Op, Reason, Role, head, head_as, read_eight_byte_length,
+    read_first_byte, read_second_byte, read_two_byte_length,
 };
 
 /// Fails unless a first byte has this FIN and opcode, or is refused like this.
 fn expect_first(rt: &impl Abort, byte: u8, expected: Result<(bool, Op), Reason>) {
-    let found = match first(byte) {
+    let found = match read_first_byte(byte) {
         Ok(first) => Ok((first.fin, first.op)),
         Err(reason) => Err(reason),
     };
@@ -33,7 +34,7 @@ fn expect_second(
     byte: u8,
     expected: Result<LenForm, Reason>,
 ) {
-    expect_of(rt, second(first, role, byte) == expected, &byte);
+    expect_of(rt, read_second_byte(first, role, byte) == expected, &byte);
 }
 
 #[test]
@@ -65,8 +66,16 @@ fn length_not_minimal_in_two_bytes(rt: HostRuntime) {
         ([0x00, 0x7d], Err(Reason::LengthNotMinimal), Ok(125)),
         ([0x00, 0x7e], Ok(126), Ok(126)),
     ] {
-        expect_of(&rt, two(bytes, Lengths::Shortest) == shortest, &bytes);
-        expect_of(&rt, two(bytes, Lengths::Any) == any, &bytes);
+        expect_of(
+            &rt,
+            read_two_byte_length(bytes, Lengths::Shortest) == shortest,
+            &bytes,
+        );
+        expect_of(
+            &rt,
+            read_two_byte_length(bytes, Lengths::Any) == any,
+            &bytes,
+        );
     }
 }
 
@@ -82,8 +91,16 @@ fn length_top_bit_and_length_not_minimal_in_eight_bytes(rt: HostRuntime) {
         ),
         ([0, 0, 0, 0, 0, 1, 0, 0], Ok(65536), Ok(65536)),
     ] {
-        expect_of(&rt, eight(bytes, Lengths::Shortest) == shortest, &bytes);
-        expect_of(&rt, eight(bytes, Lengths::Any) == any, &bytes);
+        expect_of(
+            &rt,
+            read_eight_byte_length(bytes, Lengths::Shortest) == shortest,
+            &bytes,
+        );
+        expect_of(
+            &rt,
+            read_eight_byte_length(bytes, Lengths::Any) == any,
+            &bytes,
+        );
     }
 }
 

@@ -7,7 +7,7 @@ use std::io::{self, ErrorKind, Read, Write};
 use std::process::Abort;
 use wsn_doubles::readers::Chopped;
 use wsn_doubles::writers::{Full, Narrow};
-use wsn_wire::{Input, Output};
+use wsn_io::{Input, Output};
 
 /// A reader or a writer whose calls are counted.
 #[derive(Drop)]

@@ -11,9 +11,9 @@ use wsn_doubles::engines::{
 };
 use wsn_doubles::readers::Chopped;
 use wsn_doubles::vectors::{Stream, line_after, stream_named, streams};
+use wsn_io::Input;
 use wsn_plan::Plan;
 use wsn_scan::judge;
-use wsn_wire::Input;
 
 const KINDS: [ErrorKind; 2] = [ErrorKind::Interrupted, ErrorKind::WouldBlock];
 

@@ -9,8 +9,9 @@ use std::process::Abort;
 use wsn_canon::{Event, Next, Source};
 use wsn_doubles::readers::{Chopped, READS};
 use wsn_doubles::vectors::{Stream, filled, stream_named};
+use wsn_io::Input;
 use wsn_scan::{INPUT_MAX, Limits, MESSAGE_MAX};
-use wsn_wire::{Input, Kind, Role};
+use wsn_wire::{Kind, Role};
 
 /// An event: its word, the code of a Close that has one, and its bytes.
 type EventRow = (&'static str, u16, &'static [u8]);

@@ -10,8 +10,9 @@ use wsn_doubles::answer_lines::answer_line;
 use wsn_doubles::engines::Engine;
 use wsn_doubles::readers::{Chopped, Endless, READS};
 use wsn_doubles::vectors::{Stream, greatest, stream_named, streams};
+use wsn_io::Input;
 use wsn_scan::{Limits, MESSAGE_MAX, Stop, Verdict, judge};
-use wsn_wire::{Input, Role};
+use wsn_wire::Role;
 
 /// Fails unless this is the answer of `judge` for a prefix of a stream, with reads of each size: the stream's verdict, or,
 /// where the prefix doesn't decide that, one of `accepted` or `cut`.
@@ -168,8 +169,8 @@ fn limited(rt: &impl Abort, alloc: Global, input: u64) -> Stream {
 fn lines_of_pings(rt: &impl Abort, alloc: Global) -> Vec<u8> {
     let mut lines = Vec::new(alloc);
     for ping in 0..500u32 {
-        let place = 2 * ping;
-        let line = format!(in alloc; "{place} fin ping - 0\n").expect(rt, "memory");
+        let offset = 2 * ping;
+        let line = format!(in alloc; "{offset} fin ping - 0\n").expect(rt, "memory");
         lines
             .extend_from_slice(line.as_bytes())
             .expect(rt, "memory");

@@ -3,8 +3,8 @@ use Rattle.std.proofs.Common.{◌≡◌, ◌≢◌, ℕ, List, [], ◌∷◌, Op
 use Rattle.wsn_text.specs.Utf8.{Range, ◌–◌, IsText}
 use Rattle.wsn_text.specs.Validated.{Follows, HasValidated}
 use Rattle.wsn_text.specs.Expected.{awaited}
-use Rattle.wsn_text.specs.declared.utf8_check.Expected.{Expected}
-use Rattle.wsn_text.specs.declared.utf8_check.Expected.TheVariants.{Character, One, Two, TwoFromA0, TwoUpTo9F, Three, ThreeFrom90, ThreeUpTo8F, Nothing}
+use Rattle.wsn_text.specs.declared.expected.Expected.{Expected}
+use Rattle.wsn_text.specs.declared.expected.Expected.TheVariants.{Character, One, Two, TwoFromA0, TwoUpTo9F, Three, ThreeFrom90, ThreeUpTo8F, Nothing}
 use Rattle.wsn_text.proofs.Rests.{text-nil, any}
 use Rattle.wsn_text.proofs.Decide.{fill}
 

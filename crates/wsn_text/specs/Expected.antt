@@ -1,7 +1,7 @@
 -- The states of a `Utf8`, and the ranges of the bytes that each state expects.
 use Rattle.std.specs.Prelude.{◌≡◌, ◌==◌, if◌then◌else◌, List, [], ◌∷◌, Option, Some, None, refl}
 use Rattle.wsn_text.specs.Utf8.{Range, ◌–◌}
-use Rattle.wsn_text.specs.declared.utf8_check.Expected.{Expected, TheVariants.{Character, One, Two, TwoFromA0, TwoUpTo9F, Three, ThreeFrom90, ThreeUpTo8F, Nothing}}
+use Rattle.wsn_text.specs.declared.expected.Expected.{Expected, TheVariants.{Character, One, Two, TwoFromA0, TwoUpTo9F, Three, ThreeFrom90, ThreeUpTo8F, Nothing}}
 
 -- The ranges of the bytes that the last character still needs; none at all after a bad byte.
 abbrev pub awaited : Expected → Option (List Range)

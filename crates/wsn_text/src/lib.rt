@@ -10,6 +10,7 @@
 
 mod ascii_blocks;
 mod codes;
+mod expected;
 pub mod laws;
 mod text_blocks;
 mod unfinished;

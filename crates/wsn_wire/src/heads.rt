@@ -24,7 +24,7 @@ pub struct FirstByte {
 /// Reads a frame's first byte (RFC 6455 sections 5.2 and 5.5). An error is the first of `ReservedBits`,
 /// `ReservedOpcode` and `ControlNotFinal` for which the byte is evidence.
 #[tactic(none)]
-pub fn first(b: u8) -> Result<FirstByte, Reason>
+pub fn read_first_byte(b: u8) -> Result<FirstByte, Reason>
     ensures read { IfOk result (λ f. b ≡ first_byte f.fin f.op) }
     ensures nothing_evident { IfOk result (λ _. (reason : Reason) → ¬ (EvidentInFirst reason b)) }
     ensures refused { IfErr result (IsFirstEvident (λ reason. EvidentInFirst reason b)) }
@@ -45,7 +45,7 @@ pub fn first(b: u8) -> Result<FirstByte, Reason>
 /// Reads a frame's second byte; `f` is the first one (RFC 6455 sections 5.1, 5.2 and 5.5). An error is the first of
 /// `MaskMissing`, `MaskPresent`, `ControlTooLong` and `CloseOneByte` for which the byte is evidence.
 #[tactic(none)]
-pub fn second(f: FirstByte, role: Role, b: u8) -> Result<LenForm, Reason>
+pub fn read_second_byte(f: FirstByte, role: Role, b: u8) -> Result<LenForm, Reason>
     ensures read { IfOk result (IsSecondByteFor role b) }
     ensures field { IfOk result (λ form. form ≡ len_form_at b) }
     ensures short { (len : ℕ) → result ≡ Ok (LenForm.Short len) → len ≤ 125 }
@@ -71,7 +71,7 @@ pub fn second(f: FirstByte, role: Role, b: u8) -> Result<LenForm, Reason>
 /// Reads a length in two bytes (RFC 6455 section 5.2). `LengthNotMinimal` for a length below 126, if only the shortest
 /// encoding is accepted.
 #[tactic(none)]
-pub fn two(b: [u8; 2], lengths: Lengths) -> Result<u64, Reason>
+pub fn read_two_byte_length(b: [u8; 2], lengths: Lengths) -> Result<u64, Reason>
     ensures read { IfOk result (λ len. b ≡ length_bytes LenForm.Two len) }
     ensures decoded { IfOk result (λ len. len ≡ encoded_length LenForm.Two b) }
     ensures nothing_evident { IfOk result (λ _. (reason : Reason) → ¬ (EvidentInLength lengths reason LenForm.Two b)) }
@@ -87,7 +87,7 @@ pub fn two(b: [u8; 2], lengths: Lengths) -> Result<u64, Reason>
 /// Reads a length in eight bytes (RFC 6455 section 5.2). `LengthTopBit` for a length of 2^63 or more; otherwise
 /// `LengthNotMinimal` for one below 65,536, if only the shortest encoding is accepted.
 #[tactic(none)]
-pub fn eight(b: [u8; 8], lengths: Lengths) -> Result<u64, Reason>
+pub fn read_eight_byte_length(b: [u8; 8], lengths: Lengths) -> Result<u64, Reason>
     ensures read { IfOk result (λ len. b ≡ length_bytes LenForm.Eight len) }
     ensures decoded { IfOk result (λ len. len ≡ encoded_length LenForm.Eight b) }
     ensures nothing_evident { IfOk result (λ _. (reason : Reason) → ¬ (EvidentInLength lengths reason LenForm.Eight b)) }

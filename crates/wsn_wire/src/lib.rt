@@ -1,8 +1,8 @@
 //! One frame on the wire: its bytes as in RFC 6455 sections 5.2 and 5.3.
 //!
-//! [`first`], [`second`], [`two`] and [`eight`] read a head, one byte or one length at a time; [`head`] and [`head_as`]
-//! write a head; [`mask`] masks and unmasks a payload, whole or in parts. [`Reason`] is the table of refusals.
-//! [`Input`] and [`Output`] are re-exported from `wsn_io`. [`laws`] states what follows from the definitions.
+//! [`read_first_byte`], [`read_second_byte`], [`read_two_byte_length`] and [`read_eight_byte_length`] read a head, one
+//! byte or one length at a time; [`head`] and [`head_as`] write a head; [`mask`] masks and unmasks a payload, whole or in
+//! parts. [`Reason`] is the table of refusals. [`laws`] states what follows from the definitions.
 //!
 //! `specs/Frame.antt` defines a frame's bytes, `specs/Layout.antt` which bytes have the layout of a frame,
 //! `specs/EvidenceInHeads.antt` the refusals for which a frame's head alone is evidence, `specs/HeadLaw.antt` the rules for a
@@ -18,9 +18,11 @@ mod opcode;
 mod refusal;
 
 pub use endpoint::Role;
-pub use heads::{FirstByte, eight, first, head, head_as, second, two};
+pub use heads::{
+    FirstByte, head, head_as, read_eight_byte_length, read_first_byte, read_second_byte,
+    read_two_byte_length,
+};
 pub use length_forms::{CONTROL_MAX, Form, LenForm, Lengths, SHORT_MAX, TWO_MAX};
 pub use masking::mask;
 pub use opcode::{Kind, Op};
 pub use refusal::Reason;
-pub use wsn_io::{Input, Output};

@@ -19,7 +19,7 @@ const SIZE: Side = Side::Closed(Some(1009));
 const NORMAL: Side = Side::Closed(Some(1000));
 
 const REFUSED: Side = Side::Refused(Refusal {
-    place: 6,
+    offset: 6,
     reason: Reason::TextBad,
 });
 

@@ -12,7 +12,7 @@ use wsn_wire::{Reason, Role};
 
 /// The answer of a run over a stream that is refused at its first byte.
 const REFUSED: Answer = Answer::Verdict(Verdict::Refused(Refusal {
-    place: 0,
+    offset: 0,
     reason: Reason::ReservedBits,
 }));
 

@@ -68,15 +68,15 @@ static TEXTS: [(&str, u64, Hint); 7] = [
 
 #[test]
 fn a_text_of_the_client_was_never_masked_or_is_no_utf8(rt: HostRuntime) {
-    for (text, place, hint) in TEXTS.iter() {
-        let client = refused_at(Some(*place), Reason::TextBad);
+    for (text, offset, hint) in TEXTS.iter() {
+        let client = refused_at(Some(*offset), Reason::TextBad);
         expect_sides(&rt, text, client, None, Some(*hint));
     }
 }
 
 /// The refusal of a text at this offset.
-fn bad_text_at(place: u64) -> Option<Refusal> {
-    refused_at(Some(place), Reason::TextBad)
+fn bad_text_at(offset: u64) -> Option<Refusal> {
+    refused_at(Some(offset), Reason::TextBad)
 }
 
 /// A text of the server, which has no key, or both sides, of which one hint is given.

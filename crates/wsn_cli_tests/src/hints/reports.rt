@@ -70,7 +70,7 @@ fn a_report_has_a_hint_on_its_handshake(rt: HostRuntime) {
         None
     );
     let refusal = Refusal {
-        place: 6,
+        offset: 6,
         reason: Reason::TextBad,
     };
     let refused = report(Side::Refused(refusal), Side::Ended);
@@ -126,7 +126,7 @@ fn bytes_after_a_close_have_a_hint_in_a_report(rt: HostRuntime) {
     }
     let first = "C 88800000000000\nS c107f248cdc9c90700\n".as_bytes();
     let refusal = Refusal {
-        place: 0,
+        offset: 0,
         reason: Reason::ReservedBits,
     };
     let tails = Tails {

@@ -120,7 +120,7 @@ fn expect_rows(rt: &impl Abort, alloc: Global, format: Format) {
         let style = formatted(rt, row.view, Detail::Events, format);
         let job = Job::ShowStream(row.role, greatest(), style);
         let (shown, last) = match format {
-            Format::Text => (row.lines, row.verdict),
+            Format::Text | Format::People => (row.lines, row.verdict),
             Format::Json => (row.objects, row.verdict_object),
         };
         let expected = Expected::with_status_1(shown, last);

@@ -209,7 +209,7 @@ shorten it between two characters. A short reason in ASCII is the safest.
     Entry {
         words: &["text-bad"],
         text: "\
-text-bad, code 1007: the byte at OFFSET is the first that can't follow what came
+text-bad, code 1007: the offending byte is the first that can't follow what came
 before in UTF-8. It is the last byte of the bad character, and may be innocent:
 in Latin-1, \"Ren\\xe9 \" is refused at the space; the bad character is e9 20.
 RFC 6455, 5.6: the payload of a text message is UTF-8; 8.1: if it isn't, who

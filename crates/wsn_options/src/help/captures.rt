@@ -43,6 +43,10 @@ completes, as the lines come; then closing's report:
 With --wire it prints frames, after SIDE and TIME as frames lists them, in place
 of events. With --role the input is one stream, without TIME; the verdict's line
 is last, and a refusal ends the reading.
+With --layout people entries are in columns, a text is without quotation marks,
+and a refusal is a sentence; after the report sentences say what it means, and
+'Next:' what to type. That is the default on a terminal with colours, and the
+lines above in a pipe, even with --color always.
 With --json each entry is an object in one line, with the capture's line if the
 entry is of one; \"truncated\":true if bytes are left out:
   {\"type\":\"event\",\"line\":1,\"side\":\"client\",\"time\":0.001356,\"offset\":0,

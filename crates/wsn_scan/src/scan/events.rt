@@ -31,11 +31,11 @@ struct EventFrame {
 impl EventFrame {
     /// Its head, if its first byte is at this offset.
     #[inline(always)]
-    fn info(&self, place: u64) -> HeadInfo
-        ensures { result ≡ info_found place self.now }
+    fn info(&self, offset: u64) -> HeadInfo
+        ensures { result ≡ info_found offset self.now }
     {
         HeadInfo {
-            place,
+            offset,
             fin: true,
             op: self.op,
             key: self.key,
@@ -63,11 +63,7 @@ impl Scan {
         if !self.is_idle() {
             return 0;
         }
-        // The compiler knows of this copy that no message is open.
-        let context = FrameContext {
-            message: None,
-            ..self.context
-        };
+        let context = self.idle_context();
         let mut counts = self.counts;
         let mut at = 0;
         while let Some(frame) = take_event(&context, &mut chunk[at..]) {
@@ -130,11 +126,7 @@ impl Scan {
         if !self.is_idle() {
             return None;
         }
-        // The compiler knows of this copy that no message is open.
-        let context = FrameContext {
-            message: None,
-            ..self.context
-        };
+        let context = self.idle_context();
         let frame = take_event_after(byte, &context, chunk)?;
         let head = frame.info(self.used);
         self.counts = self.counts.with(true, frame.op);
@@ -149,6 +141,17 @@ impl Scan {
         ensures { IsTrue result → IsIdle self.now }
     {
         matches!((&self.stage, &self.context.message), (Stage::Between, None))
+    }
+
+    /// A copy of its context, of which the compiler knows that no message is open.
+    #[inline(always)]
+    fn idle_context(&self) -> FrameContext
+        ensures { result ≡ record self.now.context { message = None } }
+    {
+        FrameContext {
+            message: None,
+            ..self.context
+        }
     }
 }
 

@@ -1,5 +1,5 @@
-//! How a scan takes the parts of frames.
-ghost use Rattle.std.specs.Prelude.{◌≡◌, ◌≢◌, ◌+◌, ◌≤◌, ◌↔◌, true, false, ℕ, Ok, List, [], ◌∷◌, ◌++◌, ◌<◌, ◌^◌, length, IsTrue};
+//! How a scan takes the payload of frames, part by part.
+ghost use Rattle.std.specs.Prelude.{◌≡◌, ◌≢◌, ◌+◌, ◌≤◌, ◌↔◌, true, false, ℕ, Ok, List, [], ◌<◌, length, IsTrue};
 ghost use Rattle.wsn_wire.specs.Frame.{Frame};
 ghost use Rattle.wsn_wire.specs.Layout.{fin_bit};
 ghost use Rattle.wsn_wire.specs.declared.refusal.Reason.{Reason};
@@ -8,195 +8,24 @@ ghost use Rattle.wsn_rules.specs.Evidence.{EvidentByPayload};
 ghost use Rattle.wsn_frame.specs.PayloadChecks.{HasChecked, IsChecked};
 ghost use Rattle.wsn_frame.specs.declared.payload_check.PayloadCheck.{PayloadCheck};
 ghost use Rattle.wsn_frame.specs.OpenMessages.{IsMessageAfter};
-ghost use Rattle.wsn_frame.specs.Counts.{AreCounts};
 
 use super::Scan;
 use crate::part::{Part, Taken};
 use crate::stage::{Inside, Stage};
-use arrayvec::ArrayVec;
-use std::mem;
-use wsn_frame::{
-    Counts, FrameContext, HEAD_MAX, Head, OpenMessage, Parsed, PayloadCheck, message_after, parse,
-    unmask, whole_head,
-};
+use wsn_frame::{Head, OpenMessage, PayloadCheck, message_after, unmask};
 use wsn_rules::Refusal;
-use wsn_wire::{Op, Reason};
+use wsn_wire::Reason;
 
 impl Scan {
-    ghost use Rattle.std.specs.Prelude.{◌≡◌, ◌≢◌, ◌+◌, ◌-◌, ◌<◌, ◌≤◌, ◌↔◌, true, None, length, take, drop, IfSome, IfNone, IsSome, IsTrue};
-    ghost use Rattle.wsn_scan.specs.Scans.{AdvancesFrom, TakesPart, TakesFound, Unmasks, HasNoRest, ContinuesHead, BeginsAt, BeginsFrame, AddsPart, EndsFrame, IsCutAt, room_of, refusal_in, refusal_of};
+    ghost use Rattle.std.specs.Prelude.{◌≡◌, ◌≢◌, ◌+◌, ◌-◌, ◌<◌, ◌≤◌, ◌↔◌, true, None, length, take, IfSome, IfNone, IsTrue};
+    ghost use Rattle.wsn_scan.specs.Scans.{AdvancesFrom, TakesPart, TakesFound, Unmasks, HasNoRest, TakesFirstPart, AddsPart, EndsFrame, IsCutAt, room_of, refusal_in, refusal_of};
     ghost use Rattle.wsn_frame.specs.PartialHeads.{info_at};
-
-    /// Takes what the chunk has of the frame at its start, if the scan is between frames, [`whole_head`] reads the frame's
-    /// head, it is no Close, and no byte is evidence for a refusal. Otherwise nothing changes.
-    #[inline(always)]
-    #[tactic(none)]
-    pub(super) fn take_frame(&mut self, chunk: &mut [u8], part: &mut Part) -> Option<usize>
-        requires fits { length chunk.old ≤ room_of self.old }
-        ensures taken { IfSome result (λ count.
-            AdvancesFrom self.old.stage self.old self.new chunk.old chunk.new count Taken.Part part.new) }
-        ensures part { IfSome result (λ count. TakesPart self.old self.new chunk.old chunk.new count part.new) }
-        ensures between { IfSome result (λ _. self.old.stage ≡ Stage.Between) }
-        ensures none { IfNone result ((self.new ≡ self.old) × (chunk.new ≡ chunk.old)) }
-    {
-        if !self.is_between() {
-            return None;
-        }
-        // The compiler knows of the first copy that no message is open.
-        match self.context.message {
-            None => self.take_frame_after(&None, chunk, part),
-            message => self.take_frame_within(&message, chunk, part),
-        }
-    }
-
-    /// Does what [`take_frame_after`](Scan::take_frame_after) does; a message is open.
-    #[inline(never)]
-    fn take_frame_within(
-        &mut self,
-        message: &Option<OpenMessage>,
-        chunk: &mut [u8],
-        part: &mut Part,
-    ) -> Option<usize>
-        requires fits { length chunk.old ≤ room_of self.old }
-        requires open { message.now ≡ self.old.context.message }
-        ensures taken { IfSome result (λ count.
-            AdvancesFrom Stage.Between self.old self.new chunk.old chunk.new count Taken.Part part.new) }
-        ensures part { IfSome result (λ count. TakesPart self.old self.new chunk.old chunk.new count part.new) }
-        ensures none { IfNone result ((self.new ≡ self.old) × (chunk.new ≡ chunk.old)) }
-    {
-        self.take_frame_after(message, chunk, part)
-    }
-
-    /// Whether it is between frames.
-    #[inline(always)]
-    fn is_between(&self) -> bool
-        ensures { IsTrue result → self.now.stage ≡ Stage.Between }
-    {
-        matches!(self.stage, Stage::Between)
-    }
-
-    /// The same between frames; `message` is the open message.
-    #[inline(always)]
-    #[tactic(none)]
-    fn take_frame_after(
-        &mut self,
-        message: &Option<OpenMessage>,
-        chunk: &mut [u8],
-        part: &mut Part,
-    ) -> Option<usize>
-        requires fits { length chunk.old ≤ room_of self.old }
-        requires open { message.now ≡ self.old.context.message }
-        ensures taken { IfSome result (λ count.
-            AdvancesFrom Stage.Between self.old self.new chunk.old chunk.new count Taken.Part part.new) }
-        ensures part { IfSome result (λ count. TakesPart self.old self.new chunk.old chunk.new count part.new) }
-        ensures none { IfNone result ((self.new ≡ self.old) × (chunk.new ≡ chunk.old)) }
-    {
-        let context = FrameContext {
-            message: *message,
-            ..self.context
-        };
-        let (start, head) = whole_head(chunk, &context)?;
-        if head.first.op == Op::Close {
-            return None;
-        }
-        self.begin(message, start, &head, chunk, part)
-    }
-
-    /// Does what [`next`](Scan::next) does where no frame begins, where the chunk has fewer than 14 bytes, where a head
-    /// has eight length bytes or is a Close's, and where a byte is evidence for a refusal.
-    #[inline(never)]
-    #[tactic(none)]
-    pub(super) fn next_slow(&mut self, chunk: &mut [u8], part: &mut Part) -> (usize, Taken)
-        requires { length chunk.old ≤ room_of self.old }
-        ensures taken { AdvancesFrom self.old.stage self.old self.new chunk.old chunk.new result.0 result.1 part.new }
-        ensures found { TakesFound self.old self.new chunk.old chunk.new result.0 result.1 part.new }
-        ensures untouched { result.1 ≢ Taken.Part → result.1 ≢ Taken.Refused → chunk.new ≡ chunk.old }
-        ensures refused { result.1 ≡ Taken.Refused → Unmasks self.old.stage self.old chunk.old chunk.new result.0 }
-        ensures again { IfSome (refusal_in self.old) (λ _. (self.new ≡ self.old) × (chunk.new ≡ chunk.old)
-            × (result.0 ≡ 0) × (result.1 ≡ Taken.Refused)) }
-    {
-        match &mut self.stage {
-            Stage::Between if chunk.is_empty() => (0, Taken::More),
-            Stage::Between => self.next_head(ArrayVec::new(), chunk, part),
-            Stage::Head(begun) => {
-                let begun = mem::replace(begun, ArrayVec::new());
-                self.next_head(begun, chunk, part)
-            }
-            Stage::Payload(inside) => {
-                let inside = *inside;
-                self.next_payload(inside, chunk, part)
-            }
-            Stage::Closed(_) => {
-                self.room -= chunk.len() as u64;
-                (chunk.len(), Taken::Closed)
-            }
-            Stage::Refused(_) => (0, Taken::Refused),
-        }
-    }
-
-    /// Reads a head, of which `begun` came before, and takes what the chunk has of its frame.
-    #[tactic(none)]
-    fn next_head(
-        &mut self,
-        mut begun: ArrayVec<u8, HEAD_MAX>,
-        chunk: &mut [u8],
-        part: &mut Part,
-    ) -> (usize, Taken)
-        requires { length chunk.old ≤ room_of self.old }
-        ensures taken { ContinuesHead self.old self.new begun.items chunk.old chunk.new result.0 result.1 part.new }
-        ensures found { TakesFound self.old self.new chunk.old chunk.new result.0 result.1 part.new }
-        ensures untouched { result.1 ≢ Taken.Part → chunk.new ≡ chunk.old }
-    {
-        let before = begun.len();
-        let came = chunk.len().min(begun.remaining_capacity());
-        let _fits = begun.try_extend_from_slice(&chunk[..came]);
-        match parse(&begun, &self.context) {
-            Parsed::Incomplete => {
-                self.room -= chunk.len() as u64;
-                self.stage = Stage::Head(begun);
-                (chunk.len(), Taken::More)
-            }
-            Parsed::Whole(size, head) => {
-                self.begin_slow(size.saturating_sub(before), &head, chunk, part)
-            }
-            Parsed::Refused(size, reason) => self.refuse(size.saturating_sub(before), reason),
-        }
-    }
-
-    /// Takes what the chunk has of a frame whose head ends at `start`. If a byte of its payload is evidence for a refusal,
-    /// it takes the head alone.
-    #[tactic(none)]
-    fn begin_slow(
-        &mut self,
-        start: usize,
-        head: &Head,
-        chunk: &mut [u8],
-        part: &mut Part,
-    ) -> (usize, Taken)
-        requires fits { length chunk.old ≤ room_of self.old }
-        requires within { start ≤ length chunk.old }
-        ensures taken { BeginsFrame self.old self.new start head.now chunk.old chunk.new result.0 result.1 part.new }
-        ensures found { TakesFound self.old self.new chunk.old chunk.new result.0 result.1 part.new }
-        ensures untouched { result.1 ≢ Taken.Part → chunk.new ≡ chunk.old }
-    {
-        let message = self.context.message;
-        if let Some(taken) = self.begin(&message, start, head, chunk, part) {
-            return (taken, Taken::Part);
-        }
-        if head.len == 0 {
-            return self.refuse(start, Reason::TextCut);
-        }
-        let check = PayloadCheck::new(head.first, message);
-        self.add_part(&message, head, &check, 0, start, start, part);
-        part.begins = true;
-        (start, Taken::Part)
-    }
 
     /// Takes what the chunk has of a frame whose head ends at `start`, unless a byte is evidence for a refusal. Then
     /// nothing changes.
     #[inline(always)]
     #[tactic(none)]
-    fn begin(
+    pub(super) fn begin(
         &mut self,
         message: &Option<OpenMessage>,
         start: usize,
@@ -208,7 +37,7 @@ impl Scan {
         requires open { message.now ≡ self.old.context.message }
         requires within { start ≤ length chunk.old }
         ensures taken { IfSome result (λ count.
-            BeginsAt self.old self.new start head.now chunk.old chunk.new count part.new) }
+            TakesFirstPart self.old self.new start head.now chunk.old chunk.new count part.new) }
         ensures part { IfSome result (λ count. TakesPart self.old self.new chunk.old chunk.new count part.new) }
         ensures start { IfSome result (λ _. part.new.start ≡ start) }
         ensures none { IfNone result ((self.new ≡ self.old) × (chunk.new ≡ chunk.old)) }
@@ -234,7 +63,12 @@ impl Scan {
 
     /// Takes what the chunk has of the payload of a frame that began in an earlier one.
     #[tactic(none)]
-    fn next_payload(&mut self, inside: Inside, chunk: &mut [u8], part: &mut Part) -> (usize, Taken)
+    pub(super) fn next_payload(
+        &mut self,
+        inside: Inside,
+        chunk: &mut [u8],
+        part: &mut Part,
+    ) -> (usize, Taken)
         requires { length chunk.old ≤ room_of self.old }
         ensures taken { AdvancesFrom (Stage.Payload inside) self.old self.new chunk.old chunk.new result.0 result.1 part.new }
         ensures found { TakesFound self.old self.new chunk.old chunk.new result.0 result.1 part.new }
@@ -270,7 +104,7 @@ impl Scan {
     /// message.
     #[inline(always)]
     #[tactic(none)]
-    fn add_part(
+    pub(super) fn add_part(
         &mut self,
         message: &Option<OpenMessage>,
         head: &Head,
@@ -319,14 +153,14 @@ impl Scan {
         ensures reported { refusal_in self.new ≡ None }
     {
         self.used = self.taken();
-        count(&mut self.counts, head.first.fin, head.first.op);
+        self.counts.add(head.first.fin, head.first.op);
         update(&mut self.context.message, message, head, check);
         self.stage.end_frame(check);
     }
 
     /// Refuses the stream: the last of these `count` bytes is the offending byte.
     #[tactic(none)]
-    fn refuse(&mut self, count: usize, reason: Reason) -> (usize, Taken)
+    pub(super) fn refuse(&mut self, count: usize, reason: Reason) -> (usize, Taken)
         requires { count ≤ room_of self.old }
         ensures reported { (result.0 ≡ count) × (result.1 ≡ Taken.Refused) }
         ensures after { self.new ≡ record self.old {
@@ -337,7 +171,7 @@ impl Scan {
     {
         self.room -= count as u64;
         let refusal = Refusal {
-            place: self.taken().saturating_sub(1),
+            offset: self.taken().saturating_sub(1),
             reason,
         };
         self.stage = Stage::Refused(refusal);
@@ -366,26 +200,6 @@ fn takes(check: &mut PayloadCheck, payload: &[u8], fin: bool, ends: bool) -> boo
         return !(ends && check.is_cut(fin));
     }
     check.take(payload, fin, ends)
-}
-
-/// Counts one more frame, which has this FIN and this opcode. Fewer than 2^63 frames have been counted.
-#[inline(always)]
-fn count(counts: &mut Counts, fin: bool, op: Op)
-    ensures { (fs : List Frame) (f : Frame) → AreCounts counts.old fs → length fs < 2 ^ 63 → f.fin ≡ fin → f.op ≡ op →
-        AreCounts counts.new (fs ++ f ∷ []) }
-{
-    counts.frames = counts.frames.wrapping_add(1);
-    if !op.is_control() {
-        if fin {
-            counts.messages = counts.messages.wrapping_add(1);
-        }
-        return;
-    }
-    match op {
-        Op::Ping => counts.pings = counts.pings.wrapping_add(1),
-        Op::Pong => counts.pongs = counts.pongs.wrapping_add(1),
-        _ => {}
-    }
 }
 
 /// Makes the open message that after a frame with this head, whose payload was checked with this result. `message` is a

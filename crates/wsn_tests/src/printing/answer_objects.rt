@@ -19,7 +19,7 @@ const SUMMARY: Summary = Summary {
 };
 
 const REFUSAL: Refusal = Refusal {
-    place: 11,
+    offset: 11,
     reason: Reason::TextBad,
 };
 
@@ -67,7 +67,7 @@ fn objects_of_verdicts(rt: HostRuntime) {
 static FRAMES: [(HeadInfo, &str); 2] = [
     (
         HeadInfo {
-            place: 0,
+            offset: 0,
             fin: true,
             op: Op::Text,
             key: Some([0x37, 0xfa, 0x21, 0x3d]),
@@ -78,7 +78,7 @@ static FRAMES: [(HeadInfo, &str); 2] = [
     ),
     (
         HeadInfo {
-            place: u64::MAX,
+            offset: u64::MAX,
             fin: false,
             op: Op::Binary,
             key: None,

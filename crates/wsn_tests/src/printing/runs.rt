@@ -5,10 +5,8 @@ use std::alloc::{AllocError, Global};
 use std::process::Abort;
 use std::str;
 use wsn_io::Output;
-use wsn_print::{EntryFront, Origin, ShownEvent, ViewLimit, put_comment};
-use wsn_shown_text::{
-    put_comment_object, put_event, put_event_object, put_unfinished, put_unfinished_object,
-};
+use wsn_print::{EntryFront, Format, Origin, ShownEvent, ViewLimit, put_comment};
+use wsn_shown_text::{ShownItem, put_comment_as, put_entry};
 use wsn_wire::{Op, Role};
 
 /// A hundred and two characters: those that are escaped, and others whose bytes are like theirs.
@@ -106,7 +104,8 @@ fn expect_comment(rt: &impl Abort, alloc: Global, text: &str) {
     comment
         .extend_from_slice(text.as_bytes())
         .expect(rt, "memory");
-    let put = put_comment_object(&mut Output::new(&mut object), 7, comment.as_slice());
+    let mut output = Output::new(&mut object);
+    let put = put_comment_as(&mut output, Format::Json, 7, comment.as_slice());
     assert_eq!(rt; put, Ok(()));
     let front = b"{\"type\":\"comment\",\"line\":7,\"text\":\"";
     let expected = written(alloc, front, text, true, b"\"}\n").expect(rt, "memory");
@@ -140,10 +139,41 @@ fn ends(is_cut: bool) -> (&'static [u8], &'static [u8]) {
     }
 }
 
-/// Fails unless a line ends with a text, as it is quoted, between these two others.
-fn expect_quoted(rt: &impl Abort, alloc: Global, line: &[u8], text: &str, around: (&[u8], &[u8])) {
-    let expected = written(alloc, around.0, text, true, around.1).expect(rt, "memory");
-    assert!(rt; line.ends_with(expected.as_slice()), "{text}");
+/// An item with a text, what is shown of the text, and what comes before that in the item's line and in its object.
+#[derive(Clone, Copy)]
+struct Quoted<'a> {
+    item: ShownItem<'a>,
+    shown: &'a str,
+    is_cut: bool,
+    /// Nothing is shown: a dash is in the line.
+    is_dash: bool,
+    before: (&'a [u8], &'a [u8]),
+}
+
+/// Fails unless an item is written as it should be, in words and as an object.
+fn expect_quoted(rt: &impl Abort, alloc: Global, view: ViewLimit, quoted: &Quoted) {
+    let (line_end, object_end) = ends(quoted.is_cut);
+    for (format, before, end) in [
+        (Format::Text, quoted.before.0, line_end),
+        (Format::Json, quoted.before.1, object_end),
+    ] {
+        let mut line = Vec::new(alloc);
+        let put = put_entry(
+            &mut Output::new(&mut line),
+            format,
+            view,
+            &FRONT,
+            &quoted.item,
+        );
+        assert_eq!(rt; put, Ok(()));
+        let shown = quoted.shown;
+        let expected = written(alloc, before, shown, true, end).expect(rt, "memory");
+        let is_dash = quoted.is_dash && matches!(format, Format::Text);
+        assert!(rt;
+            is_dash || line.as_slice().ends_with(expected.as_slice()),
+            "{shown}"
+        );
+    }
 }
 
 /// Fails unless at most this many bytes of a message's text are written as they should be, in words and as an object.
@@ -151,19 +181,14 @@ fn expect_view(rt: &impl Abort, alloc: Global, text: &str, most: u16) {
     let view = ViewLimit::new(most).expect(rt, "a view of at most 4096 bytes");
     let bytes = text.as_bytes();
     let shown = whole(bytes.get(..usize::from(most)).unwrap_or(bytes));
-    let event = event_of(bytes);
-    let (line_end, object_end) = ends(shown.len() < bytes.len());
-    let mut line = Vec::new(alloc);
-    let put = put_event(&mut Output::new(&mut line), view, &FRONT.of_line(), &event);
-    assert_eq!(rt; put, Ok(()));
-    if most > 0 || bytes.is_empty() {
-        expect_quoted(rt, alloc, line.as_slice(), shown, (b" 1 \"", line_end));
-    }
-    let mut object = Vec::new(alloc);
-    let put = put_event_object(&mut Output::new(&mut object), view, &FRONT, &event);
-    assert_eq!(rt; put, Ok(()));
-    let around = (b",\"text\":\"".as_slice(), object_end);
-    expect_quoted(rt, alloc, object.as_slice(), shown, around);
+    let quoted = Quoted {
+        item: ShownItem::Event(event_of(bytes)),
+        shown,
+        is_cut: shown.len() < bytes.len(),
+        is_dash: most == 0 && !bytes.is_empty(),
+        before: (b" 1 \"", b",\"text\":\""),
+    };
+    expect_quoted(rt, alloc, view, &quoted);
 }
 
 /// Fails unless the first bytes of a message's text are written as they should be while no more have come, in words and
@@ -172,20 +197,14 @@ fn expect_unfinished(rt: &impl Abort, alloc: Global, text: &str, count: usize) {
     let view = ViewLimit::new(4_096).expect(rt, "a view of at most 4096 bytes");
     let bytes = text.as_bytes().get(..count).expect(rt, "enough bytes");
     let shown = whole(bytes);
-    let event = event_of(bytes);
-    let (line_end, object_end) = ends(shown.len() < bytes.len());
-    let mut line = Vec::new(alloc);
-    let mut output = Output::new(&mut line);
-    let put = put_unfinished(&mut output, view, &FRONT.of_line(), &event, Some(7));
-    assert_eq!(rt; put, Ok(()));
-    let around = (b" lacks 7 \"".as_slice(), line_end);
-    expect_quoted(rt, alloc, line.as_slice(), shown, around);
-    let mut object = Vec::new(alloc);
-    let mut output = Output::new(&mut object);
-    let put = put_unfinished_object(&mut output, view, &FRONT, &event, Some(7));
-    assert_eq!(rt; put, Ok(()));
-    let around = (b",\"lacks\":7,\"text\":\"".as_slice(), object_end);
-    expect_quoted(rt, alloc, object.as_slice(), shown, around);
+    let quoted = Quoted {
+        item: ShownItem::Unfinished(event_of(bytes), Some(7)),
+        shown,
+        is_cut: shown.len() < bytes.len(),
+        is_dash: false,
+        before: (b" lacks 7 \"", b",\"lacks\":7,\"text\":\""),
+    };
+    expect_quoted(rt, alloc, view, &quoted);
 }
 
 /// A text of `before` letters, a character, and 40 letters less.

@@ -17,8 +17,8 @@ pub returns-in-Some-clause-read : goal.returns-in-Some-clause-read
 returns-in-Some-clause-read c =
     let following = c.args.following.now in
     let chunk = c.in-Some.ensures.cases in
-    subst (λ (f : LenForm). (length_count f ≤ length following) × IsLengthRead c.args.lengths f (take (length_count f) following) c.two.result) (sym c.in-Two.is)
-    (chunk.enough, subst (λ bytes. IsLengthRead c.args.lengths Two bytes c.two.result) chunk.same (length_read c.args.lengths Two c.in-Some.bytes.now c.two.result c.two.ensures.decoded c.two.ensures.nothing_evident c.two.ensures.refused))
+    subst (λ (f : LenForm). (length_count f ≤ length following) × IsLengthRead c.args.lengths f (take (length_count f) following) c.read_two_byte_length.result) (sym c.in-Two.is)
+    (chunk.enough, subst (λ bytes. IsLengthRead c.args.lengths Two bytes c.read_two_byte_length.result) chunk.same (length_read c.args.lengths Two c.in-Some.bytes.now c.read_two_byte_length.result c.read_two_byte_length.ensures.decoded c.read_two_byte_length.ensures.nothing_evident c.read_two_byte_length.ensures.refused))
 
 pub returns-in-None-clause-missing : goal.returns-in-None-clause-missing
 returns-in-None-clause-missing c = subst (λ (f : LenForm). length c.args.following.now < length_count f) (sym c.in-Two.is) c.in-None.ensures.cases
@@ -27,8 +27,8 @@ pub returns-in-Some-first_chunk-clause-read : goal.returns-in-Some-first_chunk-c
 returns-in-Some-first_chunk-clause-read c =
     let following = c.args.following.now in
     let chunk = c.in-Some-first_chunk.ensures.cases in
-    subst (λ (f : LenForm). (length_count f ≤ length following) × IsLengthRead c.args.lengths f (take (length_count f) following) c.eight.result) (sym c.in-Eight.is)
-    (chunk.enough, subst (λ bytes. IsLengthRead c.args.lengths Eight bytes c.eight.result) chunk.same (length_read c.args.lengths Eight c.in-Some-first_chunk.bytes.now c.eight.result c.eight.ensures.decoded c.eight.ensures.nothing_evident c.eight.ensures.refused))
+    subst (λ (f : LenForm). (length_count f ≤ length following) × IsLengthRead c.args.lengths f (take (length_count f) following) c.read_eight_byte_length.result) (sym c.in-Eight.is)
+    (chunk.enough, subst (λ bytes. IsLengthRead c.args.lengths Eight bytes c.read_eight_byte_length.result) chunk.same (length_read c.args.lengths Eight c.in-Some-first_chunk.bytes.now c.read_eight_byte_length.result c.read_eight_byte_length.ensures.decoded c.read_eight_byte_length.ensures.nothing_evident c.read_eight_byte_length.ensures.refused))
 
 pub returns-in-None-first_chunk-clause-missing : goal.returns-in-None-first_chunk-clause-missing
 returns-in-None-first_chunk-clause-missing c = subst (λ (f : LenForm). length c.args.following.now < length_count f) (sym c.in-Eight.is) c.in-None-first_chunk.ensures.cases

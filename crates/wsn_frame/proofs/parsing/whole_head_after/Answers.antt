@@ -45,8 +45,8 @@ returns-in-Whole c =
     (omega (arith, long, size)) c.parse_after_two.ensures.within
     (λ group is_open. c.parse_after_two.ensures.parsed group second is_open (record {
       in_bytes = (subst (λ (n : ℕ). n < 256) read (omega arith), (byte, tt));
-      encoded_is = c.in-Ok-second.ensures.field;
+      encoded_is = c.in-Ok-read_second_byte.ensures.field;
       by_first = λ reason row. c.in-Ok.ensures.nothing_evident group is_open reason (subst (λ (n : ℕ). EvidentByFirst limits group reason n) (sym read) row);
-      by_second = c.in-Ok-second.ensures.nothing_evident;
+      by_second = c.in-Ok-read_second_byte.ensures.nothing_evident;
     }))
     c.in-Whole.is

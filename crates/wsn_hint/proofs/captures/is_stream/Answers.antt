@@ -2,8 +2,8 @@ use Rattle.std.proofs.Common.{◌≡◌, ℕ, ◌≤◌, true≢false, Bool, tru
 use Rattle.wsn_wire.specs.declared.endpoint.Role.{Role}
 use Rattle.wsn_wire.specs.declared.endpoint.Role.TheVariants.{Client, Server}
 use Rattle.wsn_rules.specs.Limits.{Limits}
-use Rattle.wsn_scan.specs.Judging.{IsUnrefused}
 use Rattle.wsn_rules.specs.Examples.{greatest}
+use Rattle.wsn_rules.specs.Verdict.{IsUnrefused}
 use Rattle.wsn_hint.proofs.captures.is_stream.Goals as goal
 
 -- What an endpoint may send and the client may not, the server may.

@@ -3,11 +3,11 @@ use Rattle.std.proofs.lemmas.Bool.Decides.{nat_tests}
 use Rattle.wsn_hint.specs.SideHints.{BeginsInAscii}
 use Rattle.wsn_hint.proofs.sent_text.reads_as_text.Goals as goal
 
-pub returns-then-start-place : goal.returns-then-start-place
-returns-then-start-place g c is sent heads_known text_known =
+pub returns-then-start-offset : goal.returns-then-start-offset
+returns-then-start-offset g c is sent heads_known text_known =
     let has = c.in-Some.ensures.head sent heads_known in
     let starts = c.in-Some.ensures.start has.begins.key in
-    let less : c.args.place - c.in-Some.start < c.text_len-len.result = grind (arith, nat_tests, is) in
+    let less : c.args.offset - c.in-Some.start < c.text_len-len.result = grind (arith, nat_tests, is) in
     let masks : c.in-Some-key.key ≢ 0 ∷ 0 ∷ 0 ∷ 0 ∷ [] = search rules in
     record {
       head = c.in-Some.head;
@@ -17,6 +17,6 @@ returns-then-start-place g c is sent heads_known text_known =
       masks = masks;
       count = c.text_len-len.result;
       text = subst (λ (n : ℕ). BeginsInAscii c.in-Some.head.len c.text_len-len.result (drop n sent)) starts (c.text_len-len.ensures sent text_known);
-      from = omega (arith, starts, c.if-start-place.true);
-      up_to = omega (arith, starts, less, c.if-start-place.true);
+      from = omega (arith, starts, c.if-start-offset.true);
+      up_to = omega (arith, starts, less, c.if-start-offset.true);
     }

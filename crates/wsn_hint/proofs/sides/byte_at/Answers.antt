@@ -9,7 +9,7 @@ returns-then-before-count c =
     let loop = c.loop-count.invariant in
     let read = c.in_ok-count.ensures in
     sent_at (sent_in c.args.role c.args.first.now) loop.0 c.read.new.into c.loop-count.side.remaining c.read.new.self.remaining
-    c.in_ok-count.count c.loop-count.before c.args.place loop.1 read.bytes loop.2 (omega (arith, c.if-before-count.true)) read.within
+    c.in_ok-count.count c.loop-count.before c.args.offset loop.1 read.bytes loop.2 (omega (arith, c.if-before-count.true)) read.within
 
 pub loop-count-preserved : goal.loop-count-preserved
 loop-count-preserved c =

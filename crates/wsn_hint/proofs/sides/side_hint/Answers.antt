@@ -23,7 +23,7 @@ returns-in-ReservedBits c =
 pub returns-in-TextBad : goal.returns-in-TextBad
 returns-in-TextBad c =
     let text = c.args.first.now in
-    let byte = some_byte c.args.role text c.args.line c.in-Some.refusal.place in
+    let byte = some_byte c.args.role text c.args.line c.in-Some.refusal.offset in
     subst (λ (o : Option Refusal). IsSideHint c.args.role c.args.limits text c.args.line o (Some NeverMasked)) (sym c.in-Some.is) (
       byte.0,
       true,
@@ -35,7 +35,7 @@ returns-in-TextBad c =
 pub returns-in-TextBad-2 : goal.returns-in-TextBad-2
 returns-in-TextBad-2 c =
     let text = c.args.first.now in
-    let byte = some_byte c.args.role text c.args.line c.in-Some.refusal.place in
+    let byte = some_byte c.args.role text c.args.line c.in-Some.refusal.offset in
     subst (λ (o : Option Refusal). IsSideHint c.args.role c.args.limits text c.args.line o (Some NotUtf8)) (sym c.in-Some.is) (
       byte.0,
       false,
@@ -47,7 +47,7 @@ returns-in-TextBad-2 c =
 pub returns-in_default-reason : goal.returns-in_default-reason
 returns-in_default-reason c =
     let text = c.args.first.now in
-    let byte = some_byte c.args.role text c.args.line c.in-Some.refusal.place in
+    let byte = some_byte c.args.role text c.args.line c.in-Some.refusal.offset in
     let none : IsFirstFit (FitsSide text c.in-Some.refusal.reason byte.0 false) side_hints None = search rules in
     subst (λ (o : Option Refusal). IsSideHint c.args.role c.args.limits text c.args.line o None) (sym c.in-Some.is)
     (byte.0, false, byte.1, (λ known. cc known), none)

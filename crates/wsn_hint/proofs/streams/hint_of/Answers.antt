@@ -11,7 +11,7 @@ use Rattle.wsn_hint.proofs.streams.hint_of.Goals as goal
 
 pub returns-in_default-clause-first : goal.returns-in_default-clause-first
 returns-in_default-clause-first c = λ some refusal has.
-    absurd (c.early_refusal.ensures.none c.in_default.is some has.0 refusal.place refusal.reason has.1)
+    absurd (c.early_refusal.ensures.none c.in_default.is some has.0 refusal.offset refusal.reason has.1)
 
 pub returns-then-is_capture_text-clause-refused : goal.returns-then-is_capture_text-clause-refused
 returns-then-is_capture_text-clause-refused c = λ given.

@@ -1,6 +1,6 @@
 use Rattle.std.proofs.Common.{◌≡◌, ℕ, ◌+◌, List, [], ◌∷◌, drop, sym, ap, ◌∙◌, subst, arith}
 use Rattle.std.specs.Prelude.{get_or}
-use Rattle.wsn_scan.specs.Judging.{IsUnrefused}
+use Rattle.wsn_rules.specs.Verdict.{IsUnrefused}
 use Rattle.wsn_hint.proofs.EarlyVerdicts.{two_at_front}
 use Rattle.wsn_hint.proofs.streams.is_compressed_start.Goals as goal
 

@@ -1,4 +1,5 @@
 use Rattle.std.proofs.Common.{rules}
+use Rattle.std.proofs.lemmas.Str.{IsUtf8-had}
 use Rattle.wsn_job.proofs.closings.print_named_report.Goals as goal
 
 pub returns-in-Err : goal.returns-in-Err
@@ -15,3 +16,8 @@ put_named_report-requires g c = search rules
 
 pub returns-in-Ok : goal.returns-in-Ok
 returns-in-Ok g c = search rules
+
+pub put_named_report-requires-text-name : goal.put_named_report-requires-text-name
+put_named_report-requires-text-name g c =
+    let name = IsUtf8-had c.args.closing.now.name.now c.args.closing.now.text in
+    search rules

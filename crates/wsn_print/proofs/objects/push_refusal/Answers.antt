@@ -10,7 +10,7 @@ returns-clause-text g c =
     let word : c.word.result.now ≡ word_of c.args.refusal.now.reason = cc in
     let code : c.from.result ≡ code_of c.args.refusal.now.reason = cc in
     three c.args.line.now c.push_number_field.new.line c.push_string_field.new.line c.push_number_field-2.new.line
-    (number_field c.args.key.now r.place) (string_field (codes "reason") (word_of r.reason)) (number_field (codes "code") (code_of r.reason))
+    (number_field c.args.key.now r.offset) (string_field (codes "reason") (word_of r.reason)) (number_field (codes "code") (code_of r.reason))
     c.push_number_field.ensures.text
     (c.push_string_field.ensures.text ∙ ap (λ (w : List ℕ). c.push_number_field.new.line ++ string_field (codes "reason") w) word)
     (c.push_number_field-2.ensures.text ∙ ap (λ (n : ℕ). c.push_string_field.new.line ++ number_field (codes "code") n) code)

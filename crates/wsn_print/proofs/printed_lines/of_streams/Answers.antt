@@ -15,7 +15,7 @@ returns-clause-ping_between c = lists_cut Server greatest (0x01 ∷ 0x01 ∷ 0x4
 
 pub returns-clause-refused_in_a_payload : goal.returns-clause-refused_in_a_payload
 unfolding found digits
-returns-clause-refused_in_a_payload c = lists_to_a_payload Server greatest (0x89 ∷ 0x00 ∷ 0x81 ∷ 0x02 ∷ 0x41 ∷ 0xff ∷ []) (codes "0 fin ping - 0\n2 fin text - 2\n") refl refl (0x81 ∷ 0x02 ∷ 0x41 ∷ 0xff ∷ []) (record { place = 2; fin = true; op = Text; key = None; form = Shortest; len = 2 }) (0x41 ∷ 0xff ∷ []) refl refl refl tt tt refl refl refl
+returns-clause-refused_in_a_payload c = lists_to_a_payload Server greatest (0x89 ∷ 0x00 ∷ 0x81 ∷ 0x02 ∷ 0x41 ∷ 0xff ∷ []) (codes "0 fin ping - 0\n2 fin text - 2\n") refl refl (0x81 ∷ 0x02 ∷ 0x41 ∷ 0xff ∷ []) (record { offset = 2; fin = true; op = Text; key = None; form = Shortest; len = 2 }) (0x41 ∷ 0xff ∷ []) refl refl refl tt tt refl refl refl
 
 pub returns-clause-refused_in_a_head : goal.returns-clause-refused_in_a_head
 unfolding found digits

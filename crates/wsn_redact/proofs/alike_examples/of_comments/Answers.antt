@@ -17,7 +17,7 @@ no_digit c rest seconds (d ∷ whole) fraction above some digits is same =
     omega (arith, first, most, above)
 
 no_time : (c : ℕ) (rest seconds : List ℕ) → 0x39 < c → IsSeconds seconds → codes "# " ++ c ∷ rest ≡ codes "# " ++ seconds → ⊥
-no_time c rest seconds above is same = no_digit c rest seconds is.whole is.fraction above is.some is.whole_digits is.is (sym (append_cancel_left (codes "# ") (c ∷ rest) seconds same))
+no_time c rest seconds above is same = no_digit c rest seconds is.whole is.fraction above is.whole_is.some is.whole_is.digits is.is (sym (append_cancel_left (codes "# ") (c ∷ rest) seconds same))
 
 says_else : (c : ℕ) (rest : List ℕ) → 0x39 < c → c ≢ 101 → c ≢ 114 → SaysElse (codes "# " ++ c ∷ rest)
 says_else c rest above no_e no_r = (
@@ -36,12 +36,12 @@ one_digit d e low high from to = record {
   whole = d ∷ [];
   fraction = e ∷ [];
   is = refl;
-  whole_digits = ((low, high), tt);
-  fraction_digits = ((from, to), tt);
-  some = omega arith;
-  some_more = omega arith;
-  few = omega arith;
-  no_leading_zero = λ digit following is. let size : 1 ≡ suc (suc (length following)) = ap (λ (l : List ℕ). length l) is in omega (arith, size);
+  whole_is = record {
+    digits = ((low, high), tt);
+    some = omega arith;
+    no_leading_zero = λ digit following is. let size : 1 ≡ suc (suc (length following)) = ap (λ (l : List ℕ). length l) is in omega (arith, size);
+  };
+  fraction_is = record { digits = ((from, to), tt); some = omega arith; few = omega arith };
 }
 
 pub returns-clause-values : goal.returns-clause-values

@@ -26,8 +26,8 @@ returns c = record {
       (inr (inr (
         no_close_nil,
         record {
-          info = record { place = 0; fin = true; op = Close; key = None; form = Shortest; len = 4 };
-          begins = record { head = 0x88 ∷ 0x04 ∷ []; following = 0x03 ∷ 0xec ∷ []; whole = refl; place = refl; encoded = refl; key = tt; form = tt; size = omega arith; has_no_evidence = quiet_head Server greatest [] (0x88 ∷ 0x04 ∷ []) refl };
+          info = record { offset = 0; fin = true; op = Close; key = None; form = Shortest; len = 4 };
+          begins = record { head = 0x88 ∷ 0x04 ∷ []; following = 0x03 ∷ 0xec ∷ []; whole = refl; offset = refl; encoded = refl; key = tt; form = tt; size = omega arith; has_no_evidence = quiet_head Server greatest [] (0x88 ∷ 0x04 ∷ []) refl };
           part = 0x03 ∷ 0xec ∷ [];
           is_part = payload_is [] Close (0x03 ∷ 0xec ∷ []) begins-nil;
           redacted_is = refl;
@@ -39,8 +39,8 @@ returns c = record {
       (inr (inr (
         no_close_nil,
         record {
-          info = record { place = 0; fin = true; op = Close; key = None; form = Shortest; len = 5 };
-          begins = record { head = 0x88 ∷ 0x05 ∷ []; following = 0x03 ∷ 0xe8 ∷ 0x61 ∷ 0xc3 ∷ 0x41 ∷ []; whole = refl; place = refl; encoded = refl; key = tt; form = tt; size = omega arith; has_no_evidence = quiet_head Server greatest [] (0x88 ∷ 0x05 ∷ []) refl };
+          info = record { offset = 0; fin = true; op = Close; key = None; form = Shortest; len = 5 };
+          begins = record { head = 0x88 ∷ 0x05 ∷ []; following = 0x03 ∷ 0xe8 ∷ 0x61 ∷ 0xc3 ∷ 0x41 ∷ []; whole = refl; offset = refl; encoded = refl; key = tt; form = tt; size = omega arith; has_no_evidence = quiet_head Server greatest [] (0x88 ∷ 0x05 ∷ []) refl };
           part = 0x03 ∷ 0xe8 ∷ 0x78 ∷ 0xc3 ∷ 0x58 ∷ [];
           is_part = (
             0x78 ∷ 0xc3 ∷ 0x58 ∷ [],
@@ -61,8 +61,8 @@ returns c = record {
       (inr (inr (
         no_close_nil,
         record {
-          info = record { place = 0; fin = true; op = Text; key = None; form = Shortest; len = 5 };
-          begins = record { head = 0x81 ∷ 0x05 ∷ []; following = 0x61 ∷ 0xe2 ∷ 0x9c ∷ []; whole = refl; place = refl; encoded = refl; key = tt; form = tt; size = omega arith; has_no_evidence = quiet_head Server greatest [] (0x81 ∷ 0x05 ∷ []) refl };
+          info = record { offset = 0; fin = true; op = Text; key = None; form = Shortest; len = 5 };
+          begins = record { head = 0x81 ∷ 0x05 ∷ []; following = 0x61 ∷ 0xe2 ∷ 0x9c ∷ []; whole = refl; offset = refl; encoded = refl; key = tt; form = tt; size = omega arith; has_no_evidence = quiet_head Server greatest [] (0x81 ∷ 0x05 ∷ []) refl };
           part = 0x78 ∷ 0xe2 ∷ 0x82 ∷ [];
           is_part = payload_is [] Text (0x61 ∷ 0xe2 ∷ 0x9c ∷ []) (λ _. record { more = 0x80 ∷ []; text = (after_ascii 0x61 (omega arith) (0xe2 ∷ 0x9c ∷ 0x80 ∷ [])).1 ((after_E1_to_EC 0xe2 (omega arith, omega arith) (0x9c ∷ 0x80 ∷ [])).1 (omega arith, omega arith, (omega arith, omega arith, text-nil))) });
           redacted_is = refl;
@@ -74,8 +74,8 @@ returns c = record {
       (inr (inr (
         no_close_push [] first no_close_nil (λ is. cc),
         record {
-          info = record { place = 3; fin = true; op = Continue; key = None; form = Shortest; len = 4 };
-          begins = record { head = 0x80 ∷ 0x04 ∷ []; following = 0x62 ∷ 0xe0 ∷ 0x9f ∷ []; whole = refl; place = refl; encoded = refl; key = tt; form = tt; size = omega arith; has_no_evidence = quiet_head Server greatest (first ∷ []) (0x80 ∷ 0x04 ∷ []) refl };
+          info = record { offset = 3; fin = true; op = Continue; key = None; form = Shortest; len = 4 };
+          begins = record { head = 0x80 ∷ 0x04 ∷ []; following = 0x62 ∷ 0xe0 ∷ 0x9f ∷ []; whole = refl; offset = refl; encoded = refl; key = tt; form = tt; size = omega arith; has_no_evidence = quiet_head Server greatest (first ∷ []) (0x80 ∷ 0x04 ∷ []) refl };
           part = 0x78 ∷ 0xe0 ∷ 0x9f ∷ [];
           is_part = record {
             before = 0x78 ∷ [];

@@ -42,7 +42,7 @@ returns c = record {
     entries = Bytes Server (0xc1 ∷ []) ∷ [];
     given = (given_bytes Server 99 (codes "1") (0xc1 ∷ []) refl, tt);
     is = report_is greatest (Bytes Server (0xc1 ∷ []) ∷ []) refl refl refl
-        (record { client = Running; server = Refused (record { place = 0; reason = ReservedBits }); first = None; echo = None; client_sees = Some 1006; server_sees = None; outcome = Failed })
+        (record { client = Running; server = Refused (record { offset = 0; reason = ReservedBits }); first = None; echo = None; client_sees = Some 1006; server_sees = None; outcome = Failed })
         (none_first greatest (Bytes Server (0xc1 ∷ []) ∷ []) refl refl refl refl refl)
         refl refl refl refl refl refl;
   };
@@ -58,7 +58,7 @@ returns c = record {
     entries = Bytes Client (0x88 ∷ 0x80 ∷ 0x00 ∷ 0x00 ∷ 0x00 ∷ 0x00 ∷ []) ∷ Bytes Server (0x88 ∷ 0x02 ∷ 0x03 ∷ 0xec ∷ []) ∷ Mark Server ∷ [];
     given = (given_bytes Client 56 (codes "88000000000") (0x88 ∷ 0x80 ∷ 0x00 ∷ 0x00 ∷ 0x00 ∷ 0x00 ∷ []) refl, (given_bytes Server 56 (codes "80203ec") (0x88 ∷ 0x02 ∷ 0x03 ∷ 0xec ∷ []) refl, (refl, tt)));
     is = report_is greatest (Bytes Client (0x88 ∷ 0x80 ∷ 0x00 ∷ 0x00 ∷ 0x00 ∷ 0x00 ∷ []) ∷ Bytes Server (0x88 ∷ 0x02 ∷ 0x03 ∷ 0xec ∷ []) ∷ Mark Server ∷ []) refl refl refl
-        (record { client = Closed None; server = Refused (record { place = 3; reason = CloseCode }); first = Some Client; echo = None; client_sees = Some 1006; server_sees = Some 1005; outcome = Failed })
+        (record { client = Closed None; server = Refused (record { offset = 3; reason = CloseCode }); first = Some Client; echo = None; client_sees = Some 1006; server_sees = Some 1005; outcome = Failed })
         (alone_first greatest (Bytes Client (0x88 ∷ 0x80 ∷ 0x00 ∷ 0x00 ∷ 0x00 ∷ 0x00 ∷ []) ∷ Bytes Server (0x88 ∷ 0x02 ∷ 0x03 ∷ 0xec ∷ []) ∷ Mark Server ∷ []) refl refl refl Client 0 refl refl refl refl)
         refl refl refl refl refl refl;
   };

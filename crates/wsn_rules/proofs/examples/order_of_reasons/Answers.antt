@@ -15,7 +15,7 @@ returns c = record {
   one_byte_after_no_mask = judged _ _ _ _ refl refl refl;
   big_after_no_mask = judged _ _ _ _ refl refl refl;
   big_after_not_minimal = judged _ _ _ _ refl refl refl;
-  mask_at_a_later_place = judged _ _ _ _ refl refl refl;
+  mask_at_a_later_offset = judged _ _ _ _ refl refl refl;
   code_before_reason = judged _ _ _ _ refl refl refl;
   bad_before_cut = judged _ _ _ _ refl refl refl;
 }

@@ -11,5 +11,5 @@ returns-clause-whole c = λ role limits fs bytes range lawful layout has_no_evid
     (frame.frame, frame.law, frame.bytes_are)
 
 pub returns-clause-sound : goal.returns-clause-sound
-returns-clause-sound c = λ role limits fs gs f following place reason lawful is_evident.
+returns-clause-sound c = λ role limits fs gs f following offset reason lawful is_evident.
     lawful_frame_shows_nothing role limits fs f gs lawful is_evident.seen is_evident.later following reason (append_cancel (stream fs) (is_evident.seen ++ is_evident.later) (frame_bytes f ++ following) (sym is_evident.whole)) is_evident.evidence

@@ -10,12 +10,8 @@ seconds a b least most from to = record {
   whole = a ∷ [];
   fraction = b ∷ [];
   is = refl;
-  whole_digits = ((least, most), tt);
-  fraction_digits = ((from, to), tt);
-  some = omega arith;
-  some_more = omega arith;
-  few = omega arith;
-  no_leading_zero = λ digit following e. cc;
+  whole_is = record { digits = ((least, most), tt); some = omega arith; no_leading_zero = λ digit following e. cc };
+  fraction_is = record { digits = ((from, to), tt); some = omega arith; few = omega arith };
 }
 
 first : GivesTime (codes "# 1.5") (codes "1.5")

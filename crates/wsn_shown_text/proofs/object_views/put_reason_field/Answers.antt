@@ -1,7 +1,7 @@
 use Rattle.std.proofs.Common.{codes, sym, ◌∙◌}
 use Rattle.wsn_print.specs.EscapedText.{quoted}
 use Rattle.wsn_shown_text.specs.ShownObjects.{reason_field}
-use Rattle.wsn_shown_text.proofs.ObjectPieces.{reason_field_is}
+use Rattle.wsn_shown_text.proofs.Entries.{reason_field_is}
 use Rattle.wsn_print.proofs.Pieces.{first_stops, two_pieces}
 use Rattle.wsn_shown_text.proofs.object_views.put_reason_field.Goals as goal
 

@@ -16,7 +16,7 @@ returns g c role limits done f is lawful within =
     let text = ap (λ (v : _). v.items) c.replace-message.ensures.value in
     let nothing = ap (λ (v : _). v.items) c.replace-message.ensures.after ∙ c.new-next.ensures.items in (
       (final, ap (λ (bs : List ℕ). Message c.args.self.now.kind bs) text ∙ message_event role limits c.args.self.now done f lawful within other),
-      message_ended (record { op = c.args.self.now.op; place = c.args.self.now.place; kind = c.args.self.now.kind; message = c.replace-message.new.dest; start = c.args.self.now.start; frames = c.args.self.now.frames; body = c.args.self.now.body }) done f other final nothing,
+      message_ended (record { op = c.args.self.now.op; frame_offset = c.args.self.now.frame_offset; kind = c.args.self.now.kind; message = c.replace-message.new.dest; start = c.args.self.now.start; frames = c.args.self.now.frames; body = c.args.self.now.body }) done f other final nothing,
       record { offset = (placed role limits c.args.self.now done f lawful within).offset; count = (placed role limits c.args.self.now done f lawful within).count },
     )
 

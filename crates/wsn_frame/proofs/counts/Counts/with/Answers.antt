@@ -1,10 +1,10 @@
 use Rattle.std.proofs.Common.{◌≡◌, ◌≤◌, ◌∙◌, ◌&&◌, Bool, true, false, not, cond, refl, sym, ap, arith}
 use mir.Val.{bool_byte}
 use Rattle.wsn_wire.specs.declared.opcode.Op.{Op}
-use Rattle.wsn_wire.specs.declared.opcode.Op.TheVariants.{Continue, Text, Binary, Close, Ping, Pong}
 use Rattle.wsn_wire.specs.Frame.{is_control}
 use Rattle.wsn_rules.specs.Summary.{is_ping, is_pong}
 use Rattle.wsn_frame.proofs.CountedFrames.{tallies_push, within_frames}
+use Rattle.wsn_frame.proofs.CountedKinds.{no_ping, no_pong}
 use Rattle.wsn_frame.proofs.counts.Counts.with.Goals as goal
 use Rattle.wsn_frame.proofs.counts.Counts.with.Goals.{then-fin, else-fin, in-Ping, in_default, in-Pong, in_default-matches}
 
@@ -23,22 +23,6 @@ and_true false = refl
 and_false : (b : Bool) → false ≡ b && false
 and_false true = refl
 and_false false = refl
-
-no_ping : (op : Op) → (op ≡ Ping → ⊥) → false ≡ is_ping op
-no_ping Continue other = refl
-no_ping Text other = refl
-no_ping Binary other = refl
-no_ping Close other = refl
-no_ping Ping other = absurd (other refl)
-no_ping Pong other = refl
-
-no_pong : (op : Op) → (op ≡ Pong → ⊥) → false ≡ is_pong op
-no_pong Continue other = refl
-no_pong Text other = refl
-no_pong Binary other = refl
-no_pong Close other = refl
-no_pong Ping other = refl
-no_pong Pong other = absurd (other refl)
 
 pub returns : goal.returns
 returns c fs f counts few is_fin is_op =

@@ -35,7 +35,7 @@ returns-in_err-put g c role limits at fs frames from position rest before share 
     let out = err_from_is_err_and c.from_residual.result c.from_residual.ensures.1 in
     let is : c.from_residual.result ≡ Err c.in_err-put.field-0.0 = out.1 ∙ ap Err out.2 in
     subst (λ (r : Result (Option Payload) Stop). TakesPart c.if-part.self at fs c.args.part.now.head frames position text c.args.output.now c.put.new.output r) (sym is)
-    (failed.0, (_, failed.1, so_far role limits c.if-part.self at fs frames position rest before share since text c.args.part.now c.args.payload.now t may.place here (here.frame.2.0 c.in_err-put.ensures.own)))
+    (failed.0, (_, failed.1, so_far role limits c.if-part.self at fs frames position rest before share since text c.args.part.now c.args.payload.now t may.offset here (here.frame.2.0 c.in_err-put.ensures.own)))
 
 pub returns-then-end : goal.returns-then-end
 returns-then-end g c role limits at fs frames from position rest before share since text may is_at t k =
@@ -50,13 +50,13 @@ returns-then-end g c role limits at fs frames from position rest before share si
           subst (λ (s : EventAt). KeepsEventAt s at fs (InFrame c.args.part.now.head before) text) (sym w.self-is) (into_frame c.args.self.now at fs from c.args.part.now before text w.if-part.false is_at k)
     ] in
     let ends = c.if-part-2.true in
-    let f = frame role limits c.if-part.self at fs frames position rest before share since text c.args.part.now c.args.payload.now t may.place here ends in
-    let is = c.end.ensures role limits at fs f _ (head_is role limits c.if-part.self at fs frames position rest before share since text c.args.part.now c.args.payload.now t may.place here ends) may
-    (lawful role limits c.if-part.self at fs frames position rest before share since text c.args.part.now c.args.payload.now t may.place here ends)
-    (whole_frame role limits c.if-part.self at fs frames position rest before share since text c.args.part.now c.args.payload.now t may.place here ends) in (
+    let f = frame role limits c.if-part.self at fs frames position rest before share since text c.args.part.now c.args.payload.now t may.offset here ends in
+    let is = c.end.ensures role limits at fs f _ (head_is role limits c.if-part.self at fs frames position rest before share since text c.args.part.now c.args.payload.now t may.offset here ends) may
+    (lawful role limits c.if-part.self at fs frames position rest before share since text c.args.part.now c.args.payload.now t may.offset here ends)
+    (whole_frame role limits c.if-part.self at fs frames position rest before share since text c.args.part.now c.args.payload.now t may.offset here ends) in (
       _,
       f,
-      frames_are role limits c.if-part.self at fs frames position rest before share since text c.args.part.now c.args.payload.now t may.place here ends,
+      frames_are role limits c.if-part.self at fs frames position rest before share since text c.args.part.now c.args.payload.now t may.offset here ends,
       subst (λ (b : Bool). EndsFrame c.end.new.self at fs f (text ++ own_part c.if-part.self c.args.payload.now) b) c.if-end.true is,
       c.in_ok-put.ensures.written,
     )
@@ -76,20 +76,20 @@ returns g c role limits at fs frames from position rest before share since text 
     elim c.else-part-2.branch [
       | else-part-2-via-then-part-2+else-end w ↦
           let ends = w.if-part-2.true in
-          let f = frame role limits c.if-part.self at fs frames position rest before share since text c.args.part.now c.args.payload.now t may.place here ends in
-          let is = w.end.ensures role limits at fs f _ (head_is role limits c.if-part.self at fs frames position rest before share since text c.args.part.now c.args.payload.now t may.place here ends) may
-          (lawful role limits c.if-part.self at fs frames position rest before share since text c.args.part.now c.args.payload.now t may.place here ends)
-          (whole_frame role limits c.if-part.self at fs frames position rest before share since text c.args.part.now c.args.payload.now t may.place here ends) in (
+          let f = frame role limits c.if-part.self at fs frames position rest before share since text c.args.part.now c.args.payload.now t may.offset here ends in
+          let is = w.end.ensures role limits at fs f _ (head_is role limits c.if-part.self at fs frames position rest before share since text c.args.part.now c.args.payload.now t may.offset here ends) may
+          (lawful role limits c.if-part.self at fs frames position rest before share since text c.args.part.now c.args.payload.now t may.offset here ends)
+          (whole_frame role limits c.if-part.self at fs frames position rest before share since text c.args.part.now c.args.payload.now t may.offset here ends) in (
             _,
             subst (λ (s : EventAt). KeepsEventAt s at frames position (text ++ own_part c.if-part.self c.args.payload.now)) (sym w.self-is)
-                (ended role limits c.if-part.self at fs frames position rest before share since text c.args.part.now c.args.payload.now t may.place here ends w.end.new.self
+                (ended role limits c.if-part.self at fs frames position rest before share since text c.args.part.now c.args.payload.now t may.offset here ends w.end.new.self
                 (subst (λ (b : Bool). EndsFrame w.end.new.self at fs f (text ++ own_part c.if-part.self c.args.payload.now) b) w.if-end.false is)),
             c.in_ok-put.ensures.written,
           )
       | else-part-2-via-else-part-2 w ↦ (
         _,
         subst (λ (s : EventAt). KeepsEventAt s at frames position (text ++ own_part c.if-part.self c.args.payload.now)) (sym w.self-is)
-            (within_frame role limits c.if-part.self at fs frames position rest before share since text c.args.part.now c.args.payload.now t may.place here w.if-part-2.false),
+            (within_frame role limits c.if-part.self at fs frames position rest before share since text c.args.part.now c.args.payload.now t may.offset here w.if-part-2.false),
         c.in_ok-put.ensures.written,
       )
     ]

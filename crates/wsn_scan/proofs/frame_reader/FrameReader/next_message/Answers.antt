@@ -15,7 +15,7 @@ returns-clause-taken c role limits came fs at h =
     record {
       part = part;
       whole = record { begins = refl; ends = refl; final = e.first.0; op = op_by_first c.in_ok-kind.kind head.op (sym c.in_ok-kind.ensures ∙ e.first.1) };
-      place_is = refl;
+      offset_is = refl;
       takes = steps role limits c.args.self.now _ part count came fs at h taken.Part
           (record {
             in_bytes = c.event_in.ensures.in_bytes;

@@ -10,7 +10,7 @@ returns-clause-taken c role limits bytes rest wire fs =
       under = refl;
       room = refl;
       used = c.taken-self.ensures;
-      counts = c.count.ensures;
+      counts = c.add.ensures;
       message = c.update.ensures;
       stage = c.end_frame.ensures.stage;
     })

@@ -13,7 +13,7 @@ pub returns-in-Refused-clause-verdict : goal.returns-in-Refused-clause-verdict
 returns-in-Refused-clause-verdict c role limits bytes rest fs pos has_scanned =
     let refusal = c.in-Refused.refusal in
     let at = subst (λ (stage : Stage). IsAt role limits stage bytes fs rest pos) c.in-Refused.is has_scanned.is_at in
-    subst (λ (all : List ℕ). IsRefused role limits all fs refusal.place refusal.reason) (append-nil bytes) (at.refused [])
+    subst (λ (all : List ℕ). IsRefused role limits all fs refusal.offset refusal.reason) (append-nil bytes) (at.refused [])
 
 pub returns-in-Between-clause-verdict : goal.returns-in-Between-clause-verdict
 returns-in-Between-clause-verdict c role limits bytes rest fs pos has_scanned =

@@ -11,14 +11,14 @@ loop-index-preserved c =
     let i = c.loop-index.index in
     let bytes = c.args.bytes.now in
     let skipped = c.saturating_sub-skipped.result in
-    let place = c.saturating_sub-place.result in
-    let place_is = c.saturating_sub-place.ensures in
+    let place = c.saturating_sub-offset.result in
+    let offset_is = c.saturating_sub-offset.ensures in
     let within = c.loop-index-test.true in
     let before = c.loop-index.invariant in (
       let from = before.0 in omega (arith, from),
       λ came offset end has.
           let more = placed (offset + skipped) (drop skipped (take i bytes)) in
-          let grown = placed_push offset skipped i bytes place _ before.0 within (omega (arith, place_is, within, end)) refl in
+          let grown = placed_push offset skipped i bytes place _ before.0 within (omega (arith, offset_is, within, end)) refl in
           subst (HasLastPayload c.push.new.self) (append_assoc came more (placed place (get_or bytes i 0 ∷ [])) ∙ ap (λ (ps : List PlacedByte). came ++ ps) (sym grown)) (c.push.ensures (came ++ more) (before.1 came offset end has)),
     )
 

@@ -23,14 +23,14 @@ returns-then-is_control g c role limits fs part rest lawful small sound kept =
     let held = control_held own.last part c.control.result.held.now last (sound.1 control) c.control.ensures.held in
     let represents = represents_control context.style.view c.control.result head.op part control c.control.ensures.op (c.control.ensures.bytes ∙ last.count) held in
     let lacks : head.len - length part ≡ c.saturating_sub.result = ap (λ (m : ℕ). head.len - m) (sym (c.end.ensures.bytes ∙ kept.frame.last.count)) ∙ sym c.saturating_sub.ensures in
-    let is : Unfinished head.place event 1 (Some (head.len - length part)) ≡ Unfinished own.offset event c.control.result.frames (Some c.saturating_sub.result) =
+    let is : Unfinished head.offset event 1 (Some (head.len - length part)) ≡ Unfinished own.offset event c.control.result.frames (Some c.saturating_sub.result) =
     ap (λ (m : ℕ). Unfinished m event 1 (Some (head.len - length part))) (sound.0 ∙ sym kept.frame.offset)
     ∙ ap (λ (m : ℕ). Unfinished own.offset event m (Some (head.len - length part))) (sym c.control.ensures.frames)
     ∙ ap (λ (m : ℕ). Unfinished own.offset event c.control.result.frames (Some m)) lacks in
     subst (Prints context c.args.output.now c.put_item.new.output) (sym (part_of_control_is fs head part control))
-    (prints_both context c.args.output.now c.put_open.new.output c.put_item.new.output (open_items fs (Some 0)) (Unfinished head.place event 1 (Some (head.len - length part)) ∷ [])
+    (prints_both context c.args.output.now c.put_open.new.output c.put_item.new.output (open_items fs (Some 0)) (Unfinished head.offset event 1 (Some (head.len - length part)) ∷ [])
     (c.put_open.ensures role limits fs _ lawful kept.message)
-    (c.put_item.ensures (Unfinished head.place event 1 (Some (head.len - length part))) (event, represents, tt, is)))
+    (c.put_item.ensures (Unfinished head.offset event 1 (Some (head.len - length part))) (event, represents, tt, is)))
 
 pub returns-else-is_control : goal.returns-else-is_control
 returns-else-is_control g c role limits fs part rest lawful small sound kept =

@@ -25,8 +25,8 @@ returns-in-Refused g c role limits style came has =
     let is : refusal_in v.scan ≡ Some refusal = sym c.finish.ensures.reported ∙ ap refusal_judged c.in-Refused.is in
     let l = leaves_unread style.detail role limits v.scan v.parts came here.shown refusal is here.has in
     let small = l.small in
-    let offset : c.saturating_add-offset.result ≡ refusal.place + 1 = let sum = c.saturating_add-offset.ensures in omega (arith, sum, small) in
-    let left : List Item = items_of_bytes Unread (refusal.place + 1) l.unread in
+    let offset : c.saturating_add-offset.result ≡ refusal.offset + 1 = let sum = c.saturating_add-offset.ensures in omega (arith, sum, small) in
+    let left : List Item = items_of_bytes Unread (refusal.offset + 1) l.unread in
     let printed = subst (λ (m : ℕ). Prints context c.args.output.now new (items_of_bytes Unread m l.unread)) offset (c.put_remainder.ensures l.unread l.first) in
     (left, l.left_over, written_on role limits style viewed came here context c.args.output.now new left refl refl printed)
 

@@ -1,9 +1,0 @@
-use Rattle.wsn_rules.proofs.ShownPlaces.{all_in_place}
-use Rattle.wsn_rules.proofs.ShownHeads.{heads_in_place}
-use Rattle.wsn_rules.proofs.shown.law_shown_places.Goals as goal
-
-pub returns-clause-events : goal.returns-clause-events
-returns-clause-events c = all_in_place
-
-pub returns-clause-heads : goal.returns-clause-heads
-returns-clause-heads c = heads_in_place

@@ -1,8 +1,0 @@
-use Rattle.std.proofs.Common.{rules}
-use Rattle.wsn_text.proofs.utf8_check.Expected.if_within.Goals as goal
-
-pub returns-else-contains : goal.returns-else-contains
-returns-else-contains c = search rules
-
-pub returns-then-contains : goal.returns-then-contains
-returns-then-contains c = search rules
