@@ -7,7 +7,7 @@ ghost use Rattle.wsn_events.specs.Sources.{IsLast};
 ghost use Rattle.wsn_rules.specs.LeftOut.{events_without};
 ghost use Rattle.wsn_events.specs.Excerpts.{IsContrasted, KeepsFirst, KeepsOf, index_in};
 ghost use Rattle.wsn_events.specs.Comparing.{IsComparisonOutcome, IsAnAccepted, IsRoundOf, AreLentAlike, IsComparedBy, IsCompared, IsComparisonOfBy, IsComparisonOf};
-ghost use Rattle.wsn_events.specs.Turns.{OfEvent, IsLawfulTurn, meant_next, meant_last};
+ghost use Rattle.wsn_events.specs.Turns.{OfEvent, IsLawfulTurn, meant_next, meant_turn};
 ghost use Rattle.wsn_events.specs.LentMessages.{MayLend};
 
 use crate::equal_bytes::are_equal;
@@ -18,7 +18,7 @@ use crate::payload::payload_of;
 use crate::payload_difference::PayloadDifference;
 use crate::source::{Next, Source};
 use crate::streams::ComparedStreams;
-use crate::turn::{LastTurn, Turn, give_back};
+use crate::turn::{Turn, give_back};
 use std::alloc::Allocator;
 use std::io::Read;
 use wsn_rules::{Compared, Without};
@@ -109,18 +109,7 @@ pub fn contrast<A: Allocator + Copy, R: Read, S: Read>(
         }
         let turn = turn_after(lent, &mut events, &mut streams.first, without)?;
         let other = turn_after(other_lent, &mut others, &mut streams.second, without)?;
-        let round = end_round(
-            &mut difference,
-            index,
-            &LastTurn {
-                source: &events,
-                turn: &turn,
-            },
-            &LastTurn {
-                source: &others,
-                turn: &other,
-            },
-        );
+        let round = end_round(&mut difference, index, &events, &turn, &others, &other);
         if let Round::Over(verdict, other) = round {
             let compared = outcome(verdict, other, index_of(&difference));
             return Ok((compared, difference));
@@ -159,23 +148,25 @@ fn are_alike<A: Allocator + Copy>(
     }
 }
 
-/// The round that the last turns of both sources make. It keeps of the first events that differ what shows them.
+/// The round that these two turns make. It keeps of the first events that differ what shows them.
 #[inline(always)]
 fn end_round<A: Allocator + Copy>(
     difference: &mut Option<FirstDifference>,
     index: u64,
-    first: &LastTurn<'_, A>,
-    second: &LastTurn<'_, A>,
+    events: &Source<A>,
+    turn: &Turn<A>,
+    others: &Source<A>,
+    other: &Turn<A>,
 ) -> Round
-    requires first { IsLawfulTurn (meant_last first.now) }
-    requires second { IsLawfulTurn (meant_last second.now) }
-    ensures round { IsRoundOf (meant_last first.now) (meant_last second.now) result }
-    ensures kept { KeepsOf result index first.now.source.now (meant_last first.now) second.now.source.now
-        (meant_last second.now) difference.old difference.new }
+    requires turn { IsLawfulTurn (meant_turn events.now turn.now) }
+    requires other { IsLawfulTurn (meant_turn others.now other.now) }
+    ensures round { IsRoundOf (meant_turn events.now turn.now) (meant_turn others.now other.now) result }
+    ensures kept { KeepsOf result index events.now (meant_turn events.now turn.now) others.now
+        (meant_turn others.now other.now) difference.old difference.new }
 {
-    let round = round_of(first, second);
+    let round = round_of(events, turn, others, other);
     if let Round::Unlike = round {
-        keep_first(difference, index, first, second);
+        keep_first(difference, index, events, turn, others, other);
     }
     round
 }
@@ -186,22 +177,27 @@ fn end_round<A: Allocator + Copy>(
 fn keep_first<A: Allocator + Copy>(
     difference: &mut Option<FirstDifference>,
     index: u64,
-    first: &LastTurn<'_, A>,
-    second: &LastTurn<'_, A>,
+    events: &Source<A>,
+    turn: &Turn<A>,
+    others: &Source<A>,
+    other: &Turn<A>,
 )
-    requires first { IsLawfulTurn (meant_last first.now) }
-    requires second { IsLawfulTurn (meant_last second.now) }
-    ensures { KeepsFirst index first.now.source.now (meant_last first.now) second.now.source.now
-        (meant_last second.now) difference.old difference.new }
+    requires turn { IsLawfulTurn (meant_turn events.now turn.now) }
+    requires other { IsLawfulTurn (meant_turn others.now other.now) }
+    ensures { KeepsFirst index events.now (meant_turn events.now turn.now) others.now
+        (meant_turn others.now other.now) difference.old difference.new }
 {
     if difference.is_some() {
         return;
     }
-    let payloads = PayloadDifference::between(&payload_of(first), &payload_of(second));
+    let payloads = PayloadDifference::between(
+        &payload_of(events, turn),
+        &payload_of(others, other),
+    );
     *difference = Some(FirstDifference {
         index,
-        first: excerpt_of(first),
-        second: excerpt_of(second),
+        first: excerpt_of(events, turn),
+        second: excerpt_of(others, other),
         payloads,
     });
 }
@@ -230,15 +226,20 @@ enum Round {
 
 /// The round that these two turns make.
 #[inline(always)]
-fn round_of<A: Allocator + Copy>(first: &LastTurn<'_, A>, second: &LastTurn<'_, A>) -> Round
-    ensures { IsRoundOf (meant_last first.now) (meant_last second.now) result }
+fn round_of<A: Allocator + Copy>(
+    events: &Source<A>,
+    turn: &Turn<A>,
+    others: &Source<A>,
+    other: &Turn<A>,
+) -> Round
+    ensures { IsRoundOf (meant_turn events.now turn.now) (meant_turn others.now other.now) result }
 {
-    match (first.turn, second.turn) {
+    match (turn, other) {
         (Turn::Own(next), Turn::Own(other)) => round_of_own(next, other),
-        (Turn::Own(next), Turn::Lent(kind)) => round_with(next, *kind, second.source.taken()),
-        (Turn::Lent(kind), Turn::Own(next)) => round_with(next, *kind, first.source.taken()),
+        (Turn::Own(next), Turn::Lent(kind)) => round_with(next, *kind, others.taken()),
+        (Turn::Lent(kind), Turn::Own(next)) => round_with(next, *kind, events.taken()),
         (Turn::Lent(kind), Turn::Lent(other)) => {
-            if kind == other && are_equal(first.source.taken(), second.source.taken()) {
+            if kind == other && are_equal(events.taken(), others.taken()) {
                 Round::Alike
             } else {
                 Round::Unlike

@@ -3,12 +3,12 @@ ghost use Rattle.wsn_rules.specs.Meaning.{Control, payload_in};
 ghost use Rattle.wsn_print.specs.DifferingPayloads.{is_text};
 ghost use Rattle.wsn_events.specs.EventsMeant.{meant};
 ghost use Rattle.wsn_events.specs.PayloadExcerpts.{meant_payload, meant_payloads, event_given};
-ghost use Rattle.wsn_events.specs.Turns.{IsLawfulTurn, meant_last};
+ghost use Rattle.wsn_events.specs.Turns.{IsLawfulTurn, meant_turn};
 
 use crate::event::{Event, Small};
 use crate::putting::control_of;
-use crate::source::Next;
-use crate::turn::{LastTurn, Turn};
+use crate::source::{Next, Source};
+use crate::turn::Turn;
 use std::alloc::Allocator;
 use wsn_wire::{Kind, Op};
 
@@ -44,13 +44,16 @@ impl Payload<'_> {
     }
 }
 
-/// The payload of a source's last turn; `None` if that is a verdict.
-pub(crate) fn payload_of<'a, A: Allocator + Copy>(last: &LastTurn<'a, A>) -> Option<Payload<'a>>
-    requires { IsLawfulTurn (meant_last last.now) }
-    ensures { meant_payloads result ≡ event_given (meant_last last.now) }
+/// The payload of the source's last turn; `None` if that is a verdict.
+pub(crate) fn payload_of<'a, A: Allocator + Copy>(
+    source: &'a Source<A>,
+    turn: &'a Turn<A>,
+) -> Option<Payload<'a>>
+    requires { IsLawfulTurn (meant_turn source.now turn.now) }
+    ensures { meant_payloads result ≡ event_given (meant_turn source.now turn.now) }
 {
-    match last.turn {
-        Turn::Lent(kind) => Some(Payload::Message(*kind, last.source.taken())),
+    match turn {
+        Turn::Lent(kind) => Some(Payload::Message(*kind, source.taken())),
         Turn::Own(Next::Event(Event::Message(kind, text))) => {
             Some(Payload::Message(*kind, text.as_slice()))
         }

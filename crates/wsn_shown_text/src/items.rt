@@ -18,6 +18,7 @@ use crate::fields::{
     ENTRY_MAX, Shape, push_event, push_frame, push_refused, push_remainder, push_unfinished,
     push_unfinished_head, remainder_word,
 };
+use crate::frame_lines::put_frame_line;
 use crate::fronts::{push_front, put_front, put_timed_front};
 use crate::line_views::put_end_text;
 use crate::object_views::put_end_fields;
@@ -79,9 +80,27 @@ pub fn put_entry<W: Write>(
         (item_entry format view front.now.role (position_of front.now.origin) shown) result }
 {
     match format {
-        Format::Text => put_item_in(to, Shape::Line, view, front, item),
+        Format::Text => put_words(to, view, front, item),
         Format::People => put_people(to, view, front, item),
         Format::Json => put_item_in(to, Shape::Object, view, front, item),
+    }
+}
+
+/// Writes an item as a line of words.
+#[inline(always)]
+fn put_words<W: Write>(
+    to: &mut Output<W>,
+    view: ViewLimit,
+    front: &EntryFront<'_>,
+    item: &ShownItem<'_>,
+) -> Result<(), Stop>
+    requires { to.old.failed ≡ false }
+    ensures { (shown : Item) → IsItem view front.now.offset item.now shown → IsWrittenOrStops to.old to.new
+        (item_in Line view front.now.role (position_of front.now.origin) shown) result }
+{
+    match item {
+        ShownItem::Frame(head) => put_frame_line(to, front, head),
+        _ => put_item_in(to, Shape::Line, view, front, item),
     }
 }
 

@@ -20,6 +20,7 @@ mod differing;
 mod differing_members;
 mod entry_formats;
 mod fields;
+mod frame_lines;
 mod fronts;
 mod items;
 mod line_views;

@@ -8,7 +8,7 @@ use Rattle.wsn_shown_text.proofs.items.put_entry.Goals as goal
 pub returns-in-Text : goal.returns-in-Text
 returns-in-Text g c = λ shown is.
     let front = c.args.front.now in
-    subst (λ (f : Format). IsWrittenOrStops c.args.to.now c.put_item_in.new.to (item_entry f c.args.view front.role (position_of front.origin) shown) c.put_item_in.result) (sym c.in-Text.is) (c.put_item_in.ensures shown is)
+    subst (λ (f : Format). IsWrittenOrStops c.args.to.now c.put_words.new.to (item_entry f c.args.view front.role (position_of front.origin) shown) c.put_words.result) (sym c.in-Text.is) (c.put_words.ensures shown is)
 
 pub returns-in-People : goal.returns-in-People
 returns-in-People g c = λ shown is.
@@ -18,4 +18,4 @@ returns-in-People g c = λ shown is.
 pub returns-in-Json : goal.returns-in-Json
 returns-in-Json g c = λ shown is.
     let front = c.args.front.now in
-    subst (λ (f : Format). IsWrittenOrStops c.args.to.now c.put_item_in-in-Json.new.to (item_entry f c.args.view front.role (position_of front.origin) shown) c.put_item_in-in-Json.result) (sym c.in-Json.is) (c.put_item_in-in-Json.ensures shown is)
+    subst (λ (f : Format). IsWrittenOrStops c.args.to.now c.put_item_in.new.to (item_entry f c.args.view front.role (position_of front.origin) shown) c.put_item_in.result) (sym c.in-Json.is) (c.put_item_in.ensures shown is)
