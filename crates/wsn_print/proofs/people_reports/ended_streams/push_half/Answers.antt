@@ -2,7 +2,7 @@ use Rattle.std.proofs.Common.{ℕ, Option, List, ◌++◌, ◌∙◌, ap, codes}
 use Rattle.wsn_rules.specs.Reports.{other_endpoint}
 use Rattle.wsn_print.specs.PeopleReport.{endpoint_word, explain_line, close_code, side_in, close_words}
 use Rattle.wsn_print.proofs.Appended.{two, four}
-use Rattle.wsn_print.proofs.people_reports.push_half.Goals as goal
+use Rattle.wsn_print.proofs.people_reports.ended_streams.push_half.Goals as goal
 
 pub returns : goal.returns
 returns c =

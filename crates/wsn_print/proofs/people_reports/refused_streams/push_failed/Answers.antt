@@ -5,7 +5,7 @@ use Rattle.wsn_rules.specs.declared.report.Side.{Side}
 use Rattle.wsn_print.specs.Sentences.{exchanged_sentence, exchange_command}
 use Rattle.wsn_print.specs.PeopleReport.{next_line, next_or, refused_line, are_exchanged, failed_lines}
 use Rattle.wsn_print.proofs.Appended.{four}
-use Rattle.wsn_print.proofs.people_reports.push_failed.Goals as goal
+use Rattle.wsn_print.proofs.people_reports.refused_streams.push_failed.Goals as goal
 
 -- what is said of sides that are exchanged
 exchanged : (lines : List ℕ) (client server : Side) → are_exchanged client server ≡ true

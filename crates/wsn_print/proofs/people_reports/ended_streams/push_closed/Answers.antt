@@ -3,7 +3,7 @@ use Rattle.wsn_wire.specs.declared.endpoint.Role.{Role}
 use Rattle.wsn_rules.specs.Reports.{other_endpoint}
 use Rattle.wsn_print.specs.PeopleReport.{endpoint_word, with_code, close_code, side_in, answer_words}
 use Rattle.wsn_print.proofs.Appended.{three, four, six}
-use Rattle.wsn_print.proofs.people_reports.push_closed.Goals as goal
+use Rattle.wsn_print.proofs.people_reports.ended_streams.push_closed.Goals as goal
 
 pub returns : goal.returns
 returns c =

@@ -1,5 +1,5 @@
 use Rattle.std.proofs.Common.{append_assoc}
-use Rattle.wsn_print.proofs.people_reports.push_direction.Goals as goal
+use Rattle.wsn_print.proofs.people_reports.ended_streams.push_direction.Goals as goal
 
 pub returns-clause-text : goal.returns-clause-text
 returns-clause-text c =

@@ -2,7 +2,7 @@ use Rattle.std.proofs.Common.{ℕ, List, ◌++◌, ◌∙◌, ap, codes}
 use Rattle.wsn_wire.specs.Refusal.{word_of}
 use Rattle.wsn_print.specs.Sentences.{reason_sentence}
 use Rattle.wsn_print.proofs.Appended.{four}
-use Rattle.wsn_print.proofs.people_reports.push_reason.Goals as goal
+use Rattle.wsn_print.proofs.people_reports.refused_streams.push_reason.Goals as goal
 
 pub returns-clause-text : goal.returns-clause-text
 returns-clause-text c =

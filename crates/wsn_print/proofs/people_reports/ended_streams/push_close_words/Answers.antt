@@ -1,7 +1,7 @@
 use Rattle.std.proofs.Common.{ℕ, List, ◌++◌, ◌∙◌, ap, codes}
 use Rattle.wsn_print.specs.PeopleReport.{endpoint_word, with_code}
 use Rattle.wsn_print.proofs.Appended.{four}
-use Rattle.wsn_print.proofs.people_reports.push_close_words.Goals as goal
+use Rattle.wsn_print.proofs.people_reports.ended_streams.push_close_words.Goals as goal
 
 pub returns-clause-text : goal.returns-clause-text
 returns-clause-text c =
