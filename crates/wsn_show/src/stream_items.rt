@@ -1,4 +1,5 @@
-//! Printing what is kept of a stream.
+//! The items of a stream that are printed of what is kept of it: events, what is unfinished, and the bytes after a Close
+//! or a refusal.
 
 use crate::entry_context::EntryContext;
 use crate::shown_item::{ShownItem, put_item};
