@@ -463,7 +463,7 @@ def _entry(fields: Dict[str, Any]) -> Entry:
     return _made(Entry, {**fields, "character": None if character is None else BadCharacter(**character)})
 
 
-def _told(message: str) -> Exception:
+def _exception(message: str) -> Exception:
     """The exception for the message of a status 2."""
     words = message.strip().split(" ")
     if words[0] == "line" and len(words) == 3:
@@ -479,7 +479,7 @@ def _asked(name: str, options: _Options, *arguments: Any) -> List[Dict[str, Any]
     """The objects that a call prints."""
     status, output, message = _run(name, options, *arguments)
     if status == 2:
-        raise _told(message)
+        raise _exception(message)
     return _objects(output)
 
 
@@ -487,10 +487,10 @@ def _written(name: str, options: _Options, *arguments: Any) -> bytes:
     """What a call writes, if its status is 0."""
     status, output, message = _run(name, options, *arguments)
     if status == 2:
-        raise _told(message)
+        raise _exception(message)
     if status == 1:
-        told = message.strip()
-        raise Fault(told) if told.startswith("fault ") or told == "unfinished" else NotAccepted(told)
+        words = message.strip()
+        raise Fault(words) if words.startswith("fault ") or words == "unfinished" else NotAccepted(words)
     return output
 
 
@@ -570,7 +570,7 @@ def payload(data: Any, role: str, *, at: int, **limits: Any) -> bytes:
     with _Lent(data) as stream:
         status, output, message = _run("wsn_payload", options, stream, offset)
     if status == 2:
-        raise _told(message)
+        raise _exception(message)
     if status == 1:
         raise Unfinished(message.strip(), output)
     return output

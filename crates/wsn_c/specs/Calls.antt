@@ -33,7 +33,7 @@ abbrev pub GivesRun : Job Global → List ℕ → Call → Type 0
 GivesRun job bytes done = (text said : List ℕ) × (saying_failed : Bool) × (exit : ℕ)
     × IsRunOver job bytes text said saying_failed exit × Gives done text said exit
 
--- The call tells that what it was asked is out of range.
+-- The call reports that an option or an argument is out of range.
 abbrev pub GivesUsage : Call → Type 0
 GivesUsage done = Gives done [] (codes "usage\n") 2
 
@@ -65,13 +65,13 @@ GivesComparison asked view first second done = (comparison : Comparison) × IsCo
     × Gives done text said exit
 
 -- The call does for its options what the program does: the command's run that they ask for. Options out of range are
--- told.
+-- reported.
 pub record IsCalled (options : Options) (job : Asked → Job Global) (bytes : List ℕ) (done : Call) : Type 0 where
   pub run : AreInRange options → (asked : Asked) × IsAsked options asked × GivesRun (job asked) bytes done
   pub usage : ¬ AreInRange options → GivesUsage done
 
 -- The call compares for its options as the program does, with this view of events that differ. Options out of range are
--- told.
+-- reported.
 pub record IsCompared (options : Options) (view : Asked → Option ℕ) (first second : List ℕ) (done : Call) : Type 0 where
   pub run : AreInRange options → (asked : Asked) × IsAsked options asked
       × GivesComparison asked (view asked) first second done

@@ -30,7 +30,7 @@ abbrev pub fault_line : PlanFault → List ℕ
 fault_line fault.Memory = codes "out of memory\n"
 fault_line (fault.Line number why) = codes "plan line " ++ decimal number ++ codes ": " ++ why_word why ++ codes "\n"
 
--- The call gives what a recut by the plan of this text prints, or tells the plan's fault.
+-- The call gives what a recut by the plan of this text prints, or reports the plan's fault.
 abbrev pub GivesRead : Asked → Result (List Step) PlanFault → List ℕ → Call → Type 0
 GivesRead asked (Ok steps) bytes done = GivesRun (Recut asked.role asked.limits (ByPlan steps)) bytes done
 GivesRead asked (Err fault) bytes done = Gives done [] (fault_line fault) 2
@@ -38,7 +38,7 @@ GivesRead asked (Err fault) bytes done = Gives done [] (fault_line fault) 2
 abbrev pub GivesRecut : Asked → List ℕ → List ℕ → Call → Type 0
 GivesRecut asked plan bytes done = (read : Result (List Step) PlanFault) × IsReadPlan plan read × GivesRead asked read bytes done
 
--- The call recuts by the plan of this text, for its options, as the program does. Options out of range are told.
+-- The call recuts by the plan of this text, for its options, as the program does. Options out of range are reported.
 pub record IsRecut (options : Options) (plan bytes : List ℕ) (done : Call) : Type 0 where
   pub run : AreInRange options → (asked : Asked) × IsAsked options asked × GivesRecut asked plan bytes done
   pub usage : ¬ AreInRange options → GivesUsage done
@@ -68,7 +68,7 @@ IsJobBySize options size weave key job = (asked : Asked) × IsAsked options aske
     × (weave ≡ flag_number woven)
     × (job ≡ Recut asked.role asked.limits (BySize size woven (key_by_size asked.role (key_named key))))
 
--- The call recuts by size, for its options and arguments, as the program does. What is out of range is told.
+-- The call recuts by size, for its options and arguments, as the program does. What is out of range is reported.
 pub record IsRecutBySize (options : Options) (size weave : ℕ) (key bytes : List ℕ) (done : Call) : Type 0 where
   pub run : MayRecutBySize options size weave key
       → (job : Job Global) × IsJobBySize options size weave key job × GivesRun job bytes done

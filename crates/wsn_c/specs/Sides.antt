@@ -12,8 +12,8 @@ use Rattle.wsn_c.specs.Asking.{AreInRange, IsAsked}
 use Rattle.wsn_job.specs.Calls.{Call, Gives}
 use Rattle.wsn_c.specs.Calls.{GivesUsage}
 
--- The call gives the bytes before the first line that isn't accepted, and tells the line.
-pub record IsToldFaulty (role : Role) (capture : List ℕ) (done : Call) : Type 0 where
+-- The call gives the bytes before the first line that isn't accepted, and reports the line.
+pub record GivesFaultyLine (role : Role) (capture : List ℕ) (done : Call) : Type 0 where
   pub sent : List ℕ
   pub number : ℕ
   pub fault : LineFault
@@ -25,10 +25,10 @@ pub record IsToldFaulty (role : Role) (capture : List ℕ) (done : Call) : Type 
 abbrev pub GivesSent : Role → List ℕ → Call → Type 0
 GivesSent role capture done =
     Gives done (sent_in role capture) [] 0
-    ⊎ IsToldFaulty role capture done
+    ⊎ GivesFaultyLine role capture done
     ⊎ Gives done [] (stop_line Memory) 2
 
--- The call gives the side of the endpoint that its options name. Options out of range are told.
+-- The call gives the side of the endpoint that its options name. Options out of range are reported.
 pub record IsSent (options : Options) (capture : List ℕ) (done : Call) : Type 0 where
   pub sent : AreInRange options → (asked : Asked) × IsAsked options asked × GivesSent asked.role capture done
   pub usage : ¬ AreInRange options → GivesUsage done

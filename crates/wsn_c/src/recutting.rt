@@ -33,7 +33,7 @@ pub extern "C" fn wsn_recut(
     }
 }
 
-/// Writes what a stream means in the frames of a plan, or tells the plan's fault.
+/// Writes what a stream means in the frames of a plan, or reports the plan's fault.
 fn recut_by(
     alloc: Global,
     asked: &Asked,

@@ -32,7 +32,7 @@ pub(crate) fn run_over(
     )
 }
 
-/// Tells that what a call was asked is out of range.
+/// Reports that an option or an argument of a call is out of range.
 pub(crate) fn give_usage(output: &mut [u8], message: &mut [u8]) -> Answer
     ensures { GivesUsage (call output.old output.new message.old message.new result) }
 {

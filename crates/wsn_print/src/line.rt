@@ -13,7 +13,7 @@ use wsn_rules::{HeadInfo, Refusal};
 /// A line that is being built: its bytes so far, at most `MAX`.
 pub type Line<const MAX: usize> = KeptBytes<MAX>;
 
-impl<const MAX: usize> Line<MAX> {
+impl<const MAX: usize> KeptBytes<MAX> {
     /// The bytes so far.
     #[inline(always)]
     pub fn bytes(&self) -> &[u8]
@@ -43,7 +43,7 @@ impl<const MAX: usize> Line<MAX> {
     }
 
     /// Appends another line.
-    pub fn push_line<const OTHER: usize>(&mut self, other: &Line<OTHER>)
+    pub fn push_line<const OTHER: usize>(&mut self, other: &KeptBytes<OTHER>)
         requires { length self.old + OTHER ≤ MAX }
         ensures text { self.new ≡ self.old ++ other.now }
         ensures len { length self.new ≤ length self.old + OTHER }
