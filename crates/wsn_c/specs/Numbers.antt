@@ -1,7 +1,7 @@
 -- The numbers by which options name roles, formats, encodings of a length, what is shown, and flags.
 use Rattle.std.specs.Prelude.{ℕ, Bool, false, true}
 use Rattle.wsn_wire.specs.declared.endpoint.Role.{Role, TheVariants.{Client, Server}}
-use Rattle.wsn_wire.specs.declared.length_forms.Lengths.{Lengths, TheVariants.{Shortest, Any}}
+use Rattle.wsn_wire.specs.declared.length_encoding.Lengths.{Lengths, TheVariants.{Shortest, Any}}
 use Rattle.wsn_rules.specs.declared.detail.Detail.{Detail, TheVariants.{Events, Frames}}
 use Rattle.wsn_print.specs.declared.format.Format.{Format, TheVariants.{Text, People, Json}}
 

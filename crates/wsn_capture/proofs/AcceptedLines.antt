@@ -24,7 +24,7 @@ use Rattle.wsn_capture.specs.SideTexts.{entry_after, text_entry, with_entry, lin
 use Rattle.wsn_capture.specs.declared.line_form.LineEntry.{LineEntry}
 use Rattle.wsn_capture.specs.declared.line_form.LineEntry.TheVariants as entries
 use Rattle.wsn_capture.specs.LineEntries.{held_entry, FitsInLine}
-use Rattle.wsn_capture.specs.Closes.{IsClosedBy, IsCloseLine, noted_line}
+use Rattle.wsn_capture.specs.CloseLines.{IsClosedBy, IsCloseLine, noted_line}
 use Rattle.wsn_capture.specs.CaptureLines.{HasAccepted, HasNotedCloses, HasNotedUpTo, IsVerdictOnSide, IsNotedLine, IsNotedRefusal, count_of, with_room_less, FitsRoom, ExceedsRoom, sent_by}
 use Rattle.wsn_capture.proofs.AcceptedTexts.{as_many, taken_push, accepted_last}
 use Rattle.wsn_capture.proofs.ClosingLines.{sent-push, line_stays, line_new, line_none, line_kept}

@@ -10,7 +10,8 @@ use Rattle.wsn_rules.specs.declared.verdict.Verdict.TheVariants.{Accepted, Cut, 
 use Rattle.wsn_rules.specs.declared.verdict.Refusal.{Refusal}
 use Rattle.wsn_rules.specs.Limits.{Limits}
 use Rattle.wsn_rules.specs.Lawful.{IsLawful}
-use Rattle.wsn_rules.specs.Accepted.{IsAccepted, EndsWithClose}
+use Rattle.wsn_rules.specs.AfterClose.{EndsWithClose}
+use Rattle.wsn_rules.specs.Accepted.{IsAccepted}
 use Rattle.wsn_rules.specs.Summary.{close_of, close_code, counted}
 use Rattle.wsn_rules.specs.Verdict.{IsVerdict}
 use Rattle.wsn_rules.proofs.OneVerdict.{one_verdict}
@@ -20,8 +21,8 @@ use Rattle.wsn_scan.proofs.FrameEnds.{close_of-push}
 use Rattle.wsn_scan.proofs.ScanVerdicts.{close_of_none}
 use Rattle.wsn_rules.specs.Entries.{Entry}
 use Rattle.wsn_rules.specs.Sides.{bytes_in, sent}
-use Rattle.wsn_rules.specs.Reports.{ClosesIn}
-use Rattle.wsn_capture.specs.Closes.{IsUnclosed, IsClosedBy, IsCloseLine}
+use Rattle.wsn_rules.specs.ClosingHandshake.{ClosesIn}
+use Rattle.wsn_capture.specs.CloseLines.{IsUnclosed, IsClosedBy, IsCloseLine}
 
 -- the bytes of one entry more
 pub sent-push : (role : Role) (given : List Entry) (entry : Entry) → sent role (given ++ entry ∷ []) ≡ sent role given ++ bytes_in role entry

@@ -14,12 +14,12 @@ use Rattle.wsn_rules.specs.Limits.{Limits, InRange}
 use Rattle.wsn_rules.specs.Verdict.{IsVerdict}
 use Rattle.wsn_rules.proofs.EveryInput.{has_verdict}
 use Rattle.wsn_rules.proofs.Prefixes.{nil-push, nil-parts}
-use Rattle.wsn_rules.specs.declared.report.Side.{Side}
-use Rattle.wsn_rules.specs.declared.report.Report.{Report}
+use Rattle.wsn_rules.specs.declared.closing_handshake.Side.{Side}
+use Rattle.wsn_rules.specs.declared.closing_handshake.Report.{Report}
 use Rattle.wsn_rules.specs.Entries.{Entry, GivesEntry, AreEntries}
 use Rattle.wsn_rules.specs.Sides.{bytes_in, sent, has_ended, side_of, IsSide}
-use Rattle.wsn_rules.specs.Reports.{echo_of, seen_of, IsReport}
-use Rattle.wsn_capture.specs.Closes.{IsUnclosed, IsClosedBy, IsCloseLine, earlier_of}
+use Rattle.wsn_rules.specs.ClosingHandshake.{echo_of, seen_of, IsReport}
+use Rattle.wsn_capture.specs.CloseLines.{IsUnclosed, IsClosedBy, IsCloseLine, earlier_of}
 use Rattle.wsn_capture.proofs.PairedDigits.{pair_of}
 use Rattle.wsn_capture.proofs.ClosingLines.{accepted_closed, cut_unclosed, sent-push, closes_longer, line_new, line_none}
 use Rattle.wsn_capture.proofs.ReportedLines.{first_by_lines}

@@ -5,7 +5,7 @@ use Rattle.std.specs.Io.KnownBytes.{Consumes, IsAtEnd}
 use Rattle.wsn_io.specs.Transfer.{Incoming, IsConsumed, IsKept}
 use Rattle.wsn_io.proofs.Received.{consumed_none, consumed_on, consumed_end, consumed_kept, received_of}
 use Rattle.wsn_rules.specs.Limits.{Limits}
-use Rattle.wsn_rules.specs.declared.report.Report.{Report}
+use Rattle.wsn_rules.specs.declared.closing_handshake.Report.{Report}
 use Rattle.wsn_capture.specs.declared.capture_report.CaptureReport.{CaptureReport}
 use Rattle.wsn_capture.specs.declared.capture_stop.CaptureStop.{CaptureStop}
 use Rattle.wsn_capture.specs.declared.capture_stop.CaptureStop.TheVariants.{Read, Line}

@@ -7,14 +7,14 @@ use Rattle.wsn_rules.proofs.TextLines.{has_lines, same_lines}
 use Rattle.wsn_capture.specs.declared.line_fault.LineFault.{LineFault}
 use Rattle.wsn_capture.specs.declared.capture_stop.CaptureStop.{CaptureStop}
 use Rattle.wsn_capture.specs.declared.capture_stop.CaptureStop.TheVariants.{Read, Line}
-use Rattle.wsn_rules.specs.declared.report.Report.{Report}
-use Rattle.wsn_capture.specs.declared.tails.Tails.{Tails}
+use Rattle.wsn_rules.specs.declared.closing_handshake.Report.{Report}
+use Rattle.wsn_capture.specs.declared.tail_counts.Tails.{Tails}
 use Rattle.wsn_capture.specs.declared.capture_report.CaptureReport.{CaptureReport}
 use Rattle.wsn_rules.specs.Entries.{Entry}
 use Rattle.wsn_capture.specs.LineFaults.{IsFirstLineFault, IsAcceptedLine, AreAcceptedAfter, AreAcceptedLines, IsFaultAfter}
-use Rattle.wsn_rules.specs.Reports.{IsReport}
+use Rattle.wsn_rules.specs.ClosingHandshake.{IsReport}
 use Rattle.wsn_capture.specs.declared.refused_line.RefusedLines.{RefusedLines}
-use Rattle.wsn_capture.specs.Tails.{AreTails}
+use Rattle.wsn_capture.specs.TailCounts.{AreTails}
 use Rattle.wsn_capture.specs.RefusedLines.{AreRefusedLines}
 use Rattle.wsn_capture.specs.CaptureAnswers.{IsReported, IsFaulty, IsCaptureAnswerOf}
 use Rattle.wsn_rules.proofs.OneEntry.{same_entries}

@@ -6,8 +6,8 @@ use Rattle.wsn_wire.specs.declared.endpoint.Role.TheVariants.{Client, Server}
 use Rattle.wsn_rules.specs.Limits.{Limits}
 use Rattle.wsn_rules.specs.Entries.{Entry}
 use Rattle.wsn_rules.specs.Sides.{sent}
-use Rattle.wsn_rules.specs.Reports.{ClosesIn, IsFirst}
-use Rattle.wsn_capture.specs.Closes.{IsCloseLine, IsUnclosed, earlier_of}
+use Rattle.wsn_rules.specs.ClosingHandshake.{ClosesIn, IsFirst}
+use Rattle.wsn_capture.specs.CloseLines.{IsCloseLine, IsUnclosed, earlier_of}
 use Rattle.wsn_rules.proofs.OneReport.{one_line, two_lines}
 
 module _ (limits : Limits) (given : List Entry) where

@@ -10,9 +10,9 @@ use Rattle.wsn_capture.specs.declared.capture_report.CaptureReport.{CaptureRepor
 use Rattle.wsn_rules.specs.TextLines.{IsLine, ended, AreLines}
 use Rattle.wsn_rules.specs.Entries.{without_cr, Entry}
 use Rattle.wsn_capture.specs.LineFaults.{fault_order, HasFault, IsFirstLineFault, IsAcceptedLine, AreAcceptedAfter, AreAcceptedLines, IsFaultAfter}
-use Rattle.wsn_rules.specs.Reports.{IsReport}
+use Rattle.wsn_rules.specs.ClosingHandshake.{IsReport}
 use Rattle.wsn_capture.specs.CaptureAnswers.{IsReported, IsFaulty, IsUnfaulted, IsCaptureAnswerOf}
-use Rattle.wsn_capture.specs.Tails.{AreTails}
+use Rattle.wsn_capture.specs.TailCounts.{AreTails}
 use Rattle.wsn_capture.specs.RefusedLines.{AreRefusedLines}
 use Rattle.wsn_capture.specs.LineSplitters.{HasPassedOn, IsStopAt, IsStopBy, IsStopWithin}
 use Rattle.wsn_rules.proofs.TextLines.{has_lines, ended-push, each_join, lines_in_front, lines_at_end, first_line}

@@ -7,15 +7,16 @@ use Rattle.wsn_rules.specs.declared.verdict.Summary.{Summary}
 use Rattle.wsn_rules.specs.declared.verdict.Verdict.{Verdict}
 use Rattle.wsn_rules.specs.declared.verdict.Verdict.TheVariants.{Accepted, Cut, Refused}
 use Rattle.wsn_rules.specs.Limits.{Limits, InRange}
-use Rattle.wsn_rules.specs.Accepted.{IsAccepted, HasNoClose, EndsWithClose}
+use Rattle.wsn_rules.specs.AfterClose.{HasNoClose, EndsWithClose}
+use Rattle.wsn_rules.specs.Accepted.{IsAccepted}
 use Rattle.wsn_rules.specs.Summary.{counted}
 use Rattle.wsn_rules.specs.Verdict.{IsVerdict}
 use Rattle.wsn_rules.specs.Entries.{Entry, AreEntries}
 use Rattle.wsn_rules.specs.Sides.{sent}
 use Rattle.wsn_rules.proofs.OneVerdict.{one_verdict}
 use Rattle.wsn_rules.proofs.EveryInput.{has_verdict}
-use Rattle.wsn_capture.specs.declared.tails.Tails.{Tails}
-use Rattle.wsn_capture.specs.Tails.{HasTail, AreTails}
+use Rattle.wsn_capture.specs.declared.tail_counts.Tails.{Tails}
+use Rattle.wsn_capture.specs.TailCounts.{HasTail, AreTails}
 use Rattle.wsn_capture.proofs.ClosingLines.{cut_unclosed}
 use Rattle.wsn_capture.proofs.EveryReport.{sent_bytes}
 

@@ -6,14 +6,14 @@ use Rattle.std.specs.Io.KnownBytes.{IsAtEnd}
 use Rattle.wsn_io.specs.Transfer.{Incoming, IsReceived}
 use Rattle.wsn_rules.specs.Limits.{Limits}
 use Rattle.wsn_capture.specs.declared.line_fault.LineFault.{LineFault}
-use Rattle.wsn_rules.specs.declared.report.Report.{Report}
+use Rattle.wsn_rules.specs.declared.closing_handshake.Report.{Report}
 use Rattle.wsn_capture.specs.declared.capture_report.CaptureReport.{CaptureReport}
 use Rattle.wsn_capture.specs.declared.capture_stop.CaptureStop.{CaptureStop, TheVariants.{Read, Line}}
 use Rattle.wsn_rules.specs.TextLines.{IsLine, ended, AreLines}
 use Rattle.wsn_rules.specs.Entries.{Entry}
 use Rattle.wsn_capture.specs.LineFaults.{AreAcceptedLines, IsFaultAfter}
-use Rattle.wsn_rules.specs.Reports.{IsReport}
-use Rattle.wsn_capture.specs.Tails.{AreTails}
+use Rattle.wsn_rules.specs.ClosingHandshake.{IsReport}
+use Rattle.wsn_capture.specs.TailCounts.{AreTails}
 use Rattle.wsn_capture.specs.RefusedLines.{AreRefusedLines}
 
 -- ---- the answer to a text

@@ -16,7 +16,7 @@ use Rattle.wsn_capture.specs.declared.line_form.LineEntry.TheVariants as entries
 use Rattle.wsn_capture.specs.LineFaults.{AreAcceptedLines, line_most}
 use Rattle.wsn_capture.specs.SideTexts.{lines_giving, text_entry}
 use Rattle.wsn_capture.specs.RefusedLines.{IsKeptOf, IsRefusedLine}
-use Rattle.wsn_capture.specs.Closes.{IsCloseLine}
+use Rattle.wsn_capture.specs.CloseLines.{IsCloseLine}
 
 -- The number of lines accepted.
 abbrev pub count_of : CaptureLines → ℕ

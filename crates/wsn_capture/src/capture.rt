@@ -9,7 +9,7 @@ use crate::capture_lines::CaptureLines;
 use crate::line_fault::LineFault;
 use crate::line_form::{BYTES_MAX, LineEntry};
 use crate::refused_line::RefusedLines;
-use crate::tails::Tails;
+use crate::tail_counts::Tails;
 use std::fmt::{self, Debug, Formatter};
 use std::marker::Model;
 use wsn_rules::{Limits, Report};
@@ -42,12 +42,12 @@ impl Capture {
     ghost use Rattle.std.specs.Prelude.{◌≡◌, ◌+◌, ◌≤◌, ℕ, List, [], ◌∷◌, ◌++◌, OnOk, IfErr};
     ghost use Rattle.wsn_rules.specs.Limits.{Limits};
     ghost use Rattle.wsn_rules.specs.Sides.{has_ended};
-    ghost use Rattle.wsn_rules.specs.Reports.{IsReport};
+    ghost use Rattle.wsn_rules.specs.ClosingHandshake.{IsReport};
     ghost use Rattle.wsn_capture.specs.LineFaults.{IsFaultAfter};
     ghost use Rattle.wsn_capture.specs.CaptureLines.{count_of};
     ghost use Rattle.wsn_capture.specs.Captures.{HasAcceptedLines};
     ghost use Rattle.wsn_capture.specs.RefusedLines.{AreRefusedLines};
-    ghost use Rattle.wsn_capture.specs.Tails.{AreTails};
+    ghost use Rattle.wsn_capture.specs.TailCounts.{AreTails};
 
     /// A capture that has accepted no line. The limits apply to each endpoint's stream separately.
     pub fn new(limits: Limits) -> Capture

@@ -1,5 +1,5 @@
 ghost use Rattle.std.specs.Prelude.{◌≡◌, ℕ, List};
-ghost use Rattle.wsn_capture.specs.Closes.{IsClosedBy, earlier_of};
+ghost use Rattle.wsn_capture.specs.CloseLines.{IsClosedBy, earlier_of};
 ghost use Rattle.wsn_wire.specs.declared.endpoint.Role.{Role};
 ghost use Rattle.wsn_rules.specs.Limits.{Limits};
 ghost use Rattle.wsn_wire.specs.Frame.{Frame};
@@ -42,7 +42,7 @@ impl CaptureLines {
     ghost use Rattle.wsn_rules.specs.Entries.{Entry};
     ghost use Rattle.wsn_rules.specs.Entries.Entry.{Bytes};
     ghost use Rattle.wsn_rules.specs.Sides.{has_ended};
-    ghost use Rattle.wsn_rules.specs.Reports.{IsReportOf};
+    ghost use Rattle.wsn_rules.specs.ClosingHandshake.{IsReportOf};
     ghost use Rattle.wsn_capture.specs.LineFaults.{IsFaultAfter};
     ghost use Rattle.wsn_capture.specs.declared.line_fault.LineFault.TheVariants.{InputLimit};
     ghost use Rattle.wsn_capture.specs.LineEntries.{FitsInLine, held_entry};
@@ -186,7 +186,7 @@ impl CaptureLines {
 impl SentBytes {
     ghost use Rattle.std.specs.Prelude.{◌≡◌, ◌-◌, ◌<◌, ◌≤◌, OnOk, IfErr};
     ghost use Rattle.wsn_capture.specs.declared.line_fault.LineFault.TheVariants.{InputLimit};
-    ghost use Rattle.wsn_capture.specs.Closes.{noted_line};
+    ghost use Rattle.wsn_capture.specs.CloseLines.{noted_line};
     ghost use Rattle.wsn_capture.specs.CaptureLines.{IsNotedLine, IsNotedRefusal};
 
     /// Takes room for this number of bytes. The error is `InputLimit` if there is less; nothing has changed then.

@@ -1,5 +1,5 @@
 use crate::refused_line::RefusedLines;
-use crate::tails::Tails;
+use crate::tail_counts::Tails;
 use wsn_rules::Report;
 
 /// What is known of a capture whose lines are accepted.

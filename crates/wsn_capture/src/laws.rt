@@ -11,9 +11,9 @@ ghost use Rattle.wsn_capture.specs.SideTexts.{lines_giving, entry_after, sentine
 ghost use Rattle.wsn_wire.specs.declared.endpoint.Role.{Role};
 ghost use Rattle.wsn_rules.specs.Limits.{Limits, InRange};
 ghost use Rattle.wsn_rules.specs.Entries.{Entry, IsEntry, AreEntries};
-ghost use Rattle.wsn_rules.specs.Reports.{IsReport, SendAlike};
+ghost use Rattle.wsn_rules.specs.ClosingHandshake.{IsReport, SendAlike};
 ghost use Rattle.wsn_capture.specs.declared.line_fault.LineFault.{LineFault};
-ghost use Rattle.wsn_rules.specs.declared.report.Report.{Report};
+ghost use Rattle.wsn_rules.specs.declared.closing_handshake.Report.{Report};
 ghost use Rattle.wsn_capture.specs.declared.capture_report.CaptureReport.{CaptureReport};
 ghost use Rattle.wsn_capture.specs.declared.capture_stop.CaptureStop.{CaptureStop};
 ghost use Rattle.wsn_rules.specs.Sides.{sent};

@@ -23,13 +23,13 @@
 //! memory, and at most one line is held.
 //!
 //! In `wsn_rules`, `specs/TextLines.antt` defines the lines of a text, `specs/Entries.antt` what a line gives,
-//! `specs/Sides.antt` what became of each stream and `specs/Reports.antt` the report; in `wsn_print`,
+//! `specs/Sides.antt` what became of each stream and `specs/ClosingHandshake.antt` the report; in `wsn_print`,
 //! `specs/ReportText.antt` defines how a report is printed. Here, `specs/LineFaults.antt` defines which lines aren't
-//! accepted, `specs/Tails.antt` what comes after a Close, `specs/RefusedLines.antt` the lines with offending bytes,
-//! `specs/CaptureAnswers.antt` the answer to a text, `specs/SideTexts.antt` one endpoint's stream as a function of a
-//! text, `specs/SplitLines.antt` how a chunk goes on with a line or ends it, and `specs/CaptureLines.antt` and
-//! `specs/Captures.antt` what the state says of the lines that were accepted. [`laws`] has what follows from these
-//! definitions, and [`line_fault_examples`] lines with their first faults.
+//! accepted, `specs/TailCounts.antt` how many bytes come after a Close, `specs/RefusedLines.antt` the lines with
+//! offending bytes, `specs/CaptureAnswers.antt` the answer to a text, `specs/SideTexts.antt` one endpoint's stream as a
+//! function of a text, `specs/SplitLines.antt` how a chunk goes on with a line or ends it, and
+//! `specs/CaptureLines.antt` and `specs/Captures.antt` what the state says of the lines that were accepted. [`laws`]
+//! has what follows from these definitions, and [`line_fault_examples`] lines with their first faults.
 #![tactic(auto)]
 
 mod capture;
@@ -52,7 +52,7 @@ pub mod side_examples;
 mod side_lines;
 mod side_reader;
 mod side_source;
-mod tails;
+mod tail_counts;
 
 pub use capture::Capture;
 pub use capture_lines::CaptureLines;
@@ -64,6 +64,6 @@ pub use line_form::{BYTES_MAX, LineEntry, strip_cr};
 pub use lines::{BEGUN_MAX, Lines};
 pub use refused_line::{RefusedLine, RefusedLines};
 pub use side_reader::SideReader;
-pub use tails::Tails;
+pub use tail_counts::Tails;
 pub use wsn_print::put_report;
 pub use wsn_rules::{Outcome, Report, Side};

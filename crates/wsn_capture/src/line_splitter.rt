@@ -18,8 +18,8 @@ impl LineSplitter {
     ghost use Rattle.wsn_capture.specs.Captures.{HasAcceptedLines};
     ghost use Rattle.wsn_capture.specs.CaptureLines.{count_of};
     ghost use Rattle.wsn_capture.specs.CaptureAnswers.{IsCaptureAnswerOf};
-    ghost use Rattle.wsn_rules.specs.Reports.{IsReport};
-    ghost use Rattle.wsn_capture.specs.Tails.{AreTails};
+    ghost use Rattle.wsn_rules.specs.ClosingHandshake.{IsReport};
+    ghost use Rattle.wsn_capture.specs.TailCounts.{AreTails};
     ghost use Rattle.wsn_capture.specs.RefusedLines.{AreRefusedLines};
     ghost use Rattle.wsn_capture.specs.LineSplitters.{HasSplit, IsStopAt, IsStopBy, IsStopWithin, bytes_ahead};
 

@@ -4,7 +4,7 @@ use Rattle.hex.specs.Hex.{decode_sized}
 use Rattle.clap.specs.Words.{first_value, matched_of, one_text}
 use Rattle.clap.specs.declared.parser.matches.Found.{Found}
 use Rattle.wsn_wire.specs.declared.endpoint.Role.{Role, TheVariants.{Server}}
-use Rattle.wsn_wire.specs.declared.length_forms.Lengths.TheVariants.{Any}
+use Rattle.wsn_wire.specs.declared.length_encoding.Lengths.TheVariants.{Any}
 use Rattle.wsn_rules.specs.Limits.{Limits}
 use Rattle.wsn_rules.specs.declared.detail.Detail.TheVariants as details
 use Rattle.wsn_print.specs.declared.format.Format.{Format}

@@ -3,8 +3,8 @@ use Rattle.std.specs.Prelude.{◌≡◌, ◌≢◌, ◌⊎◌, ℕ, Option, None
 use Rattle.wsn_wire.specs.declared.endpoint.Role.{Role, TheVariants.{Client, Server}}
 use Rattle.wsn_rules.specs.declared.verdict.Refusal.{Refusal}
 use Rattle.wsn_rules.specs.declared.verdict.Verdict.TheVariants.{Refused}
-use Rattle.wsn_rules.specs.declared.report.Side.{Side}
-use Rattle.wsn_rules.specs.declared.report.Side.TheVariants as sides
+use Rattle.wsn_rules.specs.declared.closing_handshake.Side.{Side}
+use Rattle.wsn_rules.specs.declared.closing_handshake.Side.TheVariants as sides
 use Rattle.wsn_capture.specs.declared.refused_line.RefusedLines.{RefusedLines}
 use Rattle.wsn_command.specs.declared.job.Job.{Job, TheVariants.{Closing, Show}}
 use Rattle.wsn_command.specs.declared.answered.Answer.{Answer, TheVariants.{Verdict, Report, FaultyLine, Stopped}}

@@ -2,7 +2,7 @@ ghost use Rattle.std.specs.Prelude.{◌≡◌, ◌↔◌, Some, IfOk, IfSome, co
 ghost use Rattle.std.specs.Char.{is_ascii_digit};
 ghost use Rattle.std.specs.List.{list_all};
 ghost use Rattle.clap.specs.Words.{found_of, first_value, matched_of, one_text};
-ghost use Rattle.wsn_wire.specs.declared.length_forms.Lengths.TheVariants.{Any};
+ghost use Rattle.wsn_wire.specs.declared.length_encoding.Lengths.TheVariants.{Any};
 ghost use Rattle.wsn_cli.specs.Colors.{IsReadColor, IsReadLayout};
 ghost use Rattle.wsn_cli.specs.Inputs.{IsInputNamed};
 ghost use Rattle.wsn_cli.specs.Options.{AreInDigits, AreLeftOut, IsAsked, IsAskedMaximum, IsInDigits, words_of};

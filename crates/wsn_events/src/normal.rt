@@ -5,7 +5,7 @@ ghost use Rattle.wsn_events.specs.EventReaders.{HasGiven, answered, events_ahead
 ghost use Rattle.wsn_events.specs.LentMessages.{PutsTaken};
 ghost use Rattle.wsn_events.specs.Normalised.{IsNormalised, IsNormalisedWhole};
 
-use crate::putting::put_event;
+use crate::normal_frames::put_event;
 use crate::source::{Next, Source};
 use std::alloc::Allocator;
 use std::io::{Read, Write};

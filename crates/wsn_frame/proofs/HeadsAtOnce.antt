@@ -5,14 +5,14 @@ use Rattle.std.proofs.lemmas.List.{length-take-le}
 use Rattle.std.proofs.lemmas.Bool.{false≢true}
 use Rattle.wsn_wire.specs.declared.endpoint.Role.{Role}
 use Rattle.wsn_wire.specs.declared.endpoint.Role.TheVariants.{Client, Server}
-use Rattle.wsn_wire.specs.declared.heads.FirstByte.{FirstByte}
-use Rattle.wsn_wire.specs.declared.length_forms.LenForm.{LenForm}
-use Rattle.wsn_wire.specs.declared.length_forms.LenForm.TheVariants as len_form
-use Rattle.wsn_wire.specs.declared.length_forms.Lengths.{Lengths}
+use Rattle.wsn_wire.specs.declared.head_law.FirstByte.{FirstByte}
+use Rattle.wsn_wire.specs.declared.length_encoding.LenForm.{LenForm}
+use Rattle.wsn_wire.specs.declared.length_encoding.LenForm.TheVariants as len_form
+use Rattle.wsn_wire.specs.declared.length_encoding.Lengths.{Lengths}
 use Rattle.wsn_wire.specs.declared.refusal.Reason.{Reason}
 use Rattle.wsn_wire.specs.declared.refusal.Reason.TheVariants.{MaskMissing, MaskPresent, LengthTopBit, LengthNotMinimal, MessageTooBig}
 use Rattle.wsn_wire.specs.Frame.{Frame, IsBytes, IsKey, opcode, first_byte, key_bytes}
-use Rattle.wsn_wire.specs.Layout.{opcode_field, mask_bit, len_form_at, length_count, encoded_length, key_count}
+use Rattle.wsn_wire.specs.HeadBytes.{opcode_field, mask_bit, len_form_at, length_count, encoded_length, key_count}
 use Rattle.wsn_wire.specs.Refusal.{number_of, IsFirstEvident}
 use Rattle.wsn_wire.specs.EvidenceInHeads.{EvidentInSecond, EvidentInLength}
 use Rattle.wsn_wire.proofs.FrameLemmas.{first_byte_fields, key_bytes_count}
@@ -21,10 +21,10 @@ use Rattle.wsn_rules.specs.Group.{payload_of}
 use Rattle.wsn_rules.specs.Evidence.{Evidence, IsDataOpcode, EvidentByFirst, EvidentByLength, EvidentByPayload, unmasked}
 use Rattle.wsn_rules.specs.Evidence.Evidence.{ByFirst, BySecond, ByLength}
 use Rattle.wsn_frame.specs.declared.heads.Head.{Head}
-use Rattle.wsn_frame.specs.declared.open_message.OpenMessage.{OpenMessage}
+use Rattle.wsn_frame.specs.declared.kept_message.OpenMessage.{OpenMessage}
 use Rattle.wsn_frame.specs.declared.parsing.Parsed.{Parsed}
 use Rattle.wsn_frame.specs.declared.parsing.Parsed.TheVariants.{Whole}
-use Rattle.wsn_frame.specs.OpenMessages.{IsOpenMessage}
+use Rattle.wsn_frame.specs.KeptMessages.{IsOpenMessage}
 use Rattle.wsn_frame.specs.PartialHeads.{IsEvidentLast, IsShort, IsHeadSoFar, IsHead, IsHeadPrefix, IsParsed, IsWithin, HasTwoBytes, IsLengthRead}
 use Rattle.wsn_rules.proofs.Prefixes.{head_same, tail_same, nil-parts, same_front}
 use Rattle.wsn_rules.proofs.HeadEvidence.{second_number, encoding_number, length_number, payload_number, length_row, encoding_row, no_evidence, first_evidence, after_first, unmasked-nil}

@@ -2,5 +2,5 @@
 pub mod PartialHeads
 pub mod Payloads
 pub mod PayloadChecks
-pub mod OpenMessages
+pub mod KeptMessages
 pub mod Counts

@@ -1,15 +1,15 @@
 -- What a frame's first bytes are of its head. RFC 6455 sections 5.1 and 5.2.
 use Rattle.std.specs.Prelude.{◌≡◌, ℕ, ◌+◌, ◌-◌, ◌<◌, ◌≤◌, ◌↔◌, ⊤, nat_lt, if◌then◌else◌, Option, Result, Ok, Err, List, [], ◌∷◌, ◌++◌, length, take, IsSome, IfSome, is_some, ◌≢◌}
 use Rattle.wsn_wire.specs.declared.endpoint.Role.{Role, TheVariants.{Client}}
-use Rattle.wsn_wire.specs.declared.heads.FirstByte.{FirstByte}
+use Rattle.wsn_wire.specs.declared.head_law.FirstByte.{FirstByte}
 use Rattle.wsn_wire.specs.declared.refusal.Reason.{Reason}
-use Rattle.wsn_wire.specs.declared.length_forms.Form.{Form}
-use Rattle.wsn_wire.specs.declared.length_forms.Form.TheVariants as form
-use Rattle.wsn_wire.specs.declared.length_forms.LenForm.{LenForm}
-use Rattle.wsn_wire.specs.declared.length_forms.LenForm.TheVariants as len_form
-use Rattle.wsn_wire.specs.declared.length_forms.Lengths.{Lengths}
+use Rattle.wsn_wire.specs.declared.length_encoding.Form.{Form}
+use Rattle.wsn_wire.specs.declared.length_encoding.Form.TheVariants as form
+use Rattle.wsn_wire.specs.declared.length_encoding.LenForm.{LenForm}
+use Rattle.wsn_wire.specs.declared.length_encoding.LenForm.TheVariants as len_form
+use Rattle.wsn_wire.specs.declared.length_encoding.Lengths.{Lengths}
 use Rattle.wsn_wire.specs.Frame.{Frame, IsBytes, IsKey, first_byte, key_bytes}
-use Rattle.wsn_wire.specs.Layout.{mask_bit, len_form_at, length_count, encoded_length, key_count}
+use Rattle.wsn_wire.specs.HeadBytes.{mask_bit, len_form_at, length_count, encoded_length, key_count}
 use Rattle.wsn_wire.specs.Refusal.{IsFirstEvident, number_of}
 use Rattle.wsn_wire.specs.EvidenceInHeads.{EvidentInSecond, EvidentInLength}
 use Rattle.wsn_rules.specs.declared.head_info.HeadInfo.{HeadInfo}
@@ -17,8 +17,8 @@ use Rattle.wsn_rules.specs.Limits.{Limits}
 use Rattle.wsn_rules.specs.Evidence.{Evidence, EvidentByFirst, EvidentByPayload, HasNoEvidence}
 use Rattle.wsn_frame.specs.declared.heads.Head.{Head}
 use Rattle.wsn_frame.specs.declared.parsing.Parsed.{Parsed, TheVariants.{Incomplete, Whole, Refused}}
-use Rattle.wsn_frame.specs.declared.open_message.OpenMessage.{OpenMessage}
-use Rattle.wsn_frame.specs.OpenMessages.{IsOpenMessage}
+use Rattle.wsn_frame.specs.declared.kept_message.OpenMessage.{OpenMessage}
+use Rattle.wsn_frame.specs.KeptMessages.{IsOpenMessage}
 
 -- Only with the last of these bytes there is evidence for a refusal: for this reason, and for none with a lower number.
 pub record IsEvidentLast (role : Role) (limits : Limits) (group : List Frame) (reason : Reason) (bytes : List ℕ)

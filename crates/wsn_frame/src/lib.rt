@@ -9,17 +9,17 @@
 #![tactic(auto)]
 
 mod counts;
-mod frame_context;
+mod fragment_law;
 mod heads;
-mod open_message;
+mod kept_message;
 mod parsing;
 mod payload_check;
 mod unmasking;
 
 pub use counts::Counts;
-pub use frame_context::FrameContext;
+pub use fragment_law::FrameContext;
 pub use heads::Head;
-pub use open_message::{OpenMessage, message_after};
+pub use kept_message::{OpenMessage, message_after};
 pub use parsing::{HEAD_MAX, Parsed, parse, whole_head, whole_head_after};
 pub use payload_check::{BadByte, CloseBody, PayloadCheck};
 pub use unmasking::unmask;

@@ -2,13 +2,13 @@
 ghost use Rattle.std.specs.Prelude.{◌≡◌, ℕ, ◌+◌, ◌<◌, ◌≤◌, List, [], ◌∷◌, length, take, IfOk, IfErr, IfSome, IfNone};
 ghost use Rattle.wsn_wire.specs.declared.refusal.Reason.{Reason};
 ghost use Rattle.wsn_wire.specs.Frame.{Frame, first_byte};
-ghost use Rattle.wsn_wire.specs.Layout.{length_count};
+ghost use Rattle.wsn_wire.specs.HeadBytes.{length_count};
 ghost use Rattle.wsn_wire.specs.Refusal.{IsFirstEvident};
 ghost use Rattle.wsn_rules.specs.Evidence.{EvidentByFirst};
-ghost use Rattle.wsn_frame.specs.OpenMessages.{IsOpenMessage};
+ghost use Rattle.wsn_frame.specs.KeptMessages.{IsOpenMessage};
 ghost use Rattle.wsn_frame.specs.PartialHeads.{HasTwoBytes, IsHeadPrefix, IsLengthRead, IsParsed, IsWithin};
 
-use crate::frame_context::FrameContext;
+use crate::fragment_law::FrameContext;
 use crate::heads::Head;
 use wsn_wire::{FirstByte, LenForm, Lengths, Reason, Role};
 

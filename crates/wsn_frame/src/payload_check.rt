@@ -4,14 +4,14 @@ ghost use Rattle.wsn_wire.specs.declared.opcode.Op.TheVariants.{Continue, Text, 
 ghost use Rattle.wsn_wire.specs.declared.refusal.Reason.{Reason};
 ghost use Rattle.wsn_wire.specs.declared.refusal.Reason.TheVariants.{CloseReason, TextCut};
 ghost use Rattle.wsn_wire.specs.Frame.{Frame, first_byte};
-ghost use Rattle.wsn_wire.specs.Layout.{fin_bit};
+ghost use Rattle.wsn_wire.specs.HeadBytes.{fin_bit};
 ghost use Rattle.wsn_text.specs.Utf8.{BeginsText};
 ghost use Rattle.wsn_text.specs.Validated.{HasValidated};
 ghost use Rattle.wsn_rules.specs.Evidence.{EvidentByPayload};
-ghost use Rattle.wsn_frame.specs.OpenMessages.{IsOpenMessage};
+ghost use Rattle.wsn_frame.specs.KeptMessages.{IsOpenMessage};
 ghost use Rattle.wsn_frame.specs.PayloadChecks.{HasChecked, IsChecked, IsBody, IsBodyChecked, IsTextConsumed};
 
-use crate::open_message::OpenMessage;
+use crate::kept_message::OpenMessage;
 use wsn_text::{Utf8, code_allowed};
 use wsn_wire::{FirstByte, Op, Reason};
 

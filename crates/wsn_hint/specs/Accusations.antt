@@ -1,9 +1,9 @@
 -- Whom a Close accuses, by the report on a capture. RFC 6455 section 7.4.1.
 use Rattle.std.specs.Prelude.{◌≡◌, ◌≢◌, ◌⊎◌, ℕ, true, Option, None, Some}
 use Rattle.wsn_wire.specs.declared.endpoint.Role.{Role, TheVariants.{Client, Server}}
-use Rattle.wsn_rules.specs.declared.report.Report.{Report}
-use Rattle.wsn_rules.specs.declared.report.Side.{Side, TheVariants.{Closed}}
-use Rattle.wsn_rules.specs.Reports.{IsRefusedSide, other_endpoint}
+use Rattle.wsn_rules.specs.declared.closing_handshake.Report.{Report}
+use Rattle.wsn_rules.specs.declared.closing_handshake.Side.{Side, TheVariants.{Closed}}
+use Rattle.wsn_rules.specs.ClosingHandshake.{IsRefusedSide, other_endpoint}
 use Rattle.wsn_hint.specs.declared.charge.Charge.{Charge, TheVariants.{Protocol, Content, Size}}
 use Rattle.wsn_hint.specs.declared.hint.Hint.{Hint, TheVariants.{Accuses}}
 

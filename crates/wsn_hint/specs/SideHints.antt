@@ -11,7 +11,7 @@ use Rattle.wsn_rules.specs.Limits.{Limits}
 use Rattle.wsn_rules.specs.Lawful.{IsLawful}
 use Rattle.wsn_rules.specs.Heads.{BeginsWithHead}
 use Rattle.wsn_rules.specs.BadCharacter.{payload_offset}
-use Rattle.wsn_capture.specs.declared.tails.Tails.{Tails}
+use Rattle.wsn_capture.specs.declared.tail_counts.Tails.{Tails}
 use Rattle.wsn_capture.specs.declared.refused_line.RefusedLine.{RefusedLine}
 use Rattle.wsn_capture.specs.declared.refused_line.RefusedLines.{RefusedLines}
 use Rattle.wsn_capture.specs.RefusedLines.{kept_bytes}

@@ -9,13 +9,13 @@
 #![tactic(auto)]
 
 mod answers;
-mod closings;
 mod comparisons;
 mod diagnostics;
 mod done;
 pub mod laws;
 mod payloads;
 mod plans;
+mod printed_closings;
 mod recuts;
 mod redactions;
 mod running;
@@ -23,8 +23,8 @@ mod sides;
 pub mod status_examples;
 mod verdicts;
 
-pub use closings::{NamedClosing, run_named_closing};
 pub use comparisons::run_same;
+pub use printed_closings::{NamedClosing, run_named_closing};
 pub use running::run;
 pub use sides::{run_on_side, run_same_on_sides};
 pub use wsn_command::{Answer, Comparison, How, Job, Ran};

@@ -3,9 +3,9 @@ ghost use Rattle.wsn_command.specs.Jobs.{MayRun};
 ghost use Rattle.wsn_job.specs.Channels.{channels};
 ghost use Rattle.wsn_job.specs.Work.{IsDone, IsRun, done_status};
 
-use crate::closings::print_report;
 use crate::done::Done;
 use crate::plans::print_plan;
+use crate::printed_closings::print_report;
 use crate::recuts::recut_input;
 use crate::verdicts::print_verdict;
 use std::alloc::Allocator;

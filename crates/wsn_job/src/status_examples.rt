@@ -6,7 +6,7 @@ ghost use Rattle.wsn_io.specs.declared.stop.Stop.{Stop};
 ghost use Rattle.wsn_rules.specs.declared.step.Step.{Step};
 ghost use Rattle.wsn_rules.specs.declared.verdict.Verdict.{Verdict};
 ghost use Rattle.wsn_rules.specs.declared.why.Why.{Why};
-ghost use Rattle.wsn_rules.specs.declared.report.Outcome.TheVariants.{Failed, Clean, Complete, Abnormal, Half, Live};
+ghost use Rattle.wsn_rules.specs.declared.closing_handshake.Outcome.TheVariants.{Failed, Clean, Complete, Abnormal, Half, Live};
 ghost use Rattle.wsn_plan.specs.declared.planning.PlanAnswer.{PlanAnswer};
 ghost use Rattle.wsn_plan.specs.declared.planning.PlanAnswer.TheVariants as plans;
 ghost use Rattle.wsn_plan.specs.declared.recutting.RecutAnswer.TheVariants.{Done, NotAccepted, Fault};

@@ -1,7 +1,7 @@
 -- What settings ask for.
 use Rattle.std.specs.Prelude.{◌≡◌, ◌==◌, ◌^◌, min, if◌then◌else◌, None, Some}
 use Rattle.wsn_wire.specs.declared.endpoint.Role.{Role, TheVariants.{Client, Server}}
-use Rattle.wsn_wire.specs.declared.length_forms.Lengths.TheVariants.{Shortest, Any}
+use Rattle.wsn_wire.specs.declared.length_encoding.Lengths.TheVariants.{Shortest, Any}
 use Rattle.wsn_rules.specs.Limits.{Limits}
 use Rattle.wsn_rules.specs.declared.detail.Detail.TheVariants.{Events, Frames}
 use Rattle.wsn_print.specs.declared.format.Format.TheVariants.{Json}

@@ -7,7 +7,7 @@ use Rattle.wsn_wire.specs.Frame.{Frame, stream}
 use Rattle.wsn_rules.specs.declared.verdict.Summary.{Summary}
 use Rattle.wsn_rules.specs.declared.verdict.Verdict.{Verdict}
 use Rattle.wsn_rules.specs.declared.verdict.Verdict.TheVariants.{Accepted, Cut, Refused}
-use Rattle.wsn_rules.specs.Accepted.{HasNoClose, EndsWithClose}
+use Rattle.wsn_rules.specs.AfterClose.{HasNoClose, EndsWithClose}
 use Rattle.wsn_rules.specs.Limits.{Limits}
 use Rattle.wsn_rules.specs.Verdict.{IsVerdict, judged_bytes}
 use Rattle.wsn_rules.proofs.StaysRefused.{place_within}

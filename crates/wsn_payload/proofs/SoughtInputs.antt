@@ -11,7 +11,7 @@ use Rattle.wsn_wire.specs.declared.endpoint.Role.{Role}
 use Rattle.wsn_wire.specs.Frame.{Frame, stream}
 use Rattle.wsn_rules.specs.declared.verdict.Verdict.{Verdict}
 use Rattle.wsn_rules.specs.declared.verdict.Verdict.TheVariants.{Accepted, Cut, Refused}
-use Rattle.wsn_rules.specs.Accepted.{EndsWithClose}
+use Rattle.wsn_rules.specs.AfterClose.{EndsWithClose}
 use Rattle.wsn_rules.specs.Limits.{Limits}
 use Rattle.wsn_rules.specs.Verdict.{IsRefused, IsVerdict, judged_bytes, IsUnrefused}
 use Rattle.wsn_rules.proofs.StaysRefused.{place_within}

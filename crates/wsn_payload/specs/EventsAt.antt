@@ -8,7 +8,7 @@ use Rattle.wsn_rules.specs.declared.verdict.Verdict.{Verdict}
 use Rattle.wsn_rules.specs.Limits.{Limits}
 use Rattle.wsn_rules.specs.Group.{unfinished, IsOpen, first_op, payload_of}
 use Rattle.wsn_rules.specs.Lawful.{IsLawful}
-use Rattle.wsn_rules.specs.Accepted.{HasNoClose, EndsWithClose}
+use Rattle.wsn_rules.specs.AfterClose.{HasNoClose, EndsWithClose}
 use Rattle.wsn_rules.specs.Meaning.{event_at, payload_in}
 use Rattle.wsn_rules.specs.Heads.{heads_of, BeginsWithHead, AreHeads}
 use Rattle.wsn_rules.specs.ShownStream.{open_offset, event_offset, frame_so_far}

@@ -1,7 +1,7 @@
 -- The frame of a plan's next step, by the state of a walk over the events. RFC 6455 section 5.4.
 use Rattle.std.specs.Prelude.{ℕ, ◌-◌, ⊤, true, Option, List, length}
 use Rattle.wsn_wire.specs.declared.opcode.Op.{Op}
-use Rattle.wsn_wire.specs.declared.length_forms.Form.TheVariants.{Shortest}
+use Rattle.wsn_wire.specs.declared.length_encoding.Form.TheVariants.{Shortest}
 use Rattle.wsn_wire.specs.Frame.{Frame, FormFits}
 use Rattle.wsn_rules.specs.declared.step.Step.{Step, TheVariants.{Piece, Last, Control}}
 use Rattle.wsn_rules.specs.Meaning.{MeantEvent}

@@ -1,6 +1,6 @@
 -- The steps of one message in a uniform plan, by the numbers of bytes and controls.
 use Rattle.std.specs.Prelude.{ℕ, Bool, Option, List, [], ◌∷◌, ◌++◌, replicate, take, drop}
-use Rattle.wsn_wire.specs.declared.length_forms.Form.TheVariants.{Shortest}
+use Rattle.wsn_wire.specs.declared.length_encoding.Form.TheVariants.{Shortest}
 use Rattle.wsn_rules.specs.declared.step.Step.{Step, TheVariants.{Piece, Last, Control}}
 use Rattle.wsn_rules.specs.UniformPlan.{piece_count, ahead}
 

@@ -1,6 +1,6 @@
 ghost use Rattle.std.specs.Prelude.{◌≡◌, ℕ, ◌++◌, ◌≤◌, ◌<◌, ◌^◌, ◌↔◌, List, IfOk, IfErr, IsSome, MatchOption, length, map, replicate};
 ghost use Rattle.wsn_wire.specs.declared.endpoint.Role.TheVariants.{Client};
-ghost use Rattle.wsn_wire.specs.declared.length_forms.Form.TheVariants.{Shortest};
+ghost use Rattle.wsn_wire.specs.declared.length_encoding.Form.TheVariants.{Shortest};
 ghost use Rattle.wsn_rules.specs.declared.step.Step.TheVariants.{Piece, Last, Control};
 ghost use Rattle.wsn_rules.specs.UniformPlan.{piece_count, ahead, uniform_plan};
 ghost use Rattle.wsn_events.specs.EventsMeant.{meant};

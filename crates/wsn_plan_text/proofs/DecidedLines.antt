@@ -6,8 +6,8 @@ use Rattle.std.specs.Str.Parse.{digits_value}
 use Rattle.std.proofs.lemmas.Fmt.{decimal_is_IsNumeral}
 use Rattle.hex.specs.Hex.{decode_of, decode_pairs}
 use Rattle.hex.specs.declared.error.FromHexError.{FromHexError}
-use Rattle.wsn_wire.specs.declared.length_forms.Form.{Form}
-use Rattle.wsn_wire.specs.declared.length_forms.Form.TheVariants.{Shortest, Two, Eight}
+use Rattle.wsn_wire.specs.declared.length_encoding.Form.{Form}
+use Rattle.wsn_wire.specs.declared.length_encoding.Form.TheVariants.{Shortest, Two, Eight}
 use Rattle.wsn_rules.specs.declared.step.Step.{Step}
 use Rattle.wsn_print.specs.Fields.{form_text}
 use Rattle.wsn_rules.proofs.Computed.{less_or_not, same_or_not as equal_or_not}

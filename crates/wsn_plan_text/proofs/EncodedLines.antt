@@ -1,6 +1,6 @@
 -- A line encodes a step exactly if it has fields that encode it, and then it encodes no other.
 use Rattle.std.proofs.Common.{◌≡◌, ℕ, List, ◌++◌, codes, refl, sym, ap, ◌∙◌, arith}
-use Rattle.wsn_wire.specs.declared.length_forms.Form.TheVariants.{Shortest}
+use Rattle.wsn_wire.specs.declared.length_encoding.Form.TheVariants.{Shortest}
 use Rattle.wsn_rules.specs.declared.step.Step.{Step}
 use Rattle.wsn_rules.specs.declared.step.Step.TheVariants as step
 use Rattle.wsn_print.specs.Fields.{form_text}

@@ -1,6 +1,6 @@
 -- The line of a step, whose parts are written from the first to the last, after other lines.
 use Rattle.std.proofs.Common.{◌≡◌, ℕ, Option, List, ◌++◌, sym, ap, ◌∙◌, codes, decimal, append_assoc}
-use Rattle.wsn_wire.specs.declared.length_forms.Form.{Form}
+use Rattle.wsn_wire.specs.declared.length_encoding.Form.{Form}
 use Rattle.wsn_rules.specs.declared.step.Step.TheVariants as step
 use Rattle.wsn_print.specs.Fields.{key_text, form_text}
 use Rattle.wsn_print.proofs.Appended.{two, three, four}

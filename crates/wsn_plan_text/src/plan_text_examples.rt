@@ -2,7 +2,7 @@
 //! the faults of lines, and what texts give.
 
 ghost use Rattle.std.specs.Prelude.{◌≡◌, None, Some, Ok, Err, [], ◌∷◌, codes};
-ghost use Rattle.wsn_wire.specs.declared.length_forms.Form.TheVariants.{Shortest, Two, Eight};
+ghost use Rattle.wsn_wire.specs.declared.length_encoding.Form.TheVariants.{Shortest, Two, Eight};
 ghost use Rattle.wsn_rules.specs.declared.step.Step.TheVariants.{Piece, Last, Control};
 ghost use Rattle.wsn_plan_text.specs.PlanText.{step_line, plan_text, EncodesStep, IsLineFault, IsReadPlan};
 ghost use Rattle.wsn_plan_text.specs.declared.plan_fault.LineWhy.TheVariants.{BadForm, BadNumber, BadKey, BadLength};

@@ -12,7 +12,7 @@ use Rattle.wsn_rules.specs.declared.verdict.Verdict.{Verdict}
 use Rattle.wsn_rules.specs.declared.verdict.Verdict.TheVariants.{Accepted, Cut, Refused}
 use Rattle.wsn_rules.specs.Limits.{Limits}
 use Rattle.wsn_rules.specs.Group.{unfinished}
-use Rattle.wsn_rules.specs.Accepted.{EndsWithClose}
+use Rattle.wsn_rules.specs.AfterClose.{EndsWithClose}
 use Rattle.wsn_rules.specs.Evidence.{Evidence}
 use Rattle.wsn_rules.specs.Heads.{heads_of, BeginsWithHead, AreHeads}
 use Rattle.wsn_rules.specs.Verdict.{IsVerdict}

@@ -3,7 +3,7 @@ use Rattle.std.proofs.Common.{◌≡◌, ℕ, ◌≤◌, List, [], ◌++◌, len
 use Rattle.wsn_wire.specs.declared.refusal.Reason.{Reason}
 use Rattle.wsn_wire.specs.declared.refusal.Reason.TheVariants.{ReservedBits, ReservedOpcode, ControlNotFinal, NothingToContinue, MessageOpen, MaskMissing, MaskPresent, ControlTooLong, CloseOneByte, LengthTopBit, LengthNotMinimal, MessageTooBig, CloseCode, CloseReason, TextBad, TextCut, TooManyFrames}
 use Rattle.wsn_wire.specs.Refusal.{word_of}
-use Rattle.wsn_rules.specs.declared.report.Report.{Report}
+use Rattle.wsn_rules.specs.declared.closing_handshake.Report.{Report}
 use Rattle.wsn_print.specs.Fields.{number_text}
 use Rattle.wsn_print.specs.ReportText.{report_lines, report_line, side_text, first_text, echo_text, outcome_word}
 

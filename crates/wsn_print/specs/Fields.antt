@@ -4,7 +4,7 @@ use Rattle.wsn_wire.specs.Refusal.{word_of, code_of}
 use Rattle.wsn_rules.specs.declared.verdict.Refusal.{Refusal}
 use Rattle.hex.specs.Hex.{encode_lower}
 use Rattle.wsn_wire.specs.declared.opcode.Op.{Op, TheVariants.{Continue, Text, Binary, Close, Ping, Pong}}
-use Rattle.wsn_wire.specs.declared.length_forms.Form.{Form, TheVariants.{Shortest, Two, Eight}}
+use Rattle.wsn_wire.specs.declared.length_encoding.Form.{Form, TheVariants.{Shortest, Two, Eight}}
 
 -- A number, such as the size of an open message or a close code; a dash if there is none.
 abbrev pub number_text : Option ℕ → List ℕ

@@ -2,7 +2,7 @@
 use Rattle.std.specs.Prelude.{ℕ, List, flat_map}
 use Rattle.wsn_rules.specs.declared.compared.Compared.{Compared}
 use Rattle.wsn_rules.specs.declared.head_info.HeadInfo.{HeadInfo}
-use Rattle.wsn_rules.specs.declared.report.Report.{Report}
+use Rattle.wsn_rules.specs.declared.closing_handshake.Report.{Report}
 use Rattle.wsn_rules.specs.declared.verdict.Verdict.{Verdict}
 use Rattle.wsn_print.specs.declared.format.Format.{Format, TheVariants.{Text, People, Json}}
 use Rattle.wsn_print.specs.VerdictText.{verdict_line, comparison_line}

@@ -1,6 +1,6 @@
 -- The report on one of several captures, in one line, with the name of its file.
 use Rattle.std.specs.Prelude.{ℕ, List, ◌++◌, drop, codes}
-use Rattle.wsn_rules.specs.declared.report.Report.{Report}
+use Rattle.wsn_rules.specs.declared.closing_handshake.Report.{Report}
 use Rattle.wsn_print.specs.declared.format.Format.{Format, TheVariants.{Text, People, Json}}
 use Rattle.wsn_print.specs.Objects.{report_object}
 use Rattle.wsn_print.specs.ReportText.{side_text, outcome_word}

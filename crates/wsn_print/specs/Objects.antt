@@ -2,13 +2,13 @@
 use Rattle.std.specs.Prelude.{ℕ, Bool, true, false, Option, None, Some, List, [], ◌++◌, codes}
 use Rattle.hex.specs.Hex.{encode_lower}
 use Rattle.wsn_wire.specs.declared.endpoint.Role.{Role, TheVariants.{Client, Server}}
-use Rattle.wsn_wire.specs.declared.length_forms.Form.{Form, TheVariants.{Shortest, Two, Eight}}
+use Rattle.wsn_wire.specs.declared.length_encoding.Form.{Form, TheVariants.{Shortest, Two, Eight}}
 use Rattle.wsn_wire.specs.Refusal.{word_of, code_of}
 use Rattle.wsn_rules.specs.declared.compared.Compared.{Compared, TheVariants.{Equal, Different, NotAccepted}}
 use Rattle.wsn_rules.specs.declared.head_info.HeadInfo.{HeadInfo}
-use Rattle.wsn_rules.specs.declared.report.Report.{Report}
-use Rattle.wsn_rules.specs.declared.report.Side.{Side}
-use Rattle.wsn_rules.specs.declared.report.Side.TheVariants as side
+use Rattle.wsn_rules.specs.declared.closing_handshake.Report.{Report}
+use Rattle.wsn_rules.specs.declared.closing_handshake.Side.{Side}
+use Rattle.wsn_rules.specs.declared.closing_handshake.Side.TheVariants as side
 use Rattle.wsn_rules.specs.declared.verdict.Refusal.{Refusal}
 use Rattle.wsn_rules.specs.declared.verdict.Summary.{Summary}
 use Rattle.wsn_rules.specs.declared.verdict.Verdict.{Verdict, TheVariants.{Accepted, Cut, Refused}}

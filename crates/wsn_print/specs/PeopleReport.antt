@@ -5,11 +5,11 @@ use Rattle.wsn_wire.specs.declared.endpoint.Role.{Role, TheVariants.{Client, Ser
 use Rattle.wsn_wire.specs.declared.refusal.Reason.{Reason, TheVariants.{ReservedBits, MaskMissing, MaskPresent}}
 use Rattle.wsn_wire.specs.Refusal.{number_of, word_of}
 use Rattle.wsn_rules.specs.declared.verdict.Refusal.{Refusal}
-use Rattle.wsn_rules.specs.declared.report.Side.{Side}
-use Rattle.wsn_rules.specs.declared.report.Side.TheVariants as sides
-use Rattle.wsn_rules.specs.declared.report.Outcome.{Outcome, TheVariants.{Failed, Clean, Complete, Abnormal, Half, Live}}
-use Rattle.wsn_rules.specs.declared.report.Report.{Report}
-use Rattle.wsn_rules.specs.Reports.{other_endpoint}
+use Rattle.wsn_rules.specs.declared.closing_handshake.Side.{Side}
+use Rattle.wsn_rules.specs.declared.closing_handshake.Side.TheVariants as sides
+use Rattle.wsn_rules.specs.declared.closing_handshake.Outcome.{Outcome, TheVariants.{Failed, Clean, Complete, Abnormal, Half, Live}}
+use Rattle.wsn_rules.specs.declared.closing_handshake.Report.{Report}
+use Rattle.wsn_rules.specs.ClosingHandshake.{other_endpoint}
 use Rattle.wsn_print.specs.ReportText.{report_lines}
 use Rattle.wsn_print.specs.Sentences.{reason_sentence, exchanged_sentence, ended_words, cut_words, clean_sentence, complete_sentence, open_sentence, inflate_command, exchange_command}
 

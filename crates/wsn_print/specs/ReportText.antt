@@ -1,9 +1,9 @@
 -- The lines of a report, each with its LF.
 use Rattle.std.specs.Prelude.{ℕ, Bool, true, false, Option, None, Some, List, ◌++◌, codes}
 use Rattle.wsn_wire.specs.declared.endpoint.Role.{Role, TheVariants.{Client, Server}}
-use Rattle.wsn_rules.specs.declared.report.Side.{Side, TheVariants.{Closed, Refused, Ended, Cut, Running}}
-use Rattle.wsn_rules.specs.declared.report.Outcome.{Outcome, TheVariants.{Failed, Clean, Complete, Abnormal, Half, Live}}
-use Rattle.wsn_rules.specs.declared.report.Report.{Report}
+use Rattle.wsn_rules.specs.declared.closing_handshake.Side.{Side, TheVariants.{Closed, Refused, Ended, Cut, Running}}
+use Rattle.wsn_rules.specs.declared.closing_handshake.Outcome.{Outcome, TheVariants.{Failed, Clean, Complete, Abnormal, Half, Live}}
+use Rattle.wsn_rules.specs.declared.closing_handshake.Report.{Report}
 use Rattle.wsn_print.specs.Fields.{number_text, refusal_text}
 
 -- What became of the stream that an endpoint sent.

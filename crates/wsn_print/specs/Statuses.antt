@@ -3,7 +3,7 @@ use Rattle.std.specs.Prelude.{ℕ, Result, Ok, Err}
 use Rattle.wsn_io.specs.declared.stop.Stop.{Stop}
 use Rattle.wsn_rules.specs.declared.verdict.Verdict.{Verdict, TheVariants.{Accepted}}
 use Rattle.wsn_rules.specs.declared.compared.Compared.{Compared, TheVariants.{Equal}}
-use Rattle.wsn_rules.specs.declared.report.Outcome.{Outcome, TheVariants.{Clean, Complete}}
+use Rattle.wsn_rules.specs.declared.closing_handshake.Outcome.{Outcome, TheVariants.{Clean, Complete}}
 
 -- 0 if the stream is accepted.
 abbrev pub verdict_status : Result Verdict Stop → ℕ

@@ -3,7 +3,7 @@
 ghost use Rattle.std.specs.Prelude.{◌≡◌, ℕ, true, false, None, Some, Ok, Err, [], ◌∷◌, codes};
 ghost use Rattle.wsn_wire.specs.declared.endpoint.Role.TheVariants.{Server};
 ghost use Rattle.wsn_wire.specs.declared.opcode.Op.TheVariants.{Continue, Text, Binary, Close, Ping, Pong};
-ghost use Rattle.wsn_wire.specs.declared.length_forms.Form.TheVariants.{Shortest, Two, Eight};
+ghost use Rattle.wsn_wire.specs.declared.length_encoding.Form.TheVariants.{Shortest, Two, Eight};
 ghost use Rattle.wsn_wire.specs.declared.refusal.Reason.TheVariants as reason;
 ghost use Rattle.wsn_wire.specs.declared.refusal.Reason.TheVariants.{TextBad, LengthTopBit};
 ghost use Rattle.wsn_rules.specs.Examples.{greatest};
@@ -15,7 +15,7 @@ ghost use Rattle.wsn_rules.specs.declared.verdict.Refusal.{Refusal};
 ghost use Rattle.wsn_rules.specs.declared.verdict.Verdict.TheVariants.{Accepted, Cut, Refused};
 ghost use Rattle.wsn_rules.specs.declared.compared.Compared.TheVariants.{Equal, Different, NotAccepted};
 ghost use Rattle.wsn_rules.specs.declared.why.Why.TheVariants as why;
-ghost use Rattle.wsn_rules.specs.declared.report.Outcome.TheVariants as outcome;
+ghost use Rattle.wsn_rules.specs.declared.closing_handshake.Outcome.TheVariants as outcome;
 ghost use Rattle.wsn_rules.specs.declared.verdict.Verdict.{Verdict};
 ghost use Rattle.wsn_io.specs.declared.stop.Stop.{Stop};
 ghost use Rattle.wsn_io.specs.declared.stop.Stop.TheVariants as stop;

@@ -5,12 +5,12 @@ ghost use Rattle.wsn_wire.specs.declared.endpoint.Role.TheVariants.{Client, Serv
 ghost use Rattle.wsn_wire.specs.declared.refusal.Reason.TheVariants as reason;
 ghost use Rattle.wsn_wire.specs.declared.refusal.Reason.TheVariants.{TextBad};
 ghost use Rattle.wsn_rules.specs.declared.verdict.Verdict.TheVariants.{Cut, Refused};
-ghost use Rattle.wsn_rules.specs.declared.report.Side.TheVariants as side;
-ghost use Rattle.wsn_rules.specs.declared.report.Outcome.TheVariants as outcome;
+ghost use Rattle.wsn_rules.specs.declared.closing_handshake.Side.TheVariants as side;
+ghost use Rattle.wsn_rules.specs.declared.closing_handshake.Outcome.TheVariants as outcome;
 ghost use Rattle.wsn_print.specs.NamedReportText.{named_report_line, named_report_object};
 ghost use Rattle.wsn_print.specs.ReportText.{report_lines};
 ghost use Rattle.wsn_print.specs.PeopleReport.{meaning_lines};
-ghost use Rattle.wsn_rules.specs.declared.report.Report.{Report};
+ghost use Rattle.wsn_rules.specs.declared.closing_handshake.Report.{Report};
 
 /// The line and the object of a report on one of several captures; a line feed in the file's name is escaped.
 pub fn of_named_reports()

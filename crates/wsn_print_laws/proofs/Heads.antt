@@ -3,8 +3,8 @@ use Rattle.std.proofs.Common.{◌≡◌, ℕ, Bool, true, false, if◌then◌els
 use Rattle.std.specs.Str.{bytes_eq}
 use Rattle.wsn_wire.specs.declared.opcode.Op.{Op}
 use Rattle.wsn_wire.specs.declared.opcode.Op.TheVariants as ops
-use Rattle.wsn_wire.specs.declared.length_forms.Form.{Form}
-use Rattle.wsn_wire.specs.declared.length_forms.Form.TheVariants as forms
+use Rattle.wsn_wire.specs.declared.length_encoding.Form.{Form}
+use Rattle.wsn_wire.specs.declared.length_encoding.Form.TheVariants as forms
 use Rattle.wsn_rules.specs.declared.head_info.HeadInfo.{HeadInfo}
 use Rattle.wsn_print.specs.Fields.{op_word}
 use Rattle.wsn_print.specs.Json.{boolean, field, string_field, number_field}

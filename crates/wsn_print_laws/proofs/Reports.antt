@@ -3,11 +3,11 @@ use Rattle.std.proofs.Common.{◌≡◌, ℕ, Bool, true, false, if◌then◌els
 use Rattle.std.specs.Str.{bytes_eq}
 use Rattle.wsn_wire.specs.declared.endpoint.Role.{Role}
 use Rattle.wsn_wire.specs.declared.endpoint.Role.TheVariants.{Client, Server}
-use Rattle.wsn_rules.specs.declared.report.Outcome.{Outcome}
-use Rattle.wsn_rules.specs.declared.report.Outcome.TheVariants as outcomes
-use Rattle.wsn_rules.specs.declared.report.Report.{Report}
-use Rattle.wsn_rules.specs.declared.report.Side.{Side}
-use Rattle.wsn_rules.specs.declared.report.Side.TheVariants as side
+use Rattle.wsn_rules.specs.declared.closing_handshake.Outcome.{Outcome}
+use Rattle.wsn_rules.specs.declared.closing_handshake.Outcome.TheVariants as outcomes
+use Rattle.wsn_rules.specs.declared.closing_handshake.Report.{Report}
+use Rattle.wsn_rules.specs.declared.closing_handshake.Side.{Side}
+use Rattle.wsn_rules.specs.declared.closing_handshake.Side.TheVariants as side
 use Rattle.wsn_print.specs.Json.{field, string_field, number_or_null_field}
 use Rattle.wsn_print.specs.Objects.{side_object, refusal_fields, first_value, echo_value, report_object}
 use Rattle.wsn_print.specs.ReportText.{outcome_word}

@@ -3,9 +3,9 @@ use Rattle.std.specs.Prelude.{◌≡◌, ℕ, ◌<◌, ◌^◌, Option, None, So
 use Rattle.wsn_wire.specs.Frame.{IsBytes}
 use Rattle.wsn_rules.specs.declared.compared.Compared.{Compared, TheVariants.{Equal, Different, NotAccepted}}
 use Rattle.wsn_rules.specs.declared.head_info.HeadInfo.{HeadInfo}
-use Rattle.wsn_rules.specs.declared.report.Report.{Report}
-use Rattle.wsn_rules.specs.declared.report.Side.{Side}
-use Rattle.wsn_rules.specs.declared.report.Side.TheVariants as side
+use Rattle.wsn_rules.specs.declared.closing_handshake.Report.{Report}
+use Rattle.wsn_rules.specs.declared.closing_handshake.Side.{Side}
+use Rattle.wsn_rules.specs.declared.closing_handshake.Side.TheVariants as side
 use Rattle.wsn_rules.specs.declared.verdict.Summary.{Summary}
 use Rattle.wsn_rules.specs.declared.verdict.Verdict.{Verdict, TheVariants.{Accepted, Cut, Refused}}
 use Rattle.wsn_print.specs.Objects.{verdict_object, frame_object, report_object, comparison_object}

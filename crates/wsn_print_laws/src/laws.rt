@@ -7,7 +7,7 @@ ghost use Rattle.wsn_wire.specs.declared.refusal.Reason.TheVariants.{TextBad};
 ghost use Rattle.wsn_wire.specs.Frame.{Frame, IsBytes};
 ghost use Rattle.wsn_rules.specs.declared.compared.Compared.{Compared};
 ghost use Rattle.wsn_rules.specs.declared.head_info.HeadInfo.{HeadInfo};
-ghost use Rattle.wsn_rules.specs.declared.report.Report.{Report};
+ghost use Rattle.wsn_rules.specs.declared.closing_handshake.Report.{Report};
 ghost use Rattle.wsn_rules.specs.declared.verdict.Summary.{Summary};
 ghost use Rattle.wsn_rules.specs.declared.verdict.Verdict.{Verdict};
 ghost use Rattle.wsn_rules.specs.Limits.{Limits};

@@ -15,7 +15,7 @@ use Rattle.wsn_rules.specs.declared.head_info.HeadInfo.{HeadInfo}
 use Rattle.wsn_rules.specs.declared.verdict.Verdict.{Verdict}
 use Rattle.wsn_rules.specs.declared.verdict.Verdict.TheVariants.{Accepted, Cut, Refused}
 use Rattle.wsn_rules.specs.Limits.{Limits, InRange}
-use Rattle.wsn_rules.specs.Accepted.{HasNoClose, EndsWithClose}
+use Rattle.wsn_rules.specs.AfterClose.{HasNoClose, EndsWithClose}
 use Rattle.wsn_rules.specs.Evidence.{Evidence}
 use Rattle.wsn_rules.specs.Group.{unfinished, payload_of}
 use Rattle.wsn_rules.specs.Heads.{BeginsWithHead, IsBegun, AreHeads}

@@ -7,7 +7,7 @@ use Rattle.wsn_wire.specs.declared.opcode.Op.{Op}
 use Rattle.wsn_wire.specs.declared.opcode.Op.TheVariants.{Continue, Text, Binary, Close, Ping, Pong}
 use Rattle.wsn_wire.specs.Frame.{Frame, is_control}
 use Rattle.wsn_text.specs.Validated.{HasValidated}
-use Rattle.wsn_rules.specs.Accepted.{HasNoClose}
+use Rattle.wsn_rules.specs.AfterClose.{HasNoClose}
 use Rattle.wsn_rules.specs.Group.{is_data, unfinished, first_op, payload_of}
 use Rattle.wsn_rules.proofs.Groups.{unfinished_control, unfinished_final, unfinished_more}
 use Rattle.wsn_rules.proofs.MessageText.{text_of_push}

@@ -12,7 +12,7 @@ use Rattle.wsn_frame.specs.Payloads.{unmasked_by}
 use Rattle.wsn_frame.proofs.PayloadMore.{unmasked_by-joined}
 use Rattle.wsn_rules.specs.declared.head_info.HeadInfo.{HeadInfo}
 use Rattle.wsn_rules.specs.Limits.{Limits}
-use Rattle.wsn_rules.specs.Accepted.{HasNoClose, EndsWithClose}
+use Rattle.wsn_rules.specs.AfterClose.{HasNoClose, EndsWithClose}
 use Rattle.wsn_rules.specs.Evidence.Evidence.{ByFirst}
 use Rattle.wsn_rules.specs.Group.{unfinished}
 use Rattle.wsn_rules.specs.Heads.{info_of, BeginsWithHead}

@@ -12,7 +12,7 @@ use Rattle.wsn_rules.specs.Limits.{Limits}
 use Rattle.wsn_rules.specs.Evidence.{Evidence, EvidentByPayload}
 use Rattle.wsn_rules.specs.Group.{unfinished}
 use Rattle.wsn_rules.specs.Heads.{BeginsWithHead}
-use Rattle.wsn_rules.specs.Accepted.{HasNoClose}
+use Rattle.wsn_rules.specs.AfterClose.{HasNoClose}
 use Rattle.wsn_rules.specs.Lawful.{IsLawful}
 use Rattle.wsn_rules.specs.Verdict.{IsRefused}
 use Rattle.wsn_rules.proofs.LeastEvident.{evidence_is_some}

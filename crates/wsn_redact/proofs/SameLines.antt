@@ -8,7 +8,7 @@ use Rattle.wsn_rules.specs.Limits.{Limits}
 use Rattle.wsn_rules.specs.Entries.{Entry, without_cr, bytes_prefix, end_mark, GivesEntry, AreEntries}
 use Rattle.wsn_rules.specs.Entries.Entry.{Nothing, Bytes, Mark}
 use Rattle.wsn_rules.specs.ShownCapture.{GivesTime, IsTime}
-use Rattle.wsn_rules.specs.declared.report.Report.{Report}
+use Rattle.wsn_rules.specs.declared.closing_handshake.Report.{Report}
 use Rattle.wsn_rules.proofs.OneEntry.{same_entries, front_is, mark_is, letter_of, not_nothing}
 use Rattle.wsn_show.specs.declared.ended_by.EndedBy.{EndedBy}
 use Rattle.wsn_show.specs.EndedBy.{marks_in, end_marks, reset_comment, SayReset, IsEndedBy}

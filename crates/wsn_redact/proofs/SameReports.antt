@@ -5,16 +5,17 @@ use Rattle.wsn_wire.specs.declared.endpoint.Role.TheVariants.{Client, Server}
 use Rattle.wsn_wire.specs.Frame.{Frame, IsBytes, stream}
 use Rattle.wsn_rules.specs.declared.verdict.Verdict.{Verdict}
 use Rattle.wsn_rules.specs.declared.verdict.Verdict.TheVariants.{Accepted, Cut, Refused}
-use Rattle.wsn_rules.specs.declared.report.Side.{Side}
-use Rattle.wsn_rules.specs.declared.report.Report.{Report}
+use Rattle.wsn_rules.specs.declared.closing_handshake.Side.{Side}
+use Rattle.wsn_rules.specs.declared.closing_handshake.Report.{Report}
 use Rattle.wsn_rules.specs.Limits.{Limits}
 use Rattle.wsn_rules.specs.Lawful.{IsLawful}
-use Rattle.wsn_rules.specs.Accepted.{HasNoClose, EndsWithClose, IsAccepted}
+use Rattle.wsn_rules.specs.AfterClose.{HasNoClose, EndsWithClose}
+use Rattle.wsn_rules.specs.Accepted.{IsAccepted}
 use Rattle.wsn_rules.specs.Summary.{counted}
 use Rattle.wsn_rules.specs.Verdict.{IsVerdict}
 use Rattle.wsn_rules.specs.Entries.{Entry, AreEntries}
 use Rattle.wsn_rules.specs.Sides.{sent, has_ended, side_of, IsSide}
-use Rattle.wsn_rules.specs.Reports.{ClosesIn, IsFirst, other_endpoint, IsOutcome, IsReportOf, IsReport}
+use Rattle.wsn_rules.specs.ClosingHandshake.{ClosesIn, IsFirst, other_endpoint, IsOutcome, IsReportOf, IsReport}
 use Rattle.wsn_rules.proofs.OneEntry.{same_entries}
 use Rattle.wsn_rules.proofs.OneVerdict.{one_verdict}
 use Rattle.wsn_redact.specs.Redaction.{redacted_frames, IsRedaction}

@@ -9,16 +9,17 @@ use Rattle.wsn_wire.specs.declared.opcode.Op.TheVariants as op
 use Rattle.wsn_wire.specs.Frame.{Frame, stream}
 use Rattle.wsn_rules.specs.declared.verdict.Verdict.{Verdict}
 use Rattle.wsn_rules.specs.declared.verdict.Verdict.TheVariants.{Accepted, Cut, Refused}
-use Rattle.wsn_rules.specs.declared.report.Report.{Report}
+use Rattle.wsn_rules.specs.declared.closing_handshake.Report.{Report}
 use Rattle.wsn_rules.specs.Limits.{Limits}
-use Rattle.wsn_rules.specs.Accepted.{IsAccepted, EndsWithClose}
+use Rattle.wsn_rules.specs.AfterClose.{EndsWithClose}
+use Rattle.wsn_rules.specs.Accepted.{IsAccepted}
 use Rattle.wsn_rules.specs.Summary.{counted}
 use Rattle.wsn_rules.specs.Verdict.{IsVerdict}
 use Rattle.wsn_rules.specs.TextLines.{IsLine}
 use Rattle.wsn_rules.specs.Entries.{Entry, GivesEntry, bytes_prefix}
 use Rattle.wsn_rules.specs.Entries.Entry.{Bytes}
 use Rattle.wsn_rules.specs.Sides.{sent, has_ended, side_of}
-use Rattle.wsn_rules.specs.Reports.{ClosesIn, IsFirst, other_endpoint, echo_of, seen_of, IsReportOf}
+use Rattle.wsn_rules.specs.ClosingHandshake.{ClosesIn, IsFirst, other_endpoint, echo_of, seen_of, IsReportOf}
 use Rattle.wsn_rules.proofs.EveryInput.{HasVerdict}
 use Rattle.wsn_rules.proofs.OneVerdict.{one_verdict}
 use Rattle.wsn_rules.proofs.Computed.{all_bytes, bytes_by_test, in_range, range_by_test, found}

@@ -7,11 +7,11 @@ use Rattle.wsn_wire.specs.declared.endpoint.Role.TheVariants.{Client, Server}
 use Rattle.wsn_wire.specs.Frame.{IsBytes}
 use Rattle.wsn_wire.proofs.FrameLemmas.{IsBytes-left}
 use Rattle.wsn_rules.specs.declared.detail.Detail.{Detail}
-use Rattle.wsn_rules.specs.declared.report.Report.{Report}
+use Rattle.wsn_rules.specs.declared.closing_handshake.Report.{Report}
 use Rattle.wsn_rules.specs.Limits.{Limits, InRange}
 use Rattle.wsn_rules.specs.Entries.{Entry, without_cr, AreEntries}
 use Rattle.wsn_rules.specs.Entries.Entry.{Nothing, Bytes, Mark}
-use Rattle.wsn_rules.specs.Reports.{IsReportOf}
+use Rattle.wsn_rules.specs.ClosingHandshake.{IsReportOf}
 use Rattle.wsn_rules.specs.Sides.{bytes_in, sent, has_ended}
 use Rattle.wsn_rules.specs.ShownCapture.{IsTimeAfter, LineItem, of_stream, beyond, IsShownNothing, IsShownOfEntry, ShownLine, AreShownAfter, IsTimeOfLast, LeftAtEnd, AreLeftAtEnd, IsLeftAtEnd, IsShownCapture}
 use Rattle.wsn_rules.specs.ShownCapture.LineItem.{End, Comment}

@@ -4,12 +4,13 @@ use Rattle.std.proofs.lemmas.List.{length-append}
 use Rattle.wsn_wire.specs.declared.endpoint.Role.{Role}
 use Rattle.wsn_wire.specs.declared.refusal.Reason.{Reason}
 use Rattle.wsn_wire.specs.Frame.{Frame, frame_bytes, stream, IsBytes}
-use Rattle.wsn_wire.specs.Layout.{HasLayout}
+use Rattle.wsn_wire.specs.HeadBytes.{HasLayout}
 use Rattle.wsn_wire.proofs.FrameLemmas.{IsBytes-right}
 use Rattle.wsn_rules.specs.Limits.{Limits, InRange}
 use Rattle.wsn_rules.specs.Group.{unfinished}
 use Rattle.wsn_rules.specs.Lawful.{IsLawful}
-use Rattle.wsn_rules.specs.Accepted.{HasNoClose, IsAccepted}
+use Rattle.wsn_rules.specs.AfterClose.{HasNoClose}
+use Rattle.wsn_rules.specs.Accepted.{IsAccepted}
 use Rattle.wsn_rules.specs.Verdict.{IsEvidentAt, EndsWithinFrame, IsVerdict}
 use Rattle.wsn_rules.specs.Summary.{counted}
 use Rattle.wsn_rules.specs.declared.verdict.Verdict.{Verdict}

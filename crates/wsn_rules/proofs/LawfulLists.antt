@@ -7,7 +7,8 @@ use Rattle.wsn_wire.specs.Frame.{Frame, stream}
 use Rattle.wsn_rules.specs.Limits.{Limits}
 use Rattle.wsn_rules.specs.Group.{unfinished}
 use Rattle.wsn_rules.specs.Lawful.{LawAt, IsLawful, AreLawfulAfter}
-use Rattle.wsn_rules.specs.Accepted.{HasNoClose, EndsWithClose, IsAccepted}
+use Rattle.wsn_rules.specs.AfterClose.{HasNoClose, EndsWithClose}
+use Rattle.wsn_rules.specs.Accepted.{IsAccepted}
 use Rattle.wsn_rules.proofs.Prefixes.{nil-push, nil-cons, split_push, push-append, tail_same, head_same}
 
 unfoldable pub close_or_not : (op : Op) → (op ≡ Close) ⊎ (op ≡ Close → ⊥)

@@ -8,7 +8,7 @@ use Rattle.wsn_wire.specs.declared.opcode.Op.TheVariants.{Continue, Text, Close}
 use Rattle.wsn_wire.specs.declared.refusal.Reason.{Reason}
 use Rattle.wsn_wire.specs.declared.refusal.Reason.TheVariants.{ReservedBits, ReservedOpcode, ControlNotFinal, NothingToContinue, MessageOpen, LengthTopBit, LengthNotMinimal, MessageTooBig, CloseCode, CloseReason, TextBad, TextCut, TooManyFrames}
 use Rattle.wsn_wire.specs.Frame.{Frame, opcode, frame_bytes}
-use Rattle.wsn_wire.specs.Layout.{HasLayout, opcode_field, len_form_at}
+use Rattle.wsn_wire.specs.HeadBytes.{HasLayout, opcode_field, len_form_at}
 use Rattle.wsn_wire.specs.EvidenceInHeads.{EvidentInFirst, EvidentInLength, HeadHasNoEvidence}
 use Rattle.wsn_wire.proofs.FrameLemmas.{frame_at}
 use Rattle.wsn_wire.proofs.HeadLemmas.{IsSpelledBy, frame_of_layout}
@@ -18,7 +18,8 @@ use Rattle.wsn_text.proofs.Decide.{text_decided}
 use Rattle.wsn_text.proofs.Prefixes.{begins-nil, begins_or_first_bad}
 use Rattle.wsn_rules.specs.Limits.{Limits, InRange}
 use Rattle.wsn_rules.specs.Group.{is_data, unfinished, first_op, payload_of}
-use Rattle.wsn_rules.specs.Lawful.{FrameLaw, GroupLaw, LawAt}
+use Rattle.wsn_rules.specs.FragmentLaw.{GroupLaw}
+use Rattle.wsn_rules.specs.Lawful.{FrameLaw, LawAt}
 use Rattle.wsn_rules.specs.Evidence.{EvidentByPayload, IsOfText, EndsBad, EndsInside}
 use Rattle.wsn_rules.proofs.Groups.{IsGroup}
 use Rattle.wsn_rules.proofs.RowsOfLayout.{RowAt, payload_in, reported_by}

@@ -9,7 +9,7 @@ use Rattle.wsn_wire.specs.Refusal.{IsFirstEvident}
 use Rattle.wsn_rules.specs.Limits.{Limits}
 use Rattle.wsn_rules.specs.Group.{unfinished}
 use Rattle.wsn_rules.specs.Lawful.{IsLawful}
-use Rattle.wsn_rules.specs.Accepted.{HasNoClose}
+use Rattle.wsn_rules.specs.AfterClose.{HasNoClose}
 use Rattle.wsn_rules.specs.Evidence.{Evidence}
 use Rattle.wsn_rules.specs.Verdict.{IsEvidentAt, ComesFirst, IsRefused}
 use Rattle.wsn_rules.proofs.LeastEvident.{evident_front, ShownFront}

@@ -2,7 +2,7 @@
 -- same.
 use Rattle.std.proofs.Common.{◌≡◌, ℕ, ◌-◌, ◌↔◌, None, List, [], length, map, refl, sym, ap, ◌∙◌}
 use Rattle.wsn_wire.specs.declared.endpoint.Role.{Role}
-use Rattle.wsn_wire.specs.declared.length_forms.Lengths.TheVariants as encodings
+use Rattle.wsn_wire.specs.declared.length_encoding.Lengths.TheVariants as encodings
 use Rattle.wsn_wire.specs.Frame.{Frame, stream}
 use Rattle.wsn_rules.specs.declared.verdict.Verdict.{Verdict}
 use Rattle.wsn_rules.specs.declared.verdict.Verdict.TheVariants.{Accepted}

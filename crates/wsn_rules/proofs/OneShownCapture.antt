@@ -6,13 +6,13 @@ use Rattle.wsn_wire.specs.declared.endpoint.Role.TheVariants.{Client, Server}
 use Rattle.wsn_wire.specs.Frame.{Frame, stream, wire_payload}
 use Rattle.wsn_rules.specs.declared.detail.Detail.{Detail}
 use Rattle.wsn_rules.specs.declared.head_info.HeadInfo.{HeadInfo}
-use Rattle.wsn_rules.specs.declared.report.Report.{Report}
+use Rattle.wsn_rules.specs.declared.closing_handshake.Report.{Report}
 use Rattle.wsn_rules.specs.declared.verdict.Verdict.{Verdict}
 use Rattle.wsn_rules.specs.declared.verdict.Verdict.TheVariants.{Accepted, Cut, Refused}
 use Rattle.wsn_rules.specs.Limits.{Limits}
 use Rattle.wsn_rules.specs.Entries.{Entry, without_cr}
 use Rattle.wsn_rules.specs.Entries.Entry.{Nothing, Bytes, Mark}
-use Rattle.wsn_rules.specs.Reports.{IsReportOf}
+use Rattle.wsn_rules.specs.ClosingHandshake.{IsReportOf}
 use Rattle.wsn_rules.specs.Sides.{bytes_in, sent}
 use Rattle.wsn_rules.specs.ShownCapture.{GivesTime, IsTime, IsNoTime, IsTimeAfter, LineItem, of_stream, beyond, IsShownNothing, IsShownOfEntry, ShownLine, AreShownAfter, IsTimeOfLast, LeftAtEnd, AreLeftAtEnd, IsLeftAtEnd, IsShownCapture}
 use Rattle.wsn_rules.specs.ShownCapture.LineItem.{End}

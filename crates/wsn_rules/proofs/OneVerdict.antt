@@ -3,12 +3,13 @@ use Rattle.std.proofs.Common.{◌≡◌, ℕ, List, [], ◌∷◌, ◌++◌, len
 use Rattle.wsn_wire.specs.declared.endpoint.Role.{Role}
 use Rattle.wsn_wire.specs.declared.refusal.Reason.{Reason}
 use Rattle.wsn_wire.specs.Frame.{Frame, frame_bytes, stream}
-use Rattle.wsn_wire.specs.Layout.{HasLayout}
+use Rattle.wsn_wire.specs.HeadBytes.{HasLayout}
 use Rattle.wsn_wire.proofs.FrameLemmas.{layout_of_frame, layouts_agree}
 use Rattle.wsn_rules.specs.Limits.{Limits}
 use Rattle.wsn_rules.specs.Group.{unfinished}
 use Rattle.wsn_rules.specs.Lawful.{IsLawful}
-use Rattle.wsn_rules.specs.Accepted.{HasNoClose, EndsWithClose, IsAccepted, Ends}
+use Rattle.wsn_rules.specs.AfterClose.{HasNoClose, EndsWithClose, Ends}
+use Rattle.wsn_rules.specs.Accepted.{IsAccepted}
 use Rattle.wsn_rules.specs.Meaning.{meaning, events_after}
 use Rattle.wsn_rules.specs.Evidence.{Evidence}
 use Rattle.wsn_wire.specs.Refusal.{number_of}

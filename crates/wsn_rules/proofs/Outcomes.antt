@@ -1,11 +1,11 @@
 -- What became of two streams has an outcome, which computes.
 use Rattle.std.proofs.Common.{◌≡◌, ℕ, zero, suc, ◌+◌, ◌≤◌, ◌⊎◌, Bool, true, false, inl, inr, refl, sym, ap, ◌∙◌, subst, arith}
 use Rattle.std.proofs.lemmas.Bool.{cases_eq}
-use Rattle.wsn_rules.specs.declared.report.Side.{Side}
-use Rattle.wsn_rules.specs.declared.report.Side.TheVariants.{Closed, Refused, Ended, Cut, Running}
-use Rattle.wsn_rules.specs.declared.report.Outcome.{Outcome}
-use Rattle.wsn_rules.specs.declared.report.Outcome.TheVariants.{Failed, Clean, Complete, Abnormal, Half, Live}
-use Rattle.wsn_rules.specs.Reports.{IsRefusedSide, IsClosedSide, IsEndedEarly, OutcomeFits, outcome_order, IsOutcome}
+use Rattle.wsn_rules.specs.declared.closing_handshake.Side.{Side}
+use Rattle.wsn_rules.specs.declared.closing_handshake.Side.TheVariants.{Closed, Refused, Ended, Cut, Running}
+use Rattle.wsn_rules.specs.declared.closing_handshake.Outcome.{Outcome}
+use Rattle.wsn_rules.specs.declared.closing_handshake.Outcome.TheVariants.{Failed, Clean, Complete, Abnormal, Half, Live}
+use Rattle.wsn_rules.specs.ClosingHandshake.{IsRefusedSide, IsClosedSide, IsEndedEarly, OutcomeFits, outcome_order, IsOutcome}
 
 abbrev pub outcome_at : ℕ → Outcome
 outcome_at zero = Failed

@@ -14,7 +14,7 @@ use Rattle.wsn_rules.specs.declared.verdict.Refusal.{Refusal}
 use Rattle.wsn_rules.specs.declared.verdict.Verdict.{Verdict}
 use Rattle.wsn_rules.specs.declared.verdict.Verdict.TheVariants.{Accepted, Cut, Refused}
 use Rattle.wsn_rules.specs.Limits.{Limits}
-use Rattle.wsn_rules.specs.Accepted.{HasNoClose, EndsWithClose}
+use Rattle.wsn_rules.specs.AfterClose.{HasNoClose, EndsWithClose}
 use Rattle.wsn_rules.specs.Group.{is_data, unfinished, kind_of, payload_of}
 use Rattle.wsn_rules.specs.Heads.{BeginsWithHead}
 use Rattle.wsn_rules.specs.Lawful.{IsLawful, AreLawfulAfter}

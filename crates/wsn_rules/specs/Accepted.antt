@@ -1,25 +1,10 @@
 -- Accepted streams. RFC 6455 sections 5.4, 5.5.1 and 7.1.
-use Rattle.std.specs.Prelude.{◌≡◌, ℕ, ◌⊎◌, List, [], ◌∷◌, ◌++◌}
+use Rattle.std.specs.Prelude.{ℕ, List}
 use Rattle.wsn_wire.specs.declared.endpoint.Role.{Role}
-use Rattle.wsn_wire.specs.declared.opcode.Op.TheVariants.{Close}
-use Rattle.wsn_wire.specs.Frame.{Frame, stream}
+use Rattle.wsn_wire.specs.Frame.{Frame}
 use Rattle.wsn_rules.specs.Limits.{Limits}
-use Rattle.wsn_rules.specs.Group.{unfinished}
 use Rattle.wsn_rules.specs.Lawful.{IsLawful}
-
--- No frame is a Close.
-abbrev pub HasNoClose : List Frame → Type 0
-HasNoClose fs = (before after : List Frame) (f : Frame) → fs ≡ before ++ f ∷ after → f.op ≡ Close → ⊥
-
--- The last frame is a Close.
-abbrev pub EndsWithClose : List Frame → Type 0
-EndsWithClose fs = (before : List Frame) × (close : Frame) × (close.op ≡ Close) × (fs ≡ before ++ close ∷ [])
-
--- Without a Close, no message is open and the bytes are just the frames; with a Close, any tail may follow.
-abbrev pub Ends : List Frame → List ℕ → Type 0
-Ends fs bytes =
-    (HasNoClose fs × (unfinished fs ≡ []) × (bytes ≡ stream fs))
-    ⊎ (EndsWithClose fs × ((tail : List ℕ) × (bytes ≡ stream fs ++ tail)))
+use Rattle.wsn_rules.specs.AfterClose.{Ends}
 
 -- The bytes begin with these frames, which are lawful, and the stream may end there.
 pub record IsAccepted (role : Role) (limits : Limits) (bytes : List ℕ) (fs : List Frame) : Type 0 where

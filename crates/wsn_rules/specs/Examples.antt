@@ -2,7 +2,7 @@
 use Rattle.std.specs.Prelude.{◌≡◌, ℕ, Option, None, List}
 use Rattle.wsn_wire.specs.declared.endpoint.Role.{Role}
 use Rattle.wsn_wire.specs.declared.refusal.Reason.{Reason}
-use Rattle.wsn_wire.specs.declared.length_forms.Lengths.TheVariants.{Shortest}
+use Rattle.wsn_wire.specs.declared.length_encoding.Lengths.TheVariants.{Shortest}
 use Rattle.wsn_wire.specs.Frame.{Frame}
 use Rattle.wsn_rules.specs.declared.verdict.Verdict.{Verdict, TheVariants.{Accepted, Cut, Refused}}
 use Rattle.wsn_rules.specs.Limits.{Limits}

@@ -3,10 +3,10 @@ use Rattle.std.specs.Prelude.{◌≡◌, ◌≢◌, ℕ, ◌+◌, ◌-◌, ◌�
 use Rattle.std.specs.Option.{ForSome}
 use Rattle.wsn_wire.specs.declared.endpoint.Role.{Role, TheVariants.{Client}}
 use Rattle.wsn_wire.specs.declared.opcode.Kind.{Kind}
-use Rattle.wsn_wire.specs.declared.length_forms.Form.{Form}
-use Rattle.wsn_wire.specs.declared.length_forms.Form.TheVariants as form
-use Rattle.wsn_wire.specs.declared.length_forms.Lengths.{Lengths}
-use Rattle.wsn_wire.specs.declared.length_forms.Lengths.TheVariants as encodings
+use Rattle.wsn_wire.specs.declared.length_encoding.Form.{Form}
+use Rattle.wsn_wire.specs.declared.length_encoding.Form.TheVariants as form
+use Rattle.wsn_wire.specs.declared.length_encoding.Lengths.{Lengths}
+use Rattle.wsn_wire.specs.declared.length_encoding.Lengths.TheVariants as encodings
 use Rattle.wsn_wire.specs.Frame.{FormFits}
 use Rattle.wsn_rules.specs.declared.step.Step.{Step, TheVariants.{Piece, Last, Control}}
 use Rattle.wsn_rules.specs.Limits.{Limits}

@@ -6,7 +6,7 @@ use Rattle.wsn_rules.specs.declared.head_info.HeadInfo.{HeadInfo}
 use Rattle.wsn_rules.specs.Limits.{Limits}
 use Rattle.wsn_rules.specs.Group.{unfinished}
 use Rattle.wsn_rules.specs.Lawful.{IsLawful}
-use Rattle.wsn_rules.specs.Accepted.{HasNoClose, EndsWithClose}
+use Rattle.wsn_rules.specs.AfterClose.{HasNoClose, EndsWithClose}
 use Rattle.wsn_rules.specs.Evidence.{HasNoEvidence}
 
 -- The head of a frame at this offset.

@@ -1,13 +1,12 @@
--- Lawful lists of frames. RFC 6455 sections 5.4, 5.5.1, 5.6 and 8.1.
-use Rattle.std.specs.Prelude.{◌≡◌, ◌≢◌, ◌≤◌, ◌↔◌, true, List, [], ◌∷◌, ◌++◌, length, ⊤}
-use Rattle.std.specs.Option.{ForSome}
+-- Lawful lists of frames. RFC 6455 sections 5.1, 5.2, 5.5.1 and 7.4.
+use Rattle.std.specs.Prelude.{◌≡◌, true, List, [], ◌∷◌, ◌++◌, ⊤}
 use Rattle.wsn_wire.specs.declared.endpoint.Role.{Role}
-use Rattle.wsn_wire.specs.declared.opcode.Op.TheVariants.{Continue, Text, Close}
+use Rattle.wsn_wire.specs.declared.opcode.Op.TheVariants.{Close}
 use Rattle.wsn_wire.specs.Frame.{Frame}
-use Rattle.wsn_text.specs.Utf8.{IsText, BeginsText}
 use Rattle.wsn_rules.specs.Limits.{Limits}
-use Rattle.wsn_rules.specs.Group.{is_data, unfinished, first_op, payload_of}
-use Rattle.wsn_wire.specs.declared.length_forms.Lengths.{Lengths}
+use Rattle.wsn_rules.specs.Group.{is_data, unfinished}
+use Rattle.wsn_rules.specs.FragmentLaw.{GroupLaw}
+use Rattle.wsn_wire.specs.declared.length_encoding.Lengths.{Lengths}
 use Rattle.wsn_wire.specs.HeadLaw.{IsEncodedFor}
 use Rattle.wsn_text.specs.CloseBody.{IsCloseBody}
 
@@ -17,16 +16,6 @@ pub record FrameLaw (role : Role) (lengths : Lengths) (f : Frame) : Type 0 where
   pub encoded : IsEncodedFor role lengths f
   -- [7.4] The body of a Close is empty, or an accepted code and a reason.
   pub close : f.op ≡ Close → IsCloseBody f.payload
-
--- The rules for a group whose last frame is f; `earlier` is the group's frames before f.
-pub record GroupLaw (limits : Limits) (earlier : List Frame) (f : Frame) : Type 0 where
-  -- [5.4] A group begins with Text or Binary and continues with Continue.
-  pub continues : (f.op ≡ Continue) ↔ (earlier ≢ [])
-  pub size : length (payload_of (earlier ++ f ∷ [])) ≤ limits.message
-  pub count : ForSome limits.frames (λ most. length (earlier ++ f ∷ []) ≤ most)
-  -- [5.6, 8.1] The text is UTF-8 as a whole, and begins UTF-8 at the end of each fragment.
-  pub begins : first_op (earlier ++ f ∷ []) ≡ Text → BeginsText (payload_of (earlier ++ f ∷ []))
-  pub text : first_op (earlier ++ f ∷ []) ≡ Text → f.fin ≡ true → IsText (payload_of (earlier ++ f ∷ []))
 
 -- The frame f is lawful after the frames `before`.
 pub record LawAt (role : Role) (limits : Limits) (before : List Frame) (f : Frame) : Type 0 where

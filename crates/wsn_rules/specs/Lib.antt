@@ -3,6 +3,7 @@
 -- a stream that may be sent
 pub mod Limits
 pub mod Group
+pub mod FragmentLaw
 pub mod Lawful
 -- the meaning of a stream
 pub mod Meaning
@@ -10,6 +11,7 @@ pub mod LawfulEvents
 pub mod NormalForm
 pub mod LeftOut
 -- the verdict on a stream
+pub mod AfterClose
 pub mod Accepted
 pub mod Evidence
 pub mod Summary
@@ -30,7 +32,7 @@ pub mod UniformFrames
 pub mod TextLines
 pub mod Entries
 pub mod Sides
-pub mod Reports
+pub mod ClosingHandshake
 -- what is shown of a stream, and of a capture
 pub mod BadCharacter
 pub mod ShownStream

@@ -1,7 +1,7 @@
 -- The limits under which a stream is read.
 use Rattle.std.specs.Prelude.{ℕ, ◌^◌, ◌<◌, ◌≤◌, Option}
 use Rattle.std.specs.Option.{ForSome}
-use Rattle.wsn_wire.specs.declared.length_forms.Lengths.{Lengths}
+use Rattle.wsn_wire.specs.declared.length_encoding.Lengths.{Lengths}
 
 -- The maximum number of bytes in a message, of bytes in an input, and of frames in a message (none: any number), and
 -- which encodings of a length are accepted.

@@ -1,7 +1,7 @@
 -- Plans: how events are split into frames, one step for each frame. RFC 6455 sections 5.3 and 5.4.
 use Rattle.std.specs.Prelude.{ℕ, Bool, true, false, Option, None, Some, List, [], ◌∷◌, ◌++◌, length, filter, map, drop, sum, IfSome}
 use Rattle.std.specs.List.{AllByRecursion, fold}
-use Rattle.wsn_wire.specs.declared.length_forms.Form.{Form, TheVariants.{Shortest}}
+use Rattle.wsn_wire.specs.declared.length_encoding.Form.{Form, TheVariants.{Shortest}}
 use Rattle.wsn_wire.specs.Frame.{IsKey}
 use Rattle.wsn_rules.specs.declared.step.Step.{Step, TheVariants.{Piece, Last, Control}}
 use Rattle.wsn_rules.specs.Meaning.{MeantEvent}

@@ -2,8 +2,8 @@
 use Rattle.std.specs.Prelude.{◌≡◌, ℕ, Option, None, Some, List, [], ◌∷◌, Bool}
 use Rattle.wsn_wire.specs.declared.endpoint.Role.{Role}
 use Rattle.wsn_wire.specs.declared.opcode.Kind.TheVariants.{Text}
-use Rattle.wsn_wire.specs.declared.length_forms.Form.TheVariants.{Shortest}
-use Rattle.wsn_wire.specs.declared.length_forms.Lengths.TheVariants.{Any}
+use Rattle.wsn_wire.specs.declared.length_encoding.Form.TheVariants.{Shortest}
+use Rattle.wsn_wire.specs.declared.length_encoding.Lengths.TheVariants.{Any}
 use Rattle.wsn_wire.specs.Frame.{Frame}
 use Rattle.wsn_rules.specs.declared.step.Step.{Step, TheVariants.{Piece, Last, Control}}
 use Rattle.wsn_rules.specs.Limits.{Limits}

@@ -7,7 +7,7 @@ use Rattle.wsn_rules.specs.declared.verdict.Verdict.{Verdict}
 use Rattle.wsn_rules.specs.declared.verdict.Verdict.TheVariants as verdicts
 use Rattle.wsn_rules.specs.Limits.{Limits}
 use Rattle.wsn_rules.specs.Verdict.{IsVerdict}
-use Rattle.wsn_rules.specs.declared.report.Side.{Side, TheVariants.{Closed, Refused, Ended, Cut, Running}}
+use Rattle.wsn_rules.specs.declared.closing_handshake.Side.{Side, TheVariants.{Closed, Refused, Ended, Cut, Running}}
 use Rattle.wsn_rules.specs.Entries.{Entry}
 use Rattle.wsn_rules.specs.Entries.Entry.{Bytes, Mark}
 

@@ -3,13 +3,14 @@ use Rattle.std.specs.Prelude.{◌≡◌, ◌≢◌, ℕ, ◌+◌, ◌-◌, ◌<�
 use Rattle.wsn_wire.specs.declared.endpoint.Role.{Role}
 use Rattle.wsn_wire.specs.declared.refusal.Reason.{Reason}
 use Rattle.wsn_wire.specs.Frame.{Frame, stream}
-use Rattle.wsn_wire.specs.Layout.{HasLayout}
+use Rattle.wsn_wire.specs.HeadBytes.{HasLayout}
 use Rattle.wsn_wire.specs.Refusal.{number_of}
 use Rattle.wsn_rules.specs.declared.verdict.Verdict.{Verdict, TheVariants.{Accepted, Cut, Refused}}
 use Rattle.wsn_rules.specs.Limits.{Limits}
 use Rattle.wsn_rules.specs.Group.{unfinished, IsOpen}
 use Rattle.wsn_rules.specs.Lawful.{IsLawful}
-use Rattle.wsn_rules.specs.Accepted.{IsAccepted, HasNoClose}
+use Rattle.wsn_rules.specs.AfterClose.{HasNoClose}
+use Rattle.wsn_rules.specs.Accepted.{IsAccepted}
 use Rattle.wsn_rules.specs.Evidence.{Evidence}
 use Rattle.wsn_rules.specs.Summary.{counted}
 

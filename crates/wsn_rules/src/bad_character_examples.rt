@@ -2,7 +2,7 @@
 
 ghost use Rattle.std.specs.Prelude.{◌≡◌, true, false, None, Some, [], ◌∷◌, ◌++◌, codes};
 ghost use Rattle.wsn_wire.specs.declared.opcode.Op.TheVariants.{Continue, Text, Ping};
-ghost use Rattle.wsn_wire.specs.declared.length_forms.Form.TheVariants.{Shortest};
+ghost use Rattle.wsn_wire.specs.declared.length_encoding.Form.TheVariants.{Shortest};
 ghost use Rattle.wsn_wire.specs.declared.refusal.Reason.TheVariants.{TextBad, TextCut, CloseReason};
 ghost use Rattle.wsn_rules.specs.BadCharacter.{placed, open_payload, message_payload, earlier_end, bad_character, character_of};
 ghost use Rattle.wsn_rules.specs.PlanExamples.{server_frame};

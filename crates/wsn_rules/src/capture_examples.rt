@@ -7,13 +7,13 @@ ghost use Rattle.wsn_wire.specs.declared.refusal.Reason.TheVariants.{ReservedBit
 ghost use Rattle.wsn_rules.specs.declared.verdict.Refusal.{Refusal};
 ghost use Rattle.wsn_rules.specs.declared.verdict.Summary.{Summary};
 ghost use Rattle.wsn_rules.specs.declared.verdict.Verdict.TheVariants as verdicts;
-ghost use Rattle.wsn_rules.specs.declared.report.Side.{Side};
-ghost use Rattle.wsn_rules.specs.declared.report.Side.TheVariants.{Closed, Refused, Ended, Cut, Running};
-ghost use Rattle.wsn_rules.specs.declared.report.Outcome.TheVariants.{Failed, Clean, Complete, Abnormal, Half, Live};
+ghost use Rattle.wsn_rules.specs.declared.closing_handshake.Side.{Side};
+ghost use Rattle.wsn_rules.specs.declared.closing_handshake.Side.TheVariants.{Closed, Refused, Ended, Cut, Running};
+ghost use Rattle.wsn_rules.specs.declared.closing_handshake.Outcome.TheVariants.{Failed, Clean, Complete, Abnormal, Half, Live};
 ghost use Rattle.wsn_rules.specs.TextLines.{AreLines};
 ghost use Rattle.wsn_rules.specs.Entries.{IsEntry, Nothing, Bytes, Mark};
 ghost use Rattle.wsn_rules.specs.Sides.{sent, has_ended, side_of};
-ghost use Rattle.wsn_rules.specs.Reports.{echo_of, seen_of, IsOutcome, IsReport};
+ghost use Rattle.wsn_rules.specs.ClosingHandshake.{echo_of, seen_of, IsOutcome, IsReport};
 ghost use Rattle.wsn_rules.specs.Examples.{greatest};
 
 /// The lines of texts: each ends with LF, and the last one may lack it.

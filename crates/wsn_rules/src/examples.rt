@@ -3,7 +3,7 @@
 
 ghost use Rattle.std.specs.Prelude.{None, Some, [], ◌∷◌};
 ghost use Rattle.wsn_wire.specs.declared.endpoint.Role.TheVariants.{Client, Server};
-ghost use Rattle.wsn_wire.specs.declared.length_forms.Lengths.TheVariants.{Any};
+ghost use Rattle.wsn_wire.specs.declared.length_encoding.Lengths.TheVariants.{Any};
 ghost use Rattle.wsn_wire.specs.declared.refusal.Reason.TheVariants.{CloseCode, CloseOneByte, CloseReason, ControlNotFinal, ControlTooLong, LengthNotMinimal, LengthTopBit, MaskMissing, MaskPresent, MessageOpen, MessageTooBig, NothingToContinue, ReservedBits, ReservedOpcode, TextBad, TextCut, TooManyFrames};
 ghost use Rattle.wsn_rules.specs.Examples.{Judged, greatest, RefusedAt, CutAt, AcceptedTo};
 

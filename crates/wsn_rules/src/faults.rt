@@ -4,7 +4,7 @@
 ghost use Rattle.std.specs.Prelude.{◌≡◌, ◌≢◌, ℕ, ◌+◌, ◌≤◌, Some, None, ◌⊎◌, Option, List, [], ◌∷◌, ◌++◌, length, drop};
 ghost use Rattle.std.specs.Option.{ForSome};
 ghost use Rattle.wsn_wire.specs.declared.endpoint.Role.{Role};
-ghost use Rattle.wsn_wire.specs.declared.length_forms.Form.{Form};
+ghost use Rattle.wsn_wire.specs.declared.length_encoding.Form.{Form};
 ghost use Rattle.wsn_rules.specs.declared.step.Step.{Step};
 ghost use Rattle.wsn_rules.specs.declared.why.Why.{Why};
 ghost use Rattle.wsn_rules.specs.Limits.{Limits, InRange};

@@ -1,5 +1,5 @@
 ghost use Rattle.std.specs.Prelude.{◌≡◌, ℕ, ◌^◌, ◌<◌, ◌≤◌, ◌↔◌, None, Some, IsSome, IfSome, IfNone};
-ghost use Rattle.wsn_wire.specs.declared.length_forms.Lengths.TheVariants.{Shortest};
+ghost use Rattle.wsn_wire.specs.declared.length_encoding.Lengths.TheVariants.{Shortest};
 
 use std::marker::Model;
 use wsn_wire::Lengths;

@@ -9,7 +9,7 @@ ghost use Rattle.wsn_text.specs.Utf8.{BeginsText};
 ghost use Rattle.wsn_rules.specs.Limits.{Limits};
 ghost use Rattle.wsn_rules.specs.Group.{is_data, unfinished, first_op, payload_of};
 ghost use Rattle.wsn_rules.specs.Lawful.{LawAt, IsLawful, AreLawfulAfter};
-ghost use Rattle.wsn_rules.specs.Accepted.{HasNoClose, EndsWithClose};
+ghost use Rattle.wsn_rules.specs.AfterClose.{HasNoClose, EndsWithClose};
 ghost use Rattle.wsn_rules.specs.Meaning.{event_at, events_after, meaning};
 ghost use Rattle.wsn_wire.specs.declared.opcode.Op.TheVariants.{Text, Binary, Close};
 

@@ -2,7 +2,7 @@
 
 ghost use Rattle.std.specs.Prelude.{◌≡◌, None, Some, [], ◌∷◌, ◌++◌, replicate};
 ghost use Rattle.wsn_wire.specs.declared.endpoint.Role.TheVariants.{Client, Server};
-ghost use Rattle.wsn_wire.specs.declared.length_forms.Form.TheVariants.{Shortest, Two, Eight};
+ghost use Rattle.wsn_wire.specs.declared.length_encoding.Form.TheVariants.{Shortest, Two, Eight};
 ghost use Rattle.wsn_rules.specs.declared.step.Step.TheVariants.{Piece, Last, Control};
 ghost use Rattle.wsn_rules.specs.Recut.{recut_bytes, normal_plan};
 ghost use Rattle.wsn_rules.specs.Examples.{greatest};

@@ -5,7 +5,7 @@ ghost use Rattle.std.specs.Prelude.{◌≡◌, ℕ, ◌+◌, ◌-◌, ◌≤◌,
 ghost use Rattle.wsn_wire.specs.declared.endpoint.Role.{Role};
 ghost use Rattle.wsn_wire.specs.declared.opcode.Op.{Op};
 ghost use Rattle.wsn_wire.specs.declared.opcode.Kind.{Kind};
-ghost use Rattle.wsn_wire.specs.declared.length_forms.Form.{Form};
+ghost use Rattle.wsn_wire.specs.declared.length_encoding.Form.{Form};
 ghost use Rattle.wsn_wire.specs.Frame.{Frame, frame_bytes, head_bytes, wire_payload};
 ghost use Rattle.wsn_rules.specs.declared.step.Step.{Step};
 ghost use Rattle.wsn_rules.specs.Limits.{Limits};
@@ -14,7 +14,7 @@ ghost use Rattle.wsn_rules.specs.NormalForm.{op_of};
 ghost use Rattle.wsn_rules.specs.WalkedPlan.{HasWalked};
 ghost use Rattle.wsn_rules.specs.Recut.{next_message, op_after, step_frame, recut, recut_bytes, step_of, plan_of};
 ghost use Rattle.wsn_wire.specs.declared.opcode.Op.TheVariants.{Continue};
-ghost use Rattle.wsn_wire.specs.declared.length_forms.Form.TheVariants.{Shortest};
+ghost use Rattle.wsn_wire.specs.declared.length_encoding.Form.TheVariants.{Shortest};
 ghost use Rattle.wsn_rules.specs.declared.step.Step.TheVariants.{Piece, Last, Control};
 ghost use Rattle.wsn_rules.specs.Meaning as meant;
 

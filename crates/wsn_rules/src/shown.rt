@@ -15,12 +15,12 @@ ghost use Rattle.wsn_rules.specs.declared.without.Without.{Without};
 ghost use Rattle.wsn_rules.specs.Entries.{Entry, AreEntries};
 ghost use Rattle.wsn_rules.specs.Heads.{AreHeads};
 ghost use Rattle.wsn_rules.specs.LeftOut.{events_without};
-ghost use Rattle.wsn_rules.specs.Reports.{IsReportOf};
+ghost use Rattle.wsn_rules.specs.ClosingHandshake.{IsReportOf};
 ghost use Rattle.wsn_rules.specs.Sides.{sent};
 ghost use Rattle.wsn_rules.specs.ShownStream.{Item, Shown, shown_after, IsShownStream, IsLeftOver, events_shown, heads_shown};
 ghost use Rattle.wsn_rules.specs.ShownOffsets.{AreInPlace, AreHeadsInPlace};
 ghost use Rattle.wsn_rules.specs.ShownEvents.{IsShownAt, ShowsEvent};
-ghost use Rattle.wsn_rules.specs.declared.report.Report.{Report};
+ghost use Rattle.wsn_rules.specs.declared.closing_handshake.Report.{Report};
 ghost use Rattle.wsn_rules.specs.ShownCapture.{beyond, ShownLine, IsTimeAfter, AreShownAfter, items_with_bytes, IsTimeOfLast, LeftAtEnd, IsShownCapture};
 
 /// One list of items is shown of a stream in each detail. Its events are the meaning of the stream's frames, in order;

@@ -4,7 +4,7 @@ ghost use Rattle.std.specs.Prelude.{◌≡◌, true, false, None, Some, [], ◌�
 ghost use Rattle.wsn_wire.specs.declared.endpoint.Role.TheVariants.{Client, Server};
 ghost use Rattle.wsn_wire.specs.declared.opcode.Op.TheVariants.{Close, Ping, Pong};
 ghost use Rattle.wsn_wire.specs.declared.opcode.Kind.TheVariants as kind;
-ghost use Rattle.wsn_wire.specs.declared.length_forms.Lengths.TheVariants.{Any};
+ghost use Rattle.wsn_wire.specs.declared.length_encoding.Lengths.TheVariants.{Any};
 ghost use Rattle.wsn_rules.specs.Meaning.{Message, Control};
 ghost use Rattle.wsn_rules.specs.LeftOut.{events_without};
 ghost use Rattle.wsn_rules.specs.Examples.{Judged, Means, greatest, CutAt, AcceptedTo, Counts};

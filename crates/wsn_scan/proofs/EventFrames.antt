@@ -8,8 +8,8 @@ use Rattle.wsn_wire.specs.declared.endpoint.Role.{Role}
 use Rattle.wsn_wire.specs.declared.endpoint.Role.TheVariants.{Client, Server}
 use Rattle.wsn_wire.specs.declared.opcode.Op.{Op}
 use Rattle.wsn_wire.specs.declared.opcode.Op.TheVariants.{Continue, Text, Binary, Close, Ping, Pong}
-use Rattle.wsn_wire.specs.declared.length_forms.Form.{Form}
-use Rattle.wsn_wire.specs.declared.length_forms.Form.TheVariants.{Shortest}
+use Rattle.wsn_wire.specs.declared.length_encoding.Form.{Form}
+use Rattle.wsn_wire.specs.declared.length_encoding.Form.TheVariants.{Shortest}
 use Rattle.wsn_wire.specs.Frame.{Frame, IsBytes, IsKey, is_control, first_byte, second_byte, len_form_of, length_bytes, head_bytes, key_bytes, wire_payload, frame_bytes}
 use Rattle.wsn_wire.proofs.MaskLemmas.{masked-zero}
 use Rattle.wsn_frame.specs.declared.heads.Head.{Head}

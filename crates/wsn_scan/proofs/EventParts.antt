@@ -3,7 +3,7 @@ use Rattle.std.proofs.Common.{◌≡◌, ℕ, ◌+◌, ◌-◌, ◌<◌, ◌≤�
 use Rattle.std.proofs.lemmas.List.{length-take-le}
 use Rattle.std.proofs.Math.Seq.{drop-append-add}
 use Rattle.wsn_wire.specs.declared.endpoint.Role.{Role}
-use Rattle.wsn_wire.specs.declared.length_forms.Form.TheVariants.{Shortest}
+use Rattle.wsn_wire.specs.declared.length_encoding.Form.TheVariants.{Shortest}
 use Rattle.wsn_wire.specs.declared.opcode.Kind.{Kind}
 use Rattle.wsn_wire.specs.declared.opcode.Op.{Op}
 use Rattle.wsn_wire.specs.Frame.{Frame, IsBytes, opcode, first_byte, frame_bytes, head_bytes, stream}

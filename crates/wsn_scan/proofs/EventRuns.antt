@@ -8,12 +8,12 @@ use Rattle.wsn_wire.specs.declared.opcode.Op.TheVariants.{Close}
 use Rattle.wsn_wire.specs.Frame.{Frame, IsBytes, is_control, frame_bytes, stream}
 use Rattle.wsn_wire.proofs.FrameLemmas.{IsBytes-append}
 use Rattle.wsn_frame.specs.declared.counts.Counts.{Counts}
-use Rattle.wsn_frame.specs.declared.open_message.OpenMessage.{OpenMessage}
+use Rattle.wsn_frame.specs.declared.kept_message.OpenMessage.{OpenMessage}
 use Rattle.wsn_frame.specs.Counts.{AreCounts}
-use Rattle.wsn_frame.specs.OpenMessages.{IsOpenMessage}
+use Rattle.wsn_frame.specs.KeptMessages.{IsOpenMessage}
 use Rattle.wsn_rules.specs.Limits.{Limits}
 use Rattle.wsn_rules.specs.Group.{unfinished}
-use Rattle.wsn_rules.specs.Accepted.{HasNoClose}
+use Rattle.wsn_rules.specs.AfterClose.{HasNoClose}
 use Rattle.wsn_rules.specs.Meaning.{MeantEvent, event_at, meaning}
 use Rattle.wsn_rules.specs.NormalForm.{normal_frame, normal_form}
 use Rattle.wsn_rules.proofs.Groups.{meaning_push, unfinished_control, unfinished_final}

@@ -6,14 +6,14 @@ use Rattle.std.proofs.lemmas.List.{length-take, length-take-le, take_all}
 use Rattle.wsn_wire.specs.declared.endpoint.Role.{Role}
 use Rattle.wsn_wire.specs.declared.opcode.Op.TheVariants.{Text}
 use Rattle.wsn_wire.specs.Frame.{Frame, first_byte, head_bytes, frame_bytes, is_control, opcode, wire_payload, stream}
-use Rattle.wsn_wire.specs.Layout.{opcode_field}
+use Rattle.wsn_wire.specs.HeadBytes.{opcode_field}
 use Rattle.wsn_wire.proofs.FrameLemmas.{first_byte_fields, length-wire_payload}
 use Rattle.wsn_text.specs.Utf8.{BeginsText}
 use Rattle.wsn_rules.specs.declared.head_info.HeadInfo.{HeadInfo}
 use Rattle.wsn_rules.specs.declared.verdict.Refusal.{Refusal}
 use Rattle.wsn_rules.specs.declared.verdict.Verdict.{Verdict}
 use Rattle.wsn_rules.specs.Limits.{Limits}
-use Rattle.wsn_rules.specs.Accepted.{HasNoClose, EndsWithClose}
+use Rattle.wsn_rules.specs.AfterClose.{HasNoClose, EndsWithClose}
 use Rattle.wsn_rules.specs.Evidence.{IsOfText, HasNoEvidence}
 use Rattle.wsn_rules.specs.Group.{unfinished, first_op, payload_of}
 use Rattle.wsn_rules.specs.BadCharacter.{payload_offset}

@@ -5,9 +5,9 @@ use Rattle.wsn_wire.specs.declared.endpoint.Role.{Role}
 use Rattle.wsn_wire.specs.declared.opcode.Op.{Op}
 use Rattle.wsn_wire.specs.declared.opcode.Op.TheVariants.{Close}
 use Rattle.wsn_wire.specs.declared.refusal.Reason.{Reason}
-use Rattle.wsn_wire.specs.declared.length_forms.LenForm.{LenForm}
+use Rattle.wsn_wire.specs.declared.length_encoding.LenForm.{LenForm}
 use Rattle.wsn_wire.specs.Frame.{Frame, IsBytes, is_control, first_byte, key_bytes, masked, frame_bytes, stream}
-use Rattle.wsn_wire.specs.Layout.{HasLayout, mask_bit, opcode_field, length_count, encoded_length}
+use Rattle.wsn_wire.specs.HeadBytes.{HasLayout, mask_bit, opcode_field, length_count, encoded_length}
 use Rattle.wsn_wire.proofs.FrameLemmas.{first_byte_fields, op_at, op_at-opcode, key_at, key_at-key_bytes, form_at, key_bytes_count, IsBytes-right, frame_at, frame_bytes_determine}
 use Rattle.wsn_wire.proofs.HeadLemmas.{frame_of_layout, close_from_opcode}
 use Rattle.wsn_frame.specs.declared.heads.Head.{Head}
@@ -16,9 +16,9 @@ use Rattle.wsn_scan.specs.declared.scan.Scan.{Scan}
 use Rattle.wsn_rules.specs.Limits.{Limits, InRange}
 use Rattle.wsn_rules.specs.Group.{is_data, with_frame, unfinished, payload_of, first_op}
 use Rattle.wsn_rules.specs.Lawful.{LawAt, IsLawful}
-use Rattle.wsn_rules.specs.Accepted.{HasNoClose, EndsWithClose}
+use Rattle.wsn_rules.specs.AfterClose.{HasNoClose, EndsWithClose}
 use Rattle.wsn_rules.specs.Summary.{is_close, close_code, close_of}
-use Rattle.wsn_frame.specs.OpenMessages.{IsOpenMessage, group_after}
+use Rattle.wsn_frame.specs.KeptMessages.{IsOpenMessage, group_after}
 use Rattle.wsn_frame.specs.PayloadChecks.{HasChecked}
 use Rattle.wsn_frame.specs.Counts.{AreCounts}
 use Rattle.wsn_frame.specs.Payloads.{unmasked_by, HoldsPayload}

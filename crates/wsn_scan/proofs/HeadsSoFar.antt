@@ -11,7 +11,7 @@ use Rattle.wsn_rules.specs.Group.{unfinished}
 use Rattle.wsn_rules.specs.Evidence.{HasNoEvidence}
 use Rattle.wsn_frame.specs.PartialHeads.{info_at}
 use Rattle.wsn_rules.specs.Lawful.{IsLawful}
-use Rattle.wsn_rules.specs.Accepted.{HasNoClose}
+use Rattle.wsn_rules.specs.AfterClose.{HasNoClose}
 use Rattle.wsn_rules.specs.Heads.{heads_of, BeginsWithHead, AreHeads}
 use Rattle.wsn_scan.specs.Scans.{IsAt, HasScanned}
 use Rattle.wsn_scan.specs.Positions.{Position, BetweenFrames, begun_at}

@@ -4,12 +4,12 @@ use Rattle.wsn_wire.specs.declared.endpoint.Role.{Role}
 use Rattle.wsn_wire.specs.Frame.{Frame, IsBytes, stream}
 use Rattle.wsn_wire.proofs.FrameLemmas.{IsBytes-append}
 use Rattle.wsn_scan.specs.declared.scan.Scan.{Scan}
-use Rattle.wsn_frame.specs.declared.open_message.OpenMessage.{OpenMessage}
+use Rattle.wsn_frame.specs.declared.kept_message.OpenMessage.{OpenMessage}
 use Rattle.wsn_frame.specs.declared.counts.Counts.{Counts}
-use Rattle.wsn_frame.specs.declared.frame_context.FrameContext.{FrameContext}
+use Rattle.wsn_frame.specs.declared.fragment_law.FrameContext.{FrameContext}
 use Rattle.wsn_rules.specs.Limits.{Limits}
 use Rattle.wsn_rules.specs.Group.{unfinished}
-use Rattle.wsn_frame.specs.OpenMessages.{IsOpenMessage}
+use Rattle.wsn_frame.specs.KeptMessages.{IsOpenMessage}
 use Rattle.wsn_frame.specs.Counts.{AreCounts}
 use Rattle.wsn_scan.specs.Scans.{HasConsumed}
 

@@ -7,7 +7,7 @@ use Rattle.wsn_rules.specs.declared.head_info.HeadInfo.{HeadInfo}
 use Rattle.wsn_rules.specs.declared.verdict.Refusal.{Refusal}
 use Rattle.wsn_rules.specs.Limits.{Limits}
 use Rattle.wsn_rules.specs.Lawful.{IsLawful}
-use Rattle.wsn_rules.specs.Accepted.{HasNoClose, EndsWithClose}
+use Rattle.wsn_rules.specs.AfterClose.{HasNoClose, EndsWithClose}
 use Rattle.wsn_scan.specs.declared.part.Part.{Part}
 use Rattle.wsn_scan.specs.declared.part.Taken.{Taken}
 use Rattle.wsn_scan.specs.declared.part.Taken.TheVariants as taken

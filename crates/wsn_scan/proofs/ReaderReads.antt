@@ -11,7 +11,7 @@ use Rattle.wsn_io.proofs.Received.{consumed_none}
 use Rattle.wsn_wire.proofs.FrameLemmas.{IsBytes-append}
 use Rattle.wsn_rules.specs.declared.verdict.Verdict.{Verdict}
 use Rattle.wsn_rules.specs.declared.verdict.Verdict.TheVariants.{Accepted, Cut, Refused}
-use Rattle.wsn_wire.specs.declared.length_forms.Lengths.TheVariants.{Shortest}
+use Rattle.wsn_wire.specs.declared.length_encoding.Lengths.TheVariants.{Shortest}
 use Rattle.wsn_rules.specs.Limits.{Limits}
 use Rattle.wsn_rules.specs.Verdict.{IsVerdict, IsUnrefused}
 use Rattle.wsn_rules.specs.Heads.{heads_of}

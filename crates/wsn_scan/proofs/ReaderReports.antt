@@ -5,7 +5,7 @@ use Rattle.wsn_wire.specs.declared.endpoint.Role.{Role}
 use Rattle.wsn_wire.specs.Frame.{Frame, stream}
 use Rattle.wsn_rules.specs.declared.head_info.HeadInfo.{HeadInfo}
 use Rattle.wsn_rules.specs.Limits.{Limits}
-use Rattle.wsn_rules.specs.Accepted.{HasNoClose}
+use Rattle.wsn_rules.specs.AfterClose.{HasNoClose}
 use Rattle.wsn_rules.specs.Group.{unfinished}
 use Rattle.wsn_rules.specs.Evidence.{HasNoEvidence}
 use Rattle.wsn_scan.specs.declared.frame_reader.FrameReader.{FrameReader}

@@ -9,7 +9,7 @@ use Rattle.wsn_scan.specs.declared.scan.Scan.{Scan}
 use Rattle.wsn_rules.specs.Limits.{Limits}
 use Rattle.wsn_rules.specs.Group.{unfinished}
 use Rattle.wsn_rules.specs.Lawful.{IsLawful}
-use Rattle.wsn_rules.specs.Accepted.{HasNoClose}
+use Rattle.wsn_rules.specs.AfterClose.{HasNoClose}
 use Rattle.wsn_rules.specs.Evidence.{Evidence}
 use Rattle.wsn_rules.specs.Verdict.{IsRefused}
 use Rattle.wsn_frame.specs.PartialHeads.{IsEvidentLast}

@@ -6,18 +6,18 @@ use Rattle.wsn_wire.specs.declared.opcode.Op.TheVariants.{Continue, Text, Binary
 use Rattle.wsn_wire.specs.declared.refusal.Reason.{Reason}
 use Rattle.wsn_wire.specs.Frame.{Frame, first_byte, key_bytes, stream}
 use Rattle.wsn_wire.proofs.FrameLemmas.{fronts_agree}
-use Rattle.wsn_frame.specs.declared.open_message.OpenMessage.{OpenMessage}
+use Rattle.wsn_frame.specs.declared.kept_message.OpenMessage.{OpenMessage}
 use Rattle.wsn_rules.specs.declared.verdict.Verdict.TheVariants.{Accepted, Cut}
 use Rattle.wsn_scan.specs.declared.scan.Scan.{Scan}
 use Rattle.wsn_scan.specs.declared.stage.Inside.{Inside}
 use Rattle.wsn_scan.specs.declared.stage.Stage.{Stage}
 use Rattle.wsn_rules.specs.Limits.{Limits}
 use Rattle.wsn_rules.specs.Group.{unfinished}
-use Rattle.wsn_rules.specs.Accepted.{HasNoClose, EndsWithClose}
+use Rattle.wsn_rules.specs.AfterClose.{HasNoClose, EndsWithClose}
 use Rattle.wsn_rules.specs.Summary.{size_of_open, is_close, close_code, close_of, counted}
 use Rattle.wsn_rules.specs.Verdict.{IsEvidentAt, EndsWithinFrame, IsVerdict}
 use Rattle.wsn_rules.specs.Evidence.{HasNoEvidence}
-use Rattle.wsn_frame.specs.OpenMessages.{IsOpenMessage}
+use Rattle.wsn_frame.specs.KeptMessages.{IsOpenMessage}
 use Rattle.wsn_scan.specs.Scans.{IsInPayload, HasScannedAt, taken_of, size_of_message, summary_of, verdict_between}
 use Rattle.wsn_scan.specs.Positions.{Position}
 use Rattle.wsn_rules.proofs.LeastEvident.{evidence_is_some}

@@ -2,7 +2,7 @@
 use Rattle.std.specs.Prelude.{◌≡◌, ◌≢◌, true, ℕ, ◌+◌, ◌-◌, ◌<◌, ◌≤◌, ◌↔◌, IfSome, IsSome, Option, None, Some, List, [], ◌∷◌, ◌++◌, length, take, drop}
 use Rattle.wsn_wire.specs.declared.endpoint.Role.{Role}
 use Rattle.wsn_wire.specs.Frame.{Frame, IsBytes, first_byte, stream}
-use Rattle.wsn_frame.specs.declared.open_message.OpenMessage.{OpenMessage}
+use Rattle.wsn_frame.specs.declared.kept_message.OpenMessage.{OpenMessage}
 use Rattle.wsn_wire.specs.declared.refusal.Reason.{Reason, TheVariants.{TextCut}}
 use Rattle.wsn_rules.specs.declared.verdict.Refusal.{Refusal}
 use Rattle.wsn_frame.specs.declared.heads.Head.{Head}
@@ -20,10 +20,10 @@ use Rattle.wsn_rules.specs.declared.verdict.Verdict.{Verdict, TheVariants.{Accep
 use Rattle.wsn_rules.specs.Limits.{Limits, InRange}
 use Rattle.wsn_rules.specs.Group.{unfinished}
 use Rattle.wsn_rules.specs.Lawful.{IsLawful}
-use Rattle.wsn_rules.specs.Accepted.{HasNoClose, EndsWithClose}
+use Rattle.wsn_rules.specs.AfterClose.{HasNoClose, EndsWithClose}
 use Rattle.wsn_rules.specs.Summary.{close_of}
 use Rattle.wsn_rules.specs.Verdict.{IsRefused}
-use Rattle.wsn_frame.specs.OpenMessages.{IsOpenMessage}
+use Rattle.wsn_frame.specs.KeptMessages.{IsOpenMessage}
 use Rattle.wsn_frame.specs.PartialHeads.{IsHeadSoFar, IsHead, info_at, IsEvidentLast}
 use Rattle.wsn_rules.specs.Heads.{heads_of, info_of, AreHeads}
 use Rattle.wsn_frame.specs.PayloadChecks.{HasChecked}

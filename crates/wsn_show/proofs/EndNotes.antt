@@ -9,13 +9,13 @@ use Rattle.wsn_wire.specs.declared.endpoint.Role.{Role}
 use Rattle.wsn_wire.specs.declared.endpoint.Role.TheVariants.{Client, Server}
 use Rattle.wsn_rules.specs.declared.verdict.Verdict.{Verdict}
 use Rattle.wsn_rules.specs.declared.verdict.Verdict.TheVariants.{Accepted, Cut, Refused}
-use Rattle.wsn_rules.specs.declared.report.Report.{Report}
-use Rattle.wsn_rules.specs.declared.report.Side.{Side}
+use Rattle.wsn_rules.specs.declared.closing_handshake.Report.{Report}
+use Rattle.wsn_rules.specs.declared.closing_handshake.Side.{Side}
 use Rattle.wsn_rules.specs.Limits.{Limits}
 use Rattle.wsn_rules.specs.Entries.{Entry, without_cr}
 use Rattle.wsn_rules.specs.Entries.Entry.{Nothing, Bytes, Mark}
 use Rattle.wsn_rules.specs.Sides.{sent, has_ended, accepted_side, side_of, IsSide}
-use Rattle.wsn_rules.specs.Reports.{IsEndedEarly, IsReportOf}
+use Rattle.wsn_rules.specs.ClosingHandshake.{IsEndedEarly, IsReportOf}
 use Rattle.wsn_show.specs.EndedBy.{marks_in, end_marks, reset_comment, SayReset, HasEndedEarly}
 use Rattle.wsn_show.specs.declared.end_notes.EndNotes.{EndNotes}
 use Rattle.wsn_show.specs.EndNotes.{first_marked, noted_reset, HasNotedEnd}

@@ -7,14 +7,14 @@ use Rattle.wsn_io.proofs.PutTexts.{put_both, put_front, put_no_more}
 use Rattle.wsn_rules.specs.Limits.{Limits}
 use Rattle.wsn_rules.specs.TextLines.{ended, AreLines}
 use Rattle.wsn_rules.proofs.TextLines.{lines_at_end}
-use Rattle.wsn_rules.specs.declared.report.Report.{Report}
+use Rattle.wsn_rules.specs.declared.closing_handshake.Report.{Report}
 use Rattle.wsn_wire.specs.declared.endpoint.Role.TheVariants.{Client, Server}
 use Rattle.wsn_print.specs.declared.style.Style.{Style}
 use Rattle.wsn_show.specs.Styles.{styled_line, styled_left, styled_ended_by, styled_capture, styled_report}
 use Rattle.wsn_capture.specs.declared.capture_stop.CaptureStop.TheVariants as capture
-use Rattle.wsn_capture.specs.declared.tails.Tails.{Tails}
+use Rattle.wsn_capture.specs.declared.tail_counts.Tails.{Tails}
 use Rattle.wsn_capture.specs.declared.refused_line.RefusedLines.{RefusedLines}
-use Rattle.wsn_capture.specs.Tails.{AreTails}
+use Rattle.wsn_capture.specs.TailCounts.{AreTails}
 use Rattle.wsn_capture.specs.RefusedLines.{AreRefusedLines}
 use Rattle.wsn_capture.proofs.SplitLines.{unfaulted, faulty_last}
 use Rattle.wsn_capture.proofs.AcceptedTexts.{taken_given}

@@ -5,12 +5,12 @@ use Rattle.std.specs.Str.{bytes_eq}
 use Rattle.std.proofs.lemmas.List.Folds.{Any-from_list_any, list_any-from_Any}
 use Rattle.std.proofs.lemmas.Slice.Eq.{bytes_eq-Decides}
 use Rattle.wsn_wire.specs.declared.endpoint.Role.{Role}
-use Rattle.wsn_rules.specs.declared.report.Report.{Report}
-use Rattle.wsn_rules.specs.declared.report.Side.{Side}
-use Rattle.wsn_rules.specs.declared.report.Side.TheVariants.{Closed, Refused, Ended, Cut, Running}
+use Rattle.wsn_rules.specs.declared.closing_handshake.Report.{Report}
+use Rattle.wsn_rules.specs.declared.closing_handshake.Side.{Side}
+use Rattle.wsn_rules.specs.declared.closing_handshake.Side.TheVariants.{Closed, Refused, Ended, Cut, Running}
 use Rattle.wsn_rules.specs.Limits.{Limits, InRange}
 use Rattle.wsn_rules.specs.Entries.{Entry, without_cr}
-use Rattle.wsn_rules.specs.Reports.{IsEndedEarly, IsReportOf}
+use Rattle.wsn_rules.specs.ClosingHandshake.{IsEndedEarly, IsReportOf}
 use Rattle.wsn_rules.specs.TextLines.{AreLines}
 use Rattle.wsn_rules.proofs.EveryCapture.{some_shown_capture}
 use Rattle.wsn_rules.proofs.OneEntry.{same_entries}

@@ -3,7 +3,7 @@ use Rattle.std.proofs.Common.{◌≡◌, ℕ, ◌↔◌, Bool, true, false, IsTr
 use Rattle.wsn_wire.specs.declared.endpoint.Role.{Role}
 use Rattle.wsn_rules.specs.Limits.{Limits}
 use Rattle.wsn_rules.specs.Entries.{Entry, AreEntries}
-use Rattle.wsn_rules.specs.declared.report.Report.{Report}
+use Rattle.wsn_rules.specs.declared.closing_handshake.Report.{Report}
 use Rattle.wsn_rules.specs.ShownCapture.{ShownLine, LeftAtEnd, IsShownCapture}
 use Rattle.wsn_rules.proofs.OneEntry.{same_entries}
 use Rattle.wsn_rules.proofs.OneShownCapture.{one_shown_capture}

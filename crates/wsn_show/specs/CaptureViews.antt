@@ -6,8 +6,8 @@ use Rattle.wsn_rules.specs.Limits.{Limits}
 use Rattle.wsn_rules.specs.Entries.{Entry, GivesEntry, without_cr, end_mark}
 use Rattle.wsn_rules.specs.Entries.Entry.{Mark}
 use Rattle.wsn_rules.specs.Sides.{sent}
-use Rattle.wsn_rules.specs.declared.report.Report.{Report}
-use Rattle.wsn_rules.specs.Reports.{IsReportOf}
+use Rattle.wsn_rules.specs.declared.closing_handshake.Report.{Report}
+use Rattle.wsn_rules.specs.ClosingHandshake.{IsReportOf}
 use Rattle.wsn_rules.specs.ShownCapture.{LineItem, ShownLine, GivesTime, GivesNoTime, IsTimeAfter, IsShownOfEntry, LeftAtEnd, IsLeftAtEnd}
 use Rattle.wsn_print.specs.declared.style.Style.{Style}
 use Rattle.wsn_show.specs.declared.ended_by.EndedBy.{EndedBy}

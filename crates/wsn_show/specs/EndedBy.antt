@@ -4,8 +4,8 @@ use Rattle.std.specs.List.{Any, flat_map}
 use Rattle.wsn_wire.specs.declared.endpoint.Role.{Role, TheVariants.{Client, Server}}
 use Rattle.wsn_rules.specs.Entries.{Entry, without_cr}
 use Rattle.wsn_rules.specs.Entries.Entry.{Mark}
-use Rattle.wsn_rules.specs.declared.report.Report.{Report}
-use Rattle.wsn_rules.specs.Reports.{IsEndedEarly}
+use Rattle.wsn_rules.specs.declared.closing_handshake.Report.{Report}
+use Rattle.wsn_rules.specs.ClosingHandshake.{IsEndedEarly}
 use Rattle.wsn_print.specs.declared.format.Format.{Format, TheVariants.{Text, People, Json}}
 use Rattle.wsn_print.specs.Json.{string_field, field, boolean}
 use Rattle.wsn_shown_text.specs.ShownObjects.{side_word}

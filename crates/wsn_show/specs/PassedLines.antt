@@ -10,7 +10,7 @@ use Rattle.wsn_capture.specs.declared.capture_report.CaptureReport.{CaptureRepor
 use Rattle.wsn_capture.specs.declared.capture_stop.CaptureStop.TheVariants as capture
 use Rattle.wsn_capture.specs.LineFaults.{IsFaultAfter}
 use Rattle.wsn_capture.specs.LineSplitters.{HasPassedOn, IsStopWithin}
-use Rattle.wsn_capture.specs.Tails.{AreTails}
+use Rattle.wsn_capture.specs.TailCounts.{AreTails}
 use Rattle.wsn_capture.specs.RefusedLines.{AreRefusedLines}
 use Rattle.wsn_capture.specs.CaptureAnswers.{IsFaulty, IsUnfaulted}
 use Rattle.wsn_show.specs.declared.capture_view.CaptureView.{CaptureView}

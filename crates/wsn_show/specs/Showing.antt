@@ -4,7 +4,7 @@ use Rattle.std.specs.List.{AllByRecursion}
 use Rattle.std.specs.Io.KnownBytes.{IsAtEnd}
 use Rattle.wsn_io.specs.Transfer.{Incoming, Outgoing, IsReceived, IsWritten, IsPartlyWritten, IsWrittenBut}
 use Rattle.wsn_rules.specs.Limits.{Limits}
-use Rattle.wsn_rules.specs.declared.report.Report.{Report}
+use Rattle.wsn_rules.specs.declared.closing_handshake.Report.{Report}
 use Rattle.wsn_rules.specs.Entries.{Entry}
 use Rattle.wsn_rules.specs.TextLines.{IsLine, ended, AreLines}
 use Rattle.wsn_rules.specs.ShownCapture.{ShownLine, AreShownAfter, LeftAtEnd, IsShownCapture}
@@ -16,7 +16,7 @@ use Rattle.wsn_show.specs.Styles.{styled_line, styled_capture}
 use Rattle.wsn_capture.specs.declared.capture_report.CaptureReport.{CaptureReport}
 use Rattle.wsn_capture.specs.declared.capture_stop.CaptureStop.TheVariants as capture
 use Rattle.wsn_capture.specs.LineFaults.{AreAcceptedLines}
-use Rattle.wsn_capture.specs.Tails.{AreTails}
+use Rattle.wsn_capture.specs.TailCounts.{AreTails}
 use Rattle.wsn_capture.specs.RefusedLines.{AreRefusedLines}
 use Rattle.wsn_capture.specs.CaptureAnswers.{begun_most, IsUnfaulted, IsFaultReported}
 use Rattle.wsn_show.specs.declared.showing.ShowStop.{ShowStop, TheVariants.{Capture, Write}}

@@ -1,7 +1,7 @@
 -- What is printed of items in a style.
 use Rattle.std.specs.Prelude.{ℕ, Option, List, ◌++◌, flat_map}
 use Rattle.wsn_wire.specs.declared.endpoint.Role.{Role, TheVariants.{Client, Server}}
-use Rattle.wsn_rules.specs.declared.report.Report.{Report}
+use Rattle.wsn_rules.specs.declared.closing_handshake.Report.{Report}
 use Rattle.wsn_rules.specs.declared.verdict.Verdict.{Verdict}
 use Rattle.wsn_rules.specs.ShownStream.{Item}
 use Rattle.wsn_rules.specs.ShownCapture.{LineItem, ShownLine, LeftAtEnd}

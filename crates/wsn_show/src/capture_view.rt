@@ -40,11 +40,11 @@ impl CaptureView {
     ghost use Rattle.wsn_rules.specs.Limits.{Limits};
     ghost use Rattle.wsn_rules.specs.Entries.{Entry, GivesEntry, IsHex, bytes_prefix, end_mark};
     ghost use Rattle.wsn_rules.specs.Entries.Entry.{Nothing, Bytes};
-    ghost use Rattle.wsn_rules.specs.Reports.{IsReportOf};
+    ghost use Rattle.wsn_rules.specs.ClosingHandshake.{IsReportOf};
     ghost use Rattle.wsn_capture.specs.CaptureLines.{HasAccepted, HasNotedCloses, count_of};
     ghost use Rattle.wsn_capture.specs.LineFaults.{IsFaultAfter};
     ghost use Rattle.wsn_capture.specs.RefusedLines.{AreRefusedLines};
-    ghost use Rattle.wsn_capture.specs.Tails.{AreTails};
+    ghost use Rattle.wsn_capture.specs.TailCounts.{AreTails};
     ghost use Rattle.wsn_print.specs.declared.style.Style.{Style};
     ghost use Rattle.wsn_show.specs.CaptureViews.{HasShownLines, IsShowingLines, AreViewed, CanShow, Shows, ShowsLine, LeavesAtEnd, SaysWhoEnded, Finishes};
 

@@ -1,5 +1,5 @@
 ghost use Rattle.std.specs.Prelude.{◌≡◌, ℕ, ◌⊎◌, ◌↔◌, true, IsTrue, List, slice_get};
-ghost use Rattle.wsn_rules.specs.Reports.{IsEndedEarly};
+ghost use Rattle.wsn_rules.specs.ClosingHandshake.{IsEndedEarly};
 ghost use Rattle.wsn_capture.specs.LineEntries.{held_entry};
 ghost use Rattle.wsn_show.specs.EndedBy.{marks_in, reset_comment, HasEndedEarly};
 
@@ -23,7 +23,7 @@ impl EndNotes {
     ghost use Rattle.std.specs.Prelude.{◌≡◌, ℕ, List, [], ◌∷◌, ◌++◌};
     ghost use Rattle.wsn_rules.specs.Limits.{Limits};
     ghost use Rattle.wsn_rules.specs.Entries.{Entry, without_cr};
-    ghost use Rattle.wsn_rules.specs.Reports.{IsReportOf};
+    ghost use Rattle.wsn_rules.specs.ClosingHandshake.{IsReportOf};
     ghost use Rattle.wsn_capture.specs.LineEntries.{held_entry};
     ghost use Rattle.wsn_show.specs.EndedBy.{IsEndedBy};
     ghost use Rattle.wsn_show.specs.EndNotes.{HasNotedEnd, noted_reset};

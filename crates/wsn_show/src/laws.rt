@@ -4,7 +4,7 @@ ghost use Rattle.std.specs.Prelude.{◌≡◌, ℕ, Option, List};
 ghost use Rattle.wsn_rules.specs.Limits.{Limits, InRange};
 ghost use Rattle.wsn_rules.specs.Entries.{Entry};
 ghost use Rattle.wsn_rules.specs.TextLines.{AreLines};
-ghost use Rattle.wsn_rules.specs.declared.report.Report.{Report};
+ghost use Rattle.wsn_rules.specs.declared.closing_handshake.Report.{Report};
 ghost use Rattle.wsn_capture.specs.LineFaults.{AreAcceptedLines};
 ghost use Rattle.wsn_show.specs.declared.ended_by.EndedBy.{EndedBy};
 ghost use Rattle.wsn_print.specs.declared.style.Style.{Style};

@@ -15,8 +15,8 @@ use Rattle.wsn_wire.specs.declared.opcode.Op.{Op}
 use Rattle.wsn_wire.specs.declared.opcode.Op.TheVariants as ops
 use Rattle.wsn_wire.specs.declared.refusal.Reason.{Reason}
 use Rattle.wsn_wire.specs.declared.refusal.Reason.TheVariants as reasons
-use Rattle.wsn_wire.specs.declared.length_forms.Form.{Form}
-use Rattle.wsn_wire.specs.declared.length_forms.Form.TheVariants as forms
+use Rattle.wsn_wire.specs.declared.length_encoding.Form.{Form}
+use Rattle.wsn_wire.specs.declared.length_encoding.Form.TheVariants as forms
 use Rattle.wsn_wire.specs.Frame.{IsBytes, key_bytes}
 use Rattle.wsn_wire.specs.Refusal.{word_of, code_of}
 use Rattle.wsn_rules.specs.declared.head_info.HeadInfo.{HeadInfo}

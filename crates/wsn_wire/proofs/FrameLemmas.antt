@@ -6,12 +6,12 @@ use Rattle.std.proofs.lemmas.Nat.{from_be_bytes-to_be_bytes_2, from_be_bytes-to_
 use Rattle.std.proofs.lemmas.Bool.{lt-ltb, le-ltb, lt-leb, le-leb, cases_lt}
 use Rattle.wsn_wire.specs.declared.opcode.Op.{Op}
 use Rattle.wsn_wire.specs.declared.opcode.Op.TheVariants.{Continue, Text, Binary, Close, Ping, Pong}
-use Rattle.wsn_wire.specs.declared.length_forms.Form.{Form}
-use Rattle.wsn_wire.specs.declared.length_forms.Form.TheVariants as form
-use Rattle.wsn_wire.specs.declared.length_forms.LenForm.{LenForm}
-use Rattle.wsn_wire.specs.declared.length_forms.LenForm.TheVariants as len_form
+use Rattle.wsn_wire.specs.declared.length_encoding.Form.{Form}
+use Rattle.wsn_wire.specs.declared.length_encoding.Form.TheVariants as form
+use Rattle.wsn_wire.specs.declared.length_encoding.LenForm.{LenForm}
+use Rattle.wsn_wire.specs.declared.length_encoding.LenForm.TheVariants as len_form
 use Rattle.wsn_wire.specs.Frame.{Frame, opcode, first_byte, second_byte, length_bytes, len_form_of, key_bytes, wire_payload, frame_bytes, IsBytes, IsKey, FormFits, IsEncodable}
-use Rattle.wsn_wire.specs.Layout.{fin_bit, reserved_bits, opcode_field, mask_bit, len_form_at, length_count, encoded_length, key_count, HasLayout}
+use Rattle.wsn_wire.specs.HeadBytes.{fin_bit, reserved_bits, opcode_field, mask_bit, len_form_at, length_count, encoded_length, key_count, HasLayout}
 use Rattle.wsn_wire.proofs.MaskLemmas.{masked-masked, length-masked, masked-bytes}
 
 -- ---- the first byte

@@ -1,10 +1,10 @@
 -- The refusals for which a frame's head alone is evidence. RFC 6455 sections 5.1, 5.2 and 5.5.
 use Rattle.std.specs.Prelude.{◌≡◌, ℕ, ◌^◌, ◌<◌, ◌≤◌, ◌⊎◌, false, true, List, ◌≢◌, length}
 use Rattle.wsn_wire.specs.declared.endpoint.Role.{Role, TheVariants.{Client, Server}}
-use Rattle.wsn_wire.specs.declared.length_forms.Lengths.{Lengths, TheVariants.{Shortest}}
-use Rattle.wsn_wire.specs.declared.length_forms.LenForm.{LenForm, TheVariants.{Short, Two, Eight}}
+use Rattle.wsn_wire.specs.declared.length_encoding.Lengths.{Lengths, TheVariants.{Shortest}}
+use Rattle.wsn_wire.specs.declared.length_encoding.LenForm.{LenForm, TheVariants.{Short, Two, Eight}}
 use Rattle.wsn_wire.specs.declared.refusal.Reason.{Reason, TheVariants.{ReservedBits, ReservedOpcode, ControlNotFinal, MaskMissing, MaskPresent, ControlTooLong, CloseOneByte, LengthTopBit, LengthNotMinimal}}
-use Rattle.wsn_wire.specs.Layout.{fin_bit, reserved_bits, opcode_field, mask_bit, len_form_at, encoded_length}
+use Rattle.wsn_wire.specs.HeadBytes.{fin_bit, reserved_bits, opcode_field, mask_bit, len_form_at, encoded_length}
 use Rattle.wsn_wire.specs.declared.opcode.Op.TheVariants.{Close}
 use Rattle.wsn_wire.specs.Frame.{Frame}
 

@@ -1,9 +1,9 @@
 -- The rules for the head of a frame that an endpoint sends. RFC 6455 sections 5.1, 5.2 and 5.5.
 use Rattle.std.specs.Prelude.{◌≡◌, ℕ, ◌≤◌, ◌↔◌, true, List, length, IsSome}
 use Rattle.wsn_wire.specs.declared.endpoint.Role.{Role, TheVariants.{Client}}
-use Rattle.wsn_wire.specs.declared.length_forms.Form.TheVariants as form
-use Rattle.wsn_wire.specs.declared.length_forms.Lengths.{Lengths}
-use Rattle.wsn_wire.specs.declared.length_forms.Lengths.TheVariants as encodings
+use Rattle.wsn_wire.specs.declared.length_encoding.Form.TheVariants as form
+use Rattle.wsn_wire.specs.declared.length_encoding.Lengths.{Lengths}
+use Rattle.wsn_wire.specs.declared.length_encoding.Lengths.TheVariants as encodings
 use Rattle.wsn_wire.specs.Frame.{Frame, is_control, IsEncodable}
 
 -- [5.5] A control frame has FIN and at most 125 bytes of payload, with the shortest encoding of its length.

@@ -2,13 +2,13 @@
 //! contracts are proved.
 ghost use Rattle.std.specs.Prelude.{◌≡◌, ℕ, ◌+◌, ◌<◌, ◌^◌, Bool, true, Option, None, List, [], ◌∷◌, ◌++◌, length, is_some};
 ghost use Rattle.wsn_wire.specs.Frame.{Frame, IsBytes, IsEncodable, masked, opcode, first_byte, second_byte, len_form_of, length_bytes, head_bytes, frame_bytes, FormFits};
-ghost use Rattle.wsn_wire.specs.Layout.{fin_bit, reserved_bits, opcode_field, mask_bit, len_form_at, length_count, encoded_length, HasLayout};
+ghost use Rattle.wsn_wire.specs.HeadBytes.{fin_bit, reserved_bits, opcode_field, mask_bit, len_form_at, length_count, encoded_length, HasLayout};
 ghost use Rattle.wsn_wire.specs.HeadLaw.{IsEncodedFor};
 ghost use Rattle.wsn_wire.specs.EvidenceInHeads.{HeadHasNoEvidence, IsNoCloseOfOneByte};
 ghost use Rattle.wsn_wire.specs.declared.endpoint.Role.{Role};
 ghost use Rattle.wsn_wire.specs.declared.opcode.Op.{Op};
-ghost use Rattle.wsn_wire.specs.declared.length_forms.Form.{Form};
-ghost use Rattle.wsn_wire.specs.declared.length_forms.Lengths.{Lengths};
+ghost use Rattle.wsn_wire.specs.declared.length_encoding.Form.{Form};
+ghost use Rattle.wsn_wire.specs.declared.length_encoding.Lengths.{Lengths};
 
 /// Masking a payload in two parts, the second from the offset where the first ends, is masking it as a whole (RFC 6455
 /// section 5.3).

@@ -1,6 +1,6 @@
 //! What the sentences of a report share: the words for an endpoint and for a code, and the command to type next.
 ghost use Rattle.std.specs.Prelude.{◌≡◌, ◌+◌, ◌≤◌, ◌++◌, codes, length};
-ghost use Rattle.wsn_rules.specs.Reports.{other_endpoint};
+ghost use Rattle.wsn_rules.specs.ClosingHandshake.{other_endpoint};
 ghost use Rattle.wsn_print.specs.PeopleReport.{endpoint_word, with_code, explain_line};
 
 use crate::line::Line;

@@ -1,6 +1,6 @@
 -- Where a plan has its controls, step by step; and a plan has at most one interleaving.
 use Rattle.std.proofs.Common.{◌≡◌, ℕ, ◌≤◌, List, Option, [], ◌∷◌, ◌++◌, length, take, refl, sym, ap, ◌∙◌, subst, arith}
-use Rattle.wsn_wire.specs.declared.length_forms.Form.{Form}
+use Rattle.wsn_wire.specs.declared.length_encoding.Form.{Form}
 use Rattle.wsn_rules.specs.declared.step.Step.{Step}
 use Rattle.wsn_rules.specs.declared.step.Step.TheVariants.{Piece, Last, Control}
 use Rattle.wsn_rules.specs.Plan.{ends, pending}

@@ -8,8 +8,8 @@ use Rattle.wsn_wire.specs.declared.opcode.Op.{Op}
 use Rattle.wsn_wire.specs.declared.opcode.Op.TheVariants as op
 use Rattle.wsn_wire.specs.declared.opcode.Kind.{Kind}
 use Rattle.wsn_wire.specs.declared.opcode.Kind.TheVariants.{Text, Binary}
-use Rattle.wsn_wire.specs.declared.length_forms.Form.{Form}
-use Rattle.wsn_wire.specs.declared.length_forms.Form.TheVariants as form
+use Rattle.wsn_wire.specs.declared.length_encoding.Form.{Form}
+use Rattle.wsn_wire.specs.declared.length_encoding.Form.TheVariants as form
 use Rattle.wsn_wire.specs.Frame.{Frame, IsBytes, IsKey, is_control}
 use Rattle.wsn_wire.proofs.FrameLemmas.{IsBytes-left, IsBytes-right}
 use Rattle.wsn_text.specs.Utf8.{IsText, BeginsText}
@@ -17,7 +17,8 @@ use Rattle.wsn_rules.specs.declared.step.Step.{Step}
 use Rattle.wsn_rules.specs.declared.step.Step.TheVariants.{Piece}
 use Rattle.wsn_rules.specs.Limits.{Limits}
 use Rattle.wsn_rules.specs.Group.{first_op, payload_of}
-use Rattle.wsn_rules.specs.Lawful.{FrameLaw, GroupLaw}
+use Rattle.wsn_rules.specs.FragmentLaw.{GroupLaw}
+use Rattle.wsn_rules.specs.Lawful.{FrameLaw}
 use Rattle.wsn_rules.specs.LawfulEvents.{IsLawfulMessage}
 use Rattle.wsn_rules.specs.NormalForm.{op_of}
 use Rattle.wsn_rules.specs.Plan.{total}

@@ -9,14 +9,15 @@ use Rattle.std.specs.Option.{ForSome}
 use Rattle.wsn_wire.specs.declared.endpoint.Role.{Role}
 use Rattle.wsn_wire.specs.declared.opcode.Op.{Op}
 use Rattle.wsn_wire.specs.declared.opcode.Op.TheVariants.{Text, Binary, Continue}
-use Rattle.wsn_wire.specs.declared.length_forms.Form.{Form}
+use Rattle.wsn_wire.specs.declared.length_encoding.Form.{Form}
 use Rattle.wsn_wire.specs.Frame.{Frame, IsKey, is_control}
 use Rattle.wsn_wire.proofs.FrameLemmas.{frames_equal}
 use Rattle.wsn_rules.specs.declared.step.Step.{Step}
 use Rattle.wsn_rules.specs.declared.step.Step.TheVariants.{Piece, Last, Control}
 use Rattle.wsn_rules.specs.Limits.{Limits}
 use Rattle.wsn_rules.specs.Group.{is_data, unfinished, kind_at, kind_of, payload_of}
-use Rattle.wsn_rules.specs.Lawful.{GroupLaw, LawAt, IsLawful, AreLawfulAfter}
+use Rattle.wsn_rules.specs.FragmentLaw.{GroupLaw}
+use Rattle.wsn_rules.specs.Lawful.{LawAt, IsLawful, AreLawfulAfter}
 use Rattle.wsn_rules.specs.Meaning.{MeantEvent, events_after, meaning}
 use Rattle.wsn_rules.specs.Meaning as meant
 use Rattle.wsn_rules.specs.NormalForm.{op_of}

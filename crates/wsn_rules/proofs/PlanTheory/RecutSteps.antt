@@ -8,13 +8,14 @@ use Rattle.wsn_wire.specs.declared.opcode.Op.{Op}
 use Rattle.wsn_wire.specs.declared.opcode.Op.TheVariants as op
 use Rattle.wsn_wire.specs.declared.opcode.Kind.{Kind}
 use Rattle.wsn_wire.specs.declared.opcode.Kind.TheVariants as kinds
-use Rattle.wsn_wire.specs.declared.length_forms.Form.{Form}
+use Rattle.wsn_wire.specs.declared.length_encoding.Form.{Form}
 use Rattle.wsn_wire.specs.Frame.{Frame, IsKey, is_control}
 use Rattle.wsn_rules.specs.declared.step.Step.{Step}
 use Rattle.wsn_rules.specs.declared.step.Step.TheVariants.{Piece, Last, Control}
 use Rattle.wsn_rules.specs.Limits.{Limits}
 use Rattle.wsn_rules.specs.Group.{unfinished, kind_at, kind_of, payload_of}
-use Rattle.wsn_rules.specs.Lawful.{FrameLaw, GroupLaw, LawAt}
+use Rattle.wsn_rules.specs.FragmentLaw.{GroupLaw}
+use Rattle.wsn_rules.specs.Lawful.{FrameLaw, LawAt}
 use Rattle.wsn_rules.specs.Meaning.{MeantEvent, event_at}
 use Rattle.wsn_rules.specs.Meaning as meant
 use Rattle.wsn_rules.specs.LawfulEvents.{IsLawfulMessage, IsLawfulControl, AreLawful}

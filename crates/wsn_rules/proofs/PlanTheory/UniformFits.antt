@@ -6,7 +6,7 @@ use Rattle.wsn_wire.specs.declared.endpoint.Role.{Role}
 use Rattle.wsn_wire.specs.declared.endpoint.Role.TheVariants.{Client}
 use Rattle.wsn_wire.specs.declared.opcode.Op.{Op}
 use Rattle.wsn_wire.specs.declared.opcode.Kind.{Kind}
-use Rattle.wsn_wire.specs.declared.length_forms.Form.TheVariants.{Shortest}
+use Rattle.wsn_wire.specs.declared.length_encoding.Form.TheVariants.{Shortest}
 use Rattle.wsn_rules.specs.declared.step.Step.{Step}
 use Rattle.wsn_rules.specs.declared.step.Step.TheVariants.{Piece, Last, Control}
 use Rattle.wsn_rules.specs.Limits.{Limits}

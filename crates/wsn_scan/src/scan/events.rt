@@ -2,7 +2,7 @@
 ghost use Rattle.std.specs.Prelude.{◌≡◌, ◌≢◌, ◌+◌, ◌<◌, ◌≤◌, ◌⊎◌, true, false, None, Ok, List, [], ◌∷◌, length, take, drop, IsTrue, IfSome, IfNone};
 ghost use Rattle.wsn_wire.specs.Frame.{Frame, IsBytes, first_byte};
 ghost use Rattle.wsn_frame.specs.declared.payload_check.PayloadCheck.{PayloadCheck};
-ghost use Rattle.wsn_frame.specs.OpenMessages.{IsOpenMessage};
+ghost use Rattle.wsn_frame.specs.KeptMessages.{IsOpenMessage};
 ghost use Rattle.wsn_frame.specs.PayloadChecks.{HasChecked, IsChecked};
 ghost use Rattle.wsn_frame.specs.PartialHeads.{encoded_form};
 ghost use Rattle.wsn_scan.specs.EventFrames.{IsEventFrame, TakesEvents, IsIdle, info_found, whole_part, with_key_cleared};

@@ -1,13 +1,13 @@
 //! How a scan takes the payload of frames, part by part.
 ghost use Rattle.std.specs.Prelude.{◌≡◌, ◌≢◌, ◌+◌, ◌≤◌, ◌↔◌, true, false, ℕ, Ok, List, [], ◌<◌, length, IsTrue};
 ghost use Rattle.wsn_wire.specs.Frame.{Frame};
-ghost use Rattle.wsn_wire.specs.Layout.{fin_bit};
+ghost use Rattle.wsn_wire.specs.HeadBytes.{fin_bit};
 ghost use Rattle.wsn_wire.specs.declared.refusal.Reason.{Reason};
 ghost use Rattle.wsn_wire.specs.declared.refusal.Reason.TheVariants.{TextCut};
 ghost use Rattle.wsn_rules.specs.Evidence.{EvidentByPayload};
 ghost use Rattle.wsn_frame.specs.PayloadChecks.{HasChecked, IsChecked};
 ghost use Rattle.wsn_frame.specs.declared.payload_check.PayloadCheck.{PayloadCheck};
-ghost use Rattle.wsn_frame.specs.OpenMessages.{IsMessageAfter};
+ghost use Rattle.wsn_frame.specs.KeptMessages.{IsMessageAfter};
 
 use super::Scan;
 use crate::part::{Part, Taken};

@@ -1,7 +1,7 @@
 use Rattle.std.proofs.Common.{sym, subst, refl}
 use Rattle.wsn_rules.specs.declared.verdict.Verdict.{Verdict}
 use Rattle.wsn_rules.specs.Verdict.{IsVerdict}
-use Rattle.wsn_capture.specs.Closes.{IsClosedBy}
+use Rattle.wsn_capture.specs.CloseLines.{IsClosedBy}
 use Rattle.wsn_capture.proofs.ClosingLines.{accepted_closed, cut_unclosed}
 use Rattle.wsn_capture.proofs.capture_lines.has_close.Goals as goal
 

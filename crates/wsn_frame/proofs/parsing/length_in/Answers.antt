@@ -1,8 +1,8 @@
 -- The length is in the second byte, or in two or eight bytes, if they are there.
 use Rattle.std.proofs.Common.{◌<◌, ◌≤◌, Ok, length, take, sym, subst, arith, rules}
-use Rattle.wsn_wire.specs.declared.length_forms.LenForm.{LenForm}
-use Rattle.wsn_wire.specs.declared.length_forms.LenForm.TheVariants.{Two, Eight}
-use Rattle.wsn_wire.specs.Layout.{length_count}
+use Rattle.wsn_wire.specs.declared.length_encoding.LenForm.{LenForm}
+use Rattle.wsn_wire.specs.declared.length_encoding.LenForm.TheVariants.{Two, Eight}
+use Rattle.wsn_wire.specs.HeadBytes.{length_count}
 use Rattle.wsn_frame.specs.PartialHeads.{IsLengthRead}
 use Rattle.wsn_frame.proofs.HeadsAtOnce.{short_shows_nothing, length_read}
 use Rattle.wsn_frame.proofs.parsing.length_in.Goals as goal

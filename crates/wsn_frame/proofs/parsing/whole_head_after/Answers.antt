@@ -3,7 +3,7 @@ use Rattle.std.proofs.Common.{◌≡◌, ◌+◌, ◌-◌, ◌<◌, ◌≤◌, �
 use Rattle.std.proofs.lemmas.List.{take_rest}
 use Rattle.wsn_wire.specs.Frame.{Frame, first_byte}
 use Rattle.wsn_rules.specs.Evidence.{EvidentByFirst}
-use Rattle.wsn_frame.specs.OpenMessages.{IsOpenMessage}
+use Rattle.wsn_frame.specs.KeptMessages.{IsOpenMessage}
 use Rattle.wsn_frame.specs.PartialHeads.{HasTwoBytes, IsParsed, IsWithin}
 use Rattle.wsn_frame.proofs.HeadsAtOnce.{head_prefix}
 use Rattle.wsn_frame.proofs.parsing.whole_head_after.Goals as goal

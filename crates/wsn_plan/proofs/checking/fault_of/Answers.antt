@@ -1,6 +1,6 @@
 use Rattle.std.proofs.Common.{None, map, take, drop, get_or, arith, rules}
 use Rattle.std.proofs.lemmas.List.{length-map}
-use Rattle.wsn_wire.specs.declared.length_forms.Form.TheVariants.{Shortest}
+use Rattle.wsn_wire.specs.declared.length_encoding.Form.TheVariants.{Shortest}
 use Rattle.wsn_rules.specs.declared.step.Step.TheVariants.{Piece}
 use Rattle.wsn_rules.proofs.PlanTheory.Walked.{walked_start, walked_events_left, walked_fits}
 use Rattle.wsn_plan.specs.Gathering.{kept_meant}

@@ -1,5 +1,5 @@
 use Rattle.std.proofs.Common.{refl, Some, [], ◌∷◌, codes}
-use Rattle.wsn_wire.specs.declared.length_forms.Form.TheVariants.{Shortest}
+use Rattle.wsn_wire.specs.declared.length_encoding.Form.TheVariants.{Shortest}
 use Rattle.wsn_rules.specs.declared.step.Step.TheVariants.{Last}
 use Rattle.wsn_plan_text.specs.declared.plan_fault.LineWhy.TheVariants.{BadKey}
 use Rattle.wsn_plan_text.proofs.DecidedLines.{decoded_line, encodes, is_faulty}

@@ -1,5 +1,5 @@
 use Rattle.std.proofs.Common.{refl, None, codes}
-use Rattle.wsn_wire.specs.declared.length_forms.Form.TheVariants.{Two}
+use Rattle.wsn_wire.specs.declared.length_encoding.Form.TheVariants.{Two}
 use Rattle.wsn_rules.specs.declared.step.Step.TheVariants.{Last}
 use Rattle.wsn_plan_text.specs.declared.plan_fault.LineWhy.TheVariants.{BadLength}
 use Rattle.wsn_plan_text.proofs.DecidedLines.{decoded_line, encodes, is_faulty}

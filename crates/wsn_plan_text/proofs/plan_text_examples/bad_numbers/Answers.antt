@@ -1,5 +1,5 @@
 use Rattle.std.proofs.Common.{refl, None, codes}
-use Rattle.wsn_wire.specs.declared.length_forms.Form.TheVariants.{Shortest}
+use Rattle.wsn_wire.specs.declared.length_encoding.Form.TheVariants.{Shortest}
 use Rattle.wsn_rules.specs.declared.step.Step.TheVariants.{Piece}
 use Rattle.wsn_plan_text.specs.declared.plan_fault.LineWhy.TheVariants.{BadNumber}
 use Rattle.wsn_plan_text.proofs.DecidedLines.{decoded_line, encodes, is_faulty}

@@ -2,7 +2,7 @@ use Rattle.std.proofs.Common.{refl, ◌^◌, Some, None, [], ◌∷◌, codes}
 use Rattle.std.proofs.lemmas.Bool.{ltb-true}
 use Rattle.std.specs.Fmt.{digits}
 use Rattle.hex.specs.Hex.{decode_pairs}
-use Rattle.wsn_wire.specs.declared.length_forms.Form.TheVariants.{Shortest, Two, Eight}
+use Rattle.wsn_wire.specs.declared.length_encoding.Form.TheVariants.{Shortest, Two, Eight}
 use Rattle.wsn_rules.specs.declared.step.Step.TheVariants.{Piece, Last, Control}
 use Rattle.wsn_plan_text.proofs.DecidedLines.{decoded_line, encodes}
 use Rattle.wsn_plan_text.proofs.plan_text_examples.steps.Goals as goal

@@ -1,7 +1,7 @@
 use Rattle.std.proofs.Common.{refl, Some, None, [], ◌∷◌, codes}
 use Rattle.wsn_rules.proofs.TextLines.{no_lines, line_in_front, last_line}
 use Rattle.wsn_rules.proofs.ComputedReports.{line_by_test}
-use Rattle.wsn_wire.specs.declared.length_forms.Form.TheVariants.{Shortest, Two, Eight}
+use Rattle.wsn_wire.specs.declared.length_encoding.Form.TheVariants.{Shortest, Two, Eight}
 use Rattle.wsn_rules.specs.declared.step.Step.TheVariants.{Piece, Last, Control}
 use Rattle.wsn_plan_text.specs.declared.plan_fault.LineWhy.TheVariants.{BadForm, BadNumber, BadKey, BadLength}
 use Rattle.wsn_plan_text.proofs.DecidedLines.{decoded_line, encodes, is_faulty}

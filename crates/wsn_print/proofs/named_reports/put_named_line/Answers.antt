@@ -1,6 +1,6 @@
 use Rattle.std.proofs.Common.{◌≡◌, List, ℕ, ◌++◌, ◌∙◌, ap, append_assoc, codes, subst, sym}
 use Rattle.wsn_io.specs.Stops.{IsWrittenOrStops}
-use Rattle.wsn_rules.specs.declared.report.Report.{Report}
+use Rattle.wsn_rules.specs.declared.closing_handshake.Report.{Report}
 use Rattle.wsn_print.specs.NamedReportText.{named_report_line, outcome_columns}
 use Rattle.wsn_print.specs.EscapedText.{comment_text}
 use Rattle.wsn_print.proofs.Pieces.{first_stops, two_pieces}

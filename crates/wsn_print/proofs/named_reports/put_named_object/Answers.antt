@@ -3,7 +3,7 @@ use Rattle.std.proofs.lemmas.List.{take_all}
 use Rattle.std.specs.Prelude.{flat_map}
 use Rattle.std.specs.Str.{chars}
 use Rattle.wsn_io.specs.Stops.{IsWrittenOrStops}
-use Rattle.wsn_rules.specs.declared.report.Report.{Report}
+use Rattle.wsn_rules.specs.declared.closing_handshake.Report.{Report}
 use Rattle.wsn_print.specs.NamedReportText.{named_report_object}
 use Rattle.wsn_print.specs.Objects.{report_object}
 use Rattle.wsn_print.specs.EscapedText.{quoted_character}

@@ -1,5 +1,5 @@
 use Rattle.std.proofs.Common.{◌++◌, ◌∙◌, ap, sym, codes}
-use Rattle.wsn_rules.specs.declared.report.Outcome.{Outcome}
+use Rattle.wsn_rules.specs.declared.closing_handshake.Outcome.{Outcome}
 use Rattle.wsn_print.specs.Sentences.{open_sentence}
 use Rattle.wsn_print.specs.PeopleReport.{explain_line, meaning_lines}
 use Rattle.wsn_print.proofs.Appended.{three}

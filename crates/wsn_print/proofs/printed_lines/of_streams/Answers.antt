@@ -3,7 +3,7 @@ use Rattle.std.specs.Prelude.{codes}
 use Rattle.std.proofs.Common.{[], ◌∷◌, true, None, refl}
 use Rattle.wsn_wire.specs.declared.endpoint.Role.TheVariants.{Server}
 use Rattle.wsn_wire.specs.declared.opcode.Op.TheVariants.{Text, Close}
-use Rattle.wsn_wire.specs.declared.length_forms.Form.TheVariants.{Shortest}
+use Rattle.wsn_wire.specs.declared.length_encoding.Form.TheVariants.{Shortest}
 use Rattle.wsn_rules.specs.Examples.{greatest}
 use Rattle.wsn_rules.proofs.Computed.{found}
 use Rattle.wsn_print.proofs.ComputedHeads.{lists_cut, lists_closed, lists_to_a_head, lists_to_a_payload}

@@ -1,7 +1,7 @@
 use Rattle.std.proofs.Common.{None, false, true, [], ◌∷◌, inl, inr, refl, arith}
 use Rattle.wsn_wire.specs.declared.endpoint.Role.TheVariants.{Server}
 use Rattle.wsn_wire.specs.declared.opcode.Op.TheVariants.{Continue, Text, Close}
-use Rattle.wsn_wire.specs.declared.length_forms.Form.TheVariants.{Shortest}
+use Rattle.wsn_wire.specs.declared.length_encoding.Form.TheVariants.{Shortest}
 use Rattle.wsn_wire.specs.declared.refusal.Reason.TheVariants.{CloseOneByte}
 use Rattle.wsn_wire.specs.Frame.{Frame}
 use Rattle.wsn_text.proofs.Prefixes.{begins-nil}

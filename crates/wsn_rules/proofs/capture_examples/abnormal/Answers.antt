@@ -1,6 +1,6 @@
 use Rattle.std.proofs.Common.{refl}
-use Rattle.wsn_rules.specs.declared.report.Side.TheVariants.{Closed, Ended, Cut, Running}
-use Rattle.wsn_rules.specs.declared.report.Outcome.TheVariants.{Abnormal}
+use Rattle.wsn_rules.specs.declared.closing_handshake.Side.TheVariants.{Closed, Ended, Cut, Running}
+use Rattle.wsn_rules.specs.declared.closing_handshake.Outcome.TheVariants.{Abnormal}
 use Rattle.wsn_rules.proofs.Outcomes.{has_outcome, is_outcome}
 use Rattle.wsn_rules.proofs.capture_examples.abnormal.Goals as goal
 

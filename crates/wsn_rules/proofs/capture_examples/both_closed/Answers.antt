@@ -1,6 +1,6 @@
 use Rattle.std.proofs.Common.{refl, true, false}
-use Rattle.wsn_rules.specs.declared.report.Side.TheVariants.{Closed}
-use Rattle.wsn_rules.specs.declared.report.Outcome.TheVariants.{Clean, Complete}
+use Rattle.wsn_rules.specs.declared.closing_handshake.Side.TheVariants.{Closed}
+use Rattle.wsn_rules.specs.declared.closing_handshake.Outcome.TheVariants.{Clean, Complete}
 use Rattle.wsn_rules.proofs.Outcomes.{has_outcome, is_outcome}
 use Rattle.wsn_rules.proofs.capture_examples.both_closed.Goals as goal
 

@@ -3,8 +3,8 @@ use Rattle.hex.specs.Hex.{decode_pairs}
 use Rattle.wsn_wire.specs.declared.endpoint.Role.TheVariants.{Client, Server}
 use Rattle.wsn_rules.specs.Examples.{greatest}
 use Rattle.wsn_rules.specs.Entries.Entry.{Nothing, Bytes, Mark}
-use Rattle.wsn_rules.specs.declared.report.Side.TheVariants.{Closed}
-use Rattle.wsn_rules.specs.declared.report.Outcome.TheVariants.{Clean, Complete}
+use Rattle.wsn_rules.specs.declared.closing_handshake.Side.TheVariants.{Closed}
+use Rattle.wsn_rules.specs.declared.closing_handshake.Outcome.TheVariants.{Clean, Complete}
 use Rattle.wsn_rules.proofs.Computed.{found}
 use Rattle.wsn_rules.proofs.Outcomes.{has_outcome}
 use Rattle.wsn_rules.proofs.ComputedReports.{given_bytes, judged_stream, earlier_first, report_is}

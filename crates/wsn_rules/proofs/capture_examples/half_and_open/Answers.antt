@@ -1,6 +1,6 @@
 use Rattle.std.proofs.Common.{refl}
-use Rattle.wsn_rules.specs.declared.report.Side.TheVariants.{Closed, Running}
-use Rattle.wsn_rules.specs.declared.report.Outcome.TheVariants.{Half, Live}
+use Rattle.wsn_rules.specs.declared.closing_handshake.Side.TheVariants.{Closed, Running}
+use Rattle.wsn_rules.specs.declared.closing_handshake.Outcome.TheVariants.{Half, Live}
 use Rattle.wsn_rules.proofs.Outcomes.{has_outcome, is_outcome}
 use Rattle.wsn_rules.proofs.capture_examples.half_and_open.Goals as goal
 

@@ -4,8 +4,8 @@ use Rattle.wsn_wire.specs.declared.endpoint.Role.TheVariants.{Client, Server}
 use Rattle.wsn_rules.specs.Examples.{greatest}
 use Rattle.wsn_rules.specs.Entries.Entry.{Bytes, Mark}
 use Rattle.wsn_wire.specs.declared.refusal.Reason.TheVariants.{ReservedBits, CloseCode}
-use Rattle.wsn_rules.specs.declared.report.Side.TheVariants.{Closed, Refused, Ended, Cut, Running}
-use Rattle.wsn_rules.specs.declared.report.Outcome.TheVariants.{Failed, Abnormal, Half, Live}
+use Rattle.wsn_rules.specs.declared.closing_handshake.Side.TheVariants.{Closed, Refused, Ended, Cut, Running}
+use Rattle.wsn_rules.specs.declared.closing_handshake.Outcome.TheVariants.{Failed, Abnormal, Half, Live}
 use Rattle.wsn_rules.proofs.Computed.{found}
 use Rattle.wsn_rules.proofs.Outcomes.{has_outcome}
 use Rattle.wsn_rules.proofs.ComputedReports.{given_bytes, judged_stream, none_first, alone_first, report_is}

@@ -1,7 +1,7 @@
 use Rattle.std.proofs.Common.{refl, None, [], ◌∷◌, replicate}
 use Rattle.wsn_wire.specs.declared.endpoint.Role.TheVariants.{Server}
 use Rattle.wsn_wire.specs.declared.opcode.Kind.TheVariants as kind
-use Rattle.wsn_wire.specs.declared.length_forms.Form.TheVariants.{Two, Eight}
+use Rattle.wsn_wire.specs.declared.length_encoding.Form.TheVariants.{Two, Eight}
 use Rattle.wsn_rules.specs.declared.step.Step.TheVariants.{Piece, Last}
 use Rattle.wsn_rules.specs.declared.why.Why.TheVariants.{PieceTooLong, NotAMessage, WrongForm}
 use Rattle.wsn_rules.specs.Meaning.{Message}

@@ -1,6 +1,6 @@
 use Rattle.std.proofs.Common.{refl, false, None, [], ◌∷◌}
 use Rattle.wsn_wire.specs.declared.endpoint.Role.TheVariants.{Server}
-use Rattle.wsn_wire.specs.declared.length_forms.Form.TheVariants.{Two}
+use Rattle.wsn_wire.specs.declared.length_encoding.Form.TheVariants.{Two}
 use Rattle.wsn_rules.specs.declared.step.Step.TheVariants.{Piece}
 use Rattle.wsn_rules.specs.declared.why.Why.TheVariants.{PieceTooLong, TooManyPieces}
 use Rattle.wsn_rules.specs.UniformPlan.{uniform_plan}

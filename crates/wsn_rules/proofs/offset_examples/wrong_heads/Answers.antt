@@ -1,6 +1,6 @@
 use Rattle.std.proofs.Common.{◌≡◌, ℕ, true, None, List, [], ◌∷◌, ◌++◌, sym, ap, ◌∙◌, inl, inr, true≢false, arith}
 use Rattle.std.specs.List.{AllByRecursion}
-use Rattle.wsn_wire.specs.declared.length_forms.Form.TheVariants.{Shortest}
+use Rattle.wsn_wire.specs.declared.length_encoding.Form.TheVariants.{Shortest}
 use Rattle.wsn_wire.specs.declared.opcode.Op.TheVariants.{Ping}
 use Rattle.wsn_rules.specs.declared.head_info.HeadInfo.{HeadInfo}
 use Rattle.wsn_rules.specs.BadCharacter.{PlacedByte, placed}

@@ -1,6 +1,6 @@
 use Rattle.std.proofs.Common.{◌≡◌, ℕ, true, None, List, [], ◌∷◌, length, sym, ap, ◌∙◌, inl, inr, arith}
 use Rattle.wsn_wire.specs.declared.opcode.Op.TheVariants.{Ping}
-use Rattle.wsn_wire.specs.declared.length_forms.Form.TheVariants.{Shortest}
+use Rattle.wsn_wire.specs.declared.length_encoding.Form.TheVariants.{Shortest}
 use Rattle.wsn_wire.specs.declared.refusal.Reason.TheVariants.{ReservedBits}
 use Rattle.wsn_rules.specs.declared.head_info.HeadInfo.{HeadInfo}
 use Rattle.wsn_rules.specs.ShownOffsets.{IsEncodableHead, IsEvidenceIn}

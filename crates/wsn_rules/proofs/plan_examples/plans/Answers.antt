@@ -1,6 +1,6 @@
 use Rattle.std.proofs.Common.{refl, None, Some, [], ◌∷◌, ◌++◌, replicate}
 use Rattle.wsn_wire.specs.declared.endpoint.Role.TheVariants.{Client, Server}
-use Rattle.wsn_wire.specs.declared.length_forms.Form.TheVariants.{Shortest, Two, Eight}
+use Rattle.wsn_wire.specs.declared.length_encoding.Form.TheVariants.{Shortest, Two, Eight}
 use Rattle.wsn_rules.specs.declared.step.Step.TheVariants.{Piece, Last}
 use Rattle.wsn_rules.specs.Examples.{greatest}
 use Rattle.wsn_rules.specs.PlanExamples.{bare_piece, bare_last, bare_control, four_keys, any_length}

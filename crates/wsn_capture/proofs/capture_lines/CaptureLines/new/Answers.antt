@@ -3,7 +3,7 @@ use Rattle.wsn_wire.specs.declared.endpoint.Role.TheVariants.{Client, Server}
 use Rattle.wsn_rules.specs.Limits.{Limits}
 use Rattle.wsn_capture.specs.declared.capture_lines.CaptureLines.{CaptureLines}
 use Rattle.wsn_capture.specs.CaptureLines.{HasNotedCloses}
-use Rattle.wsn_capture.specs.Closes.{IsCloseLine}
+use Rattle.wsn_capture.specs.CloseLines.{IsCloseLine}
 use Rattle.wsn_capture.specs.RefusedLines.{IsRefusedLine}
 use Rattle.wsn_capture.proofs.EveryReport.{nothing_closed}
 use Rattle.wsn_capture.proofs.OffendingLines.{none_offending}

@@ -1,6 +1,6 @@
 use Rattle.std.proofs.Common.{Bool, sym, ap, ◌∙◌, subst}
 use Rattle.wsn_wire.specs.declared.endpoint.Role.TheVariants.{Client, Server}
-use Rattle.wsn_rules.specs.Reports.{IsFirst, IsOutcome}
+use Rattle.wsn_rules.specs.ClosingHandshake.{IsFirst, IsOutcome}
 use Rattle.wsn_rules.specs.Sides.{has_ended, side_of}
 use Rattle.wsn_capture.specs.SideTexts.{ended_before}
 use Rattle.wsn_capture.proofs.ReportedLines.{first_by_lines}

@@ -1,6 +1,6 @@
 use Rattle.std.proofs.Common.{ℕ, Option, List, ◌++◌, ◌∙◌, ap, codes}
 use Rattle.wsn_wire.specs.declared.endpoint.Role.{Role}
-use Rattle.wsn_rules.specs.Reports.{other_endpoint}
+use Rattle.wsn_rules.specs.ClosingHandshake.{other_endpoint}
 use Rattle.wsn_print.specs.PeopleReport.{endpoint_word, with_code, close_code, side_in, answer_words}
 use Rattle.wsn_print.proofs.Appended.{three, four, six}
 use Rattle.wsn_print.proofs.people_reports.ended_streams.push_closed.Goals as goal

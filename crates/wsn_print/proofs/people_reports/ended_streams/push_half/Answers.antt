@@ -1,5 +1,5 @@
 use Rattle.std.proofs.Common.{ℕ, Option, List, ◌++◌, ◌∙◌, ap, codes}
-use Rattle.wsn_rules.specs.Reports.{other_endpoint}
+use Rattle.wsn_rules.specs.ClosingHandshake.{other_endpoint}
 use Rattle.wsn_print.specs.PeopleReport.{endpoint_word, explain_line, close_code, side_in, close_words}
 use Rattle.wsn_print.proofs.Appended.{two, four}
 use Rattle.wsn_print.proofs.people_reports.ended_streams.push_half.Goals as goal

@@ -1,7 +1,7 @@
 use Rattle.std.proofs.Common.{◌≡◌, ℕ, Bool, true, List, [], ◌++◌, ◌∙◌, ap, sym, codes}
 use Rattle.std.specs.Prelude.{if◌then◌else◌}
 use Rattle.wsn_wire.specs.declared.endpoint.Role.TheVariants.{Client, Server}
-use Rattle.wsn_rules.specs.declared.report.Side.{Side}
+use Rattle.wsn_rules.specs.declared.closing_handshake.Side.{Side}
 use Rattle.wsn_print.specs.Sentences.{exchanged_sentence, exchange_command}
 use Rattle.wsn_print.specs.PeopleReport.{next_line, next_or, refused_line, are_exchanged, failed_lines}
 use Rattle.wsn_print.proofs.Appended.{four}

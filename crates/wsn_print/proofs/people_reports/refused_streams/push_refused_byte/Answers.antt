@@ -1,5 +1,5 @@
 use Rattle.std.proofs.Common.{ℕ, List, ◌++◌, ◌∙◌, ap, codes, decimal}
-use Rattle.wsn_rules.specs.Reports.{other_endpoint}
+use Rattle.wsn_rules.specs.ClosingHandshake.{other_endpoint}
 use Rattle.wsn_print.specs.PeopleReport.{endpoint_word, refusal_opening}
 use Rattle.wsn_print.proofs.Appended.{two, six}
 use Rattle.wsn_print.proofs.people_reports.refused_streams.push_refused_byte.Goals as goal

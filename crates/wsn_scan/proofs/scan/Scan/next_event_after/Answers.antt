@@ -5,7 +5,7 @@ use Rattle.wsn_scan.specs.declared.part.Taken.TheVariants as taken
 use Rattle.wsn_scan.specs.Scans.{AdvancesFrom}
 use Rattle.wsn_scan.proofs.EventParts.{event_part}
 use Rattle.wsn_rules.specs.declared.head_info.HeadInfo.{HeadInfo}
-use Rattle.wsn_frame.specs.declared.frame_context.FrameContext.{FrameContext}
+use Rattle.wsn_frame.specs.declared.fragment_law.FrameContext.{FrameContext}
 use Rattle.wsn_scan.specs.EventFrames.{IsEventFrame, info_found, whole_part}
 use Rattle.wsn_scan.specs.Feeding.{ConsumesPrefix}
 use Rattle.wsn_scan.proofs.EventHeads.{event_head}

@@ -1,7 +1,7 @@
 use Rattle.std.proofs.Common.{◌≡◌, ◌+◌, ◌-◌, ◌≤◌, List, ℕ, length, drop, refl, sym, ap, ◌∙◌, subst, arith, length-drop, rules}
 use borrow.Rule.Slice.PartMut.{mid_of, put_mid, put_same, same_len_mid}
 use Rattle.wsn_wire.specs.Frame.{IsBytes}
-use Rattle.wsn_frame.specs.declared.frame_context.FrameContext.{FrameContext}
+use Rattle.wsn_frame.specs.declared.fragment_law.FrameContext.{FrameContext}
 use Rattle.wsn_scan.specs.EventFrames.{IsEventFrame, TakesEvents}
 use Rattle.wsn_scan.proofs.EventRuns.{IsPastEvent, after_frames, begins, takes_event, goes_on, taken_with}
 use Rattle.wsn_scan.proofs.FedChunks.{bytes_below, bytes_after, share_is, kept_after, same_further}

@@ -2,8 +2,8 @@ use Rattle.std.proofs.Common.{Option, ◌++◌, List, ℕ, take, drop, sym, ap, 
 use Rattle.wsn_wire.specs.declared.endpoint.Role.{Role}
 use Rattle.wsn_rules.specs.Limits.{Limits}
 use Rattle.wsn_rules.specs.Group.{unfinished}
-use Rattle.wsn_frame.specs.declared.open_message.OpenMessage.{OpenMessage}
-use Rattle.wsn_frame.specs.OpenMessages.{IsOpenMessage}
+use Rattle.wsn_frame.specs.declared.kept_message.OpenMessage.{OpenMessage}
+use Rattle.wsn_frame.specs.KeptMessages.{IsOpenMessage}
 use Rattle.wsn_frame.specs.PartialHeads.{IsHead}
 use Rattle.wsn_scan.specs.declared.part.Taken.TheVariants as taken
 use Rattle.wsn_scan.proofs.BegunFrames.{from_between, if_some}

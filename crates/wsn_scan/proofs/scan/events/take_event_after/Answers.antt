@@ -3,9 +3,9 @@ use Rattle.std.proofs.lemmas.List.{length-take-le}
 use borrow.Rule.Slice.PartMut.{mid_of, mid_len, put_mid}
 use Rattle.wsn_wire.specs.Frame.{IsBytes, first_byte}
 use Rattle.wsn_wire.proofs.FrameLemmas.{IsBytes-right}
-use Rattle.wsn_frame.specs.declared.open_message.OpenMessage.{OpenMessage}
+use Rattle.wsn_frame.specs.declared.kept_message.OpenMessage.{OpenMessage}
 use Rattle.wsn_rules.specs.Group.{unfinished}
-use Rattle.wsn_frame.specs.OpenMessages.{IsOpenMessage}
+use Rattle.wsn_frame.specs.KeptMessages.{IsOpenMessage}
 use Rattle.wsn_frame.specs.PartialHeads.{IsHead}
 use Rattle.wsn_frame.specs.PayloadChecks.{IsChecked}
 use Rattle.wsn_frame.specs.Payloads.{unmasked_by}

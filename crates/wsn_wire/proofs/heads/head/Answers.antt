@@ -1,5 +1,0 @@
-use Rattle.std.proofs.Common.{rules}
-use Rattle.wsn_wire.proofs.heads.head.Goals as goal
-
-pub returns : goal.returns
-returns c = search rules
