@@ -29,8 +29,8 @@ pub enum ShowStop {
 
 /// Shows the capture on the input: prints what each line completes as soon as the line is whole, then what is left over
 /// of both streams, who ended the connection if a stream ended without a Close, and the report. It returns the report,
-/// how many bytes each endpoint sent after its Close, and the lines with offending bytes. It reads chunks of at most [`CHUNK`] bytes. The limits apply to each
-/// endpoint's stream separately.
+/// how many bytes each endpoint sent after its Close, and the lines with offending bytes. It reads chunks of at most
+/// [`CHUNK`] bytes. The limits apply to each endpoint's stream separately.
 ///
 /// The error `Line` is the first line that isn't accepted; what the lines before it show is printed. It is returned once
 /// the line has ended or is too long whatever follows, with at most 4,095 bytes read after that byte. `Read` is a read

@@ -101,6 +101,7 @@ impl LenForm {
             LenForm::Eight => 8,
         }
     }
+
     /// The low seven bits of a frame's second byte.
     #[inline(always)]
     pub fn field(self) -> u8
