@@ -109,13 +109,11 @@ fn compare_inputs<A: Allocator + Copy, R: Read + Drop, S: Read + Drop, W: Write 
 ) -> Option<Ended> {
     let output = RefCell::new(BlockWriter::new(output));
     let mut writer = TiedWriter::new(&output);
-    let first = BlockReader::new(first);
-    let second = BlockReader::new(second);
     let ended = match asked.side {
         None => compare_streams(alloc, first, second, asked.comparison, &mut writer),
         Some(side) => {
-            let first = SideReader::new(first, side);
-            let second = SideReader::new(second, side);
+            let first = SideReader::new(BlockReader::new(first), side);
+            let second = SideReader::new(BlockReader::new(second), side);
             compare_sides(alloc, first, second, asked.comparison, &mut writer)
         }
     };
@@ -131,8 +129,8 @@ fn compare_streams<A: Allocator + Copy, R: Read + Drop, S: Read + Drop, W: Write
     writer: W,
 ) -> Ended {
     let mut streams = ComparedStreams {
-        first: Input::new(first),
-        second: Input::new(second),
+        first: Input::new(BlockReader::new(first)),
+        second: Input::new(BlockReader::new(second)),
     };
     let mut printed = Output::new(writer);
     let mut diagnosed = OneLine::new();
