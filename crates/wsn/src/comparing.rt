@@ -13,30 +13,29 @@ use wsn_io::{BlockReader, BlockWriter, FirstBytes, Input, Output, Stop, TiedWrit
 use wsn_job::{ComparedStreams, Ran, run_same, run_same_on_sides};
 use wsn_wire::Role;
 
-/// How a comparison ended.
+/// A comparison, and with a side that its inputs are captures, of which it reads what this endpoint sent.
 #[derive(Clone, Copy)]
+pub struct SidedComparison {
+    pub comparison: Comparison,
+    pub side: Option<Role>,
+}
+
+/// How a comparison ended.
+#[derive(Drop)]
 struct Ended {
     ran: Ran,
     /// Whether a read of the first input failed, as it does at a line of a capture that isn't accepted.
     first_failed: bool,
-}
-
-impl Ended {
-    fn new<R: Read>(ran: Ran, first: &Input<R>) -> Self {
-        Ended {
-            ran,
-            first_failed: first.failed(),
-        }
-    }
+    /// What is to be printed on standard error.
+    diagnosed: OneLine,
 }
 
 /// Compares the streams in two files and returns the exit status. Both are opened before either is read.
 pub fn compare<R: Runtime + AllocGlobal>(
     rt: &R,
-    comparison: Comparison,
+    asked: &SidedComparison,
     first: &Option<String>,
     second: &Option<String>,
-    side: Option<Role>,
     hints_in_colors: bool,
 ) -> u8 {
     let _held = hold_standard_input(rt);
@@ -45,7 +44,7 @@ pub fn compare<R: Runtime + AllocGlobal>(
         Err(status) => return status,
     };
     match open(rt, second) {
-        Ok(second) => compare_on(rt, comparison, first, second, side, hints_in_colors),
+        Ok(second) => compare_on(rt, asked, first, second, hints_in_colors),
         Err(status) => status,
     }
 }
@@ -53,32 +52,22 @@ pub fn compare<R: Runtime + AllocGlobal>(
 /// Compares the streams on two inputs, and returns the exit status. Nothing is reported if nobody reads standard output.
 fn compare_on<R: Runtime + AllocGlobal, A: Read + Drop, B: Read + Drop>(
     rt: &R,
-    comparison: Comparison,
+    asked: &SidedComparison,
     first: A,
     second: B,
-    side: Option<Role>,
     hints_in_colors: bool,
 ) -> u8 {
     let mut first = FirstBytes::new(first);
     let mut second = FirstBytes::new(second);
-    let mut diagnosed = OneLine::new();
     let mut output = Pipe::new(io::writer(rt));
-    let ended = compare_inputs(
-        rt.alloc(),
-        &mut first,
-        &mut second,
-        &comparison,
-        side,
-        &mut output,
-        &mut diagnosed,
-    );
+    let ended = compare_inputs(rt.alloc(), &mut first, &mut second, asked, &mut output);
     if output.has_no_reader() {
         return FAULT;
     }
     match ended {
         Some(ended) => {
-            finish(rt, &diagnosed);
-            let hint = hint_on(&comparison, first.kept(), second.kept(), side, &ended);
+            finish(rt, &ended.diagnosed);
+            let hint = hint_on(asked, first.kept(), second.kept(), &ended);
             if let Some(hint) = hint {
                 print_hint(rt, hint, hints_in_colors);
             }
@@ -90,45 +79,43 @@ fn compare_on<R: Runtime + AllocGlobal, A: Read + Drop, B: Read + Drop>(
 
 /// The hint on a comparison of inputs with these first bytes, if there is one.
 fn hint_on(
-    comparison: &Comparison,
+    asked: &SidedComparison,
     first: &[u8],
     second: &[u8],
-    side: Option<Role>,
     ended: &Ended,
 ) -> Option<ComparedHint> {
-    match side {
-        None => hint_on_streams(*comparison, first, second, ended.ran.answer),
+    match asked.side {
+        None => hint_on_streams(asked.comparison, first, second, ended.ran.answer),
         Some(_) => {
             let failed = if ended.first_failed { first } else { second };
-            hint_on_sides(*comparison, failed, !ended.first_failed, ended.ran.answer)
+            hint_on_sides(
+                asked.comparison,
+                failed,
+                !ended.first_failed,
+                ended.ran.answer,
+            )
         }
     }
 }
 
-/// Compares the streams on two inputs, or one side of the captures on them. Prints the answer, and puts what is to be
-/// printed on standard error into the given line; `None` if the output failed.
+/// Compares the streams on two inputs, or one side of the captures on them, and prints the answer; `None` if the output
+/// failed.
 fn compare_inputs<A: Allocator + Copy, R: Read + Drop, S: Read + Drop, W: Write + Drop>(
     alloc: A,
     first: R,
     second: S,
-    comparison: &Comparison,
-    side: Option<Role>,
+    asked: &SidedComparison,
     output: W,
-    diagnosed: &mut OneLine,
 ) -> Option<Ended> {
     let output = RefCell::new(BlockWriter::new(output));
     let mut writer = TiedWriter::new(&output);
-    let ended = match side {
-        None => compare_streams(alloc, first, second, *comparison, &mut writer, diagnosed),
-        Some(side) => compare_sides(
-            alloc,
-            first,
-            second,
-            *comparison,
-            side,
-            &mut writer,
-            diagnosed,
-        ),
+    let ended = match asked.side {
+        None => compare_streams(alloc, first, second, asked.comparison, &mut writer),
+        Some(side) => {
+            let first = SideReader::new(BlockReader::new(first), side);
+            let second = SideReader::new(BlockReader::new(second), side);
+            compare_sides(alloc, first, second, asked.comparison, &mut writer)
+        }
     };
     writer.flush().is_ok().then_some(ended)
 }
@@ -140,34 +127,41 @@ fn compare_streams<A: Allocator + Copy, R: Read + Drop, S: Read + Drop, W: Write
     second: S,
     comparison: Comparison,
     writer: W,
-    diagnosed: &mut OneLine,
 ) -> Ended {
     let mut streams = ComparedStreams {
         first: Input::new(BlockReader::new(first)),
         second: Input::new(BlockReader::new(second)),
     };
     let mut printed = Output::new(writer);
-    let mut errors = Output::new(diagnosed);
+    let mut diagnosed = OneLine::new();
+    let mut errors = Output::new(&mut diagnosed);
     let ran = run_same(alloc, &mut streams, comparison, &mut printed, &mut errors);
-    Ended::new(ran, &streams.first)
+    Ended {
+        ran,
+        first_failed: streams.first.failed(),
+        diagnosed,
+    }
 }
 
-/// Compares this side of two captures, and prints the answer.
+/// Compares two sides of captures, and prints the answer.
 fn compare_sides<A: Allocator + Copy, R: Read + Drop, S: Read + Drop, W: Write + Drop>(
     alloc: A,
-    first: R,
-    second: S,
+    first: SideReader<R>,
+    second: SideReader<S>,
     comparison: Comparison,
-    side: Role,
     writer: W,
-    diagnosed: &mut OneLine,
 ) -> Ended {
     let mut sides = ComparedStreams {
-        first: Input::new(SideReader::new(BlockReader::new(first), side)),
-        second: Input::new(SideReader::new(BlockReader::new(second), side)),
+        first: Input::new(first),
+        second: Input::new(second),
     };
     let mut printed = Output::new(writer);
-    let mut errors = Output::new(diagnosed);
+    let mut diagnosed = OneLine::new();
+    let mut errors = Output::new(&mut diagnosed);
     let ran = run_same_on_sides(alloc, &mut sides, comparison, &mut printed, &mut errors);
-    Ended::new(ran, &sides.first)
+    Ended {
+        ran,
+        first_failed: sides.first.failed(),
+        diagnosed,
+    }
 }

@@ -89,32 +89,30 @@ pub struct Cut {
     pub pings: usize,
 }
 
-/// Adds a message in fragments.
+/// Adds a message in fragments, each with its length in the shortest encoding.
 pub fn put_fragments(
     random: &mut Random,
-    role: Role,
-    opcode: u8,
-    payload: &[u8],
+    message: Frame<'_>,
     cut: Cut,
     into: &mut Vec<u8>,
 ) -> Result<(), AllocError> {
-    let mut rest = payload;
-    let mut opcode = opcode;
-    for _ in 0..payload.len() {
+    let mut rest = message.payload;
+    let mut opcode = message.opcode;
+    for _ in 0..message.payload.len() {
         if rest.len() <= cut.most {
             break;
         }
         let (fragment, others) = rest.split_at(cut.most);
         let frame = Frame {
             fin: false,
-            ..Frame::whole(role, opcode, fragment)
+            ..Frame::whole(message.role, opcode, fragment)
         };
         frame.put(random, into)?;
         if cut.pings > 0 && random.once_in(cut.pings) {
-            Frame::whole(role, PING, b"are you there").put(random, into)?;
+            Frame::whole(message.role, PING, b"are you there").put(random, into)?;
         }
         rest = others;
         opcode = CONTINUATION;
     }
-    Frame::whole(role, opcode, rest).put(random, into)
+    Frame::whole(message.role, opcode, rest).put(random, into)
 }

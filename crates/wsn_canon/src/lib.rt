@@ -29,8 +29,8 @@ pub use wsn_events::{
 pub use wsn_io::{Input, Output};
 pub use wsn_list::{Format, list, list_as, put_verdict};
 pub use wsn_plan::{
-    LineWhy, Plan, PlanAnswer, PlanFault, PlanFileFault, RecutAnswer, Step, Why, plan_of,
-    read_plan, read_plan_file, recut, recut_uniform, uniform, write_plan,
+    LineWhy, Plan, PlanAnswer, PlanFault, PlanFileFault, RecutAnswer, Step, UniformFrames, Why,
+    plan_of, read_plan, read_plan_file, recut, recut_uniform, uniform, write_plan,
 };
 pub use wsn_scan::{
     FrameReader, HeadInfo, INPUT_MAX, Limits, MESSAGE_MAX, Part, Refusal, Scan, Stop, Summary,

@@ -9,7 +9,7 @@ use std::io::{Read, Write};
 use wsn_canon::{Compared, ComparedStreams, normalise, same};
 use wsn_io::{Input, Output};
 use wsn_list::list;
-use wsn_plan::{Plan, PlanAnswer, RecutAnswer, plan_of, recut, recut_uniform};
+use wsn_plan::{Plan, PlanAnswer, RecutAnswer, UniformFrames, plan_of, recut, recut_uniform};
 use wsn_scan::{Limits, Stop, Verdict, judge};
 use wsn_wire::Role;
 
@@ -173,14 +173,17 @@ pub fn recut_uniformly<A: Allocator + Copy, W: Write>(
         limits,
         mut reader,
     } = stream;
+    let frames = UniformFrames {
+        size: sizes.size.max(1),
+        weave: sizes.weave,
+        key: key_of(role),
+    };
     recut_uniform(
         heap,
         &mut Input::new(&mut reader),
         &mut Output::new(writer),
         role,
         limits,
-        sizes.size.max(1),
-        sizes.weave,
-        key_of(role),
+        frames,
     )
 }

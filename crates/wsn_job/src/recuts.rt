@@ -8,7 +8,7 @@ use std::alloc::Allocator;
 use std::io::{Read, Write};
 use wsn_command::How;
 use wsn_io::{Input, Output};
-use wsn_plan::{RecutAnswer, recut, recut_uniform};
+use wsn_plan::{RecutAnswer, UniformFrames, recut, recut_uniform};
 use wsn_print::line_of_recut_fault;
 use wsn_scan::{Limits, Stop};
 use wsn_wire::Role;
@@ -30,7 +30,12 @@ pub(crate) fn recut_input<A: Allocator + Copy, R: Read, W: Write>(
     match how {
         How::ByPlan(plan) => recut(alloc, input, output, role, limits, plan),
         How::BySize { size, weave, key } => {
-            recut_uniform(alloc, input, output, role, limits, *size, *weave, *key)
+            let frames = UniformFrames {
+                size: *size,
+                weave: *weave,
+                key: *key,
+            };
+            recut_uniform(alloc, input, output, role, limits, frames)
         }
     }
 }

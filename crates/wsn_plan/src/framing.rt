@@ -15,7 +15,7 @@ ghost use Rattle.wsn_plan.specs.Framing.{control_frame, frame_here, EncodesItsLe
 ghost use Rattle.wsn_frame.specs.Payloads.{unmasked_by};
 
 use crate::kept::Kept;
-use crate::walking::Walk;
+use crate::walking::{FrameForm, Walk};
 use std::alloc::Allocator;
 use std::io::Write;
 use wsn_events::{WireFrame, put_frame};
@@ -24,6 +24,15 @@ use wsn_io::Output;
 use wsn_rules::Step;
 use wsn_scan::Stop;
 use wsn_wire::{Form, Kind, Op};
+
+/// What a frame's head says, but for the length.
+#[derive(Clone, Copy)]
+struct FrameHead {
+    fin: bool,
+    op: Op,
+    key: Option<[u8; 4]>,
+    form: Form,
+}
 
 /// Writes the frame of a plan's next step. The events are masked in place and are unchanged afterwards. `Write` if the
 /// writer fails: a prefix of the frame is written.
@@ -46,9 +55,19 @@ pub(crate) fn put_step<A: Allocator, W: Write>(
 {
     match step {
         Step::Piece { len, key, form } => {
-            put_piece(output, &mut events[walk.message], walk, *len, *key, *form)
+            let frame = FrameForm {
+                key: *key,
+                form: *form,
+            };
+            put_piece(output, &mut events[walk.message], walk, *len, frame)
         }
-        Step::Last { key, form } => put_last(output, &mut events[walk.event], walk, *key, *form),
+        Step::Last { key, form } => {
+            let frame = FrameForm {
+                key: *key,
+                form: *form,
+            };
+            put_last(output, &mut events[walk.event], walk, frame)
+        }
         Step::Control { key } => put_control(output, &mut events[walk.event], *key),
     }
 }
@@ -59,15 +78,15 @@ fn put_piece<A: Allocator, W: Write>(
     event: &mut Kept<A>,
     walk: &Walk,
     len: u64,
-    key: Option<[u8; 4]>,
-    form: Form,
+    frame: FrameForm,
 ) -> Result<(), Stop>
     requires unfailed { output.old.failed ≡ false }
     requires message { (kind : Kind) × (text : List ℕ) × (kept_meant event.old ≡ Message kind text)
         × (walk.now.held + len ≤ length text) × (length text < 2 ^ 63) }
-    requires form { FormFits form len }
+    requires form { FormFits frame.form len }
     ensures put { (kind : Kind) (text : List ℕ) → kept_meant event.old ≡ Message kind text →
-        IsWrittenOrStops output.old output.new (frame_bytes (frame_here walk.now (Message kind text ∷ []) (Piece len key form))) result }
+        IsWrittenOrStops output.old output.new
+        (frame_bytes (frame_here walk.now (Message kind text ∷ []) (Piece len frame.key frame.form))) result }
     ensures same { kept_meant event.new ≡ kept_meant event.old }
 {
     let Kept::Message(kind, text) = event else {
@@ -75,14 +94,13 @@ fn put_piece<A: Allocator, W: Write>(
     };
     let from = walk.held as usize;
     let to = from + len as usize;
-    put_masked(
-        output,
-        false,
-        op_after(walk.pieces, *kind),
-        key,
-        form,
-        &mut text[from..to],
-    )
+    let head = FrameHead {
+        fin: false,
+        op: op_after(walk.pieces, *kind),
+        key: frame.key,
+        form: frame.form,
+    };
+    put_masked(output, head, &mut text[from..to])
 }
 
 /// Writes a message's last frame.
@@ -90,29 +108,28 @@ fn put_last<A: Allocator, W: Write>(
     output: &mut Output<W>,
     event: &mut Kept<A>,
     walk: &Walk,
-    key: Option<[u8; 4]>,
-    form: Form,
+    frame: FrameForm,
 ) -> Result<(), Stop>
     requires unfailed { output.old.failed ≡ false }
     requires message { (kind : Kind) × (text : List ℕ) × (kept_meant event.old ≡ Message kind text)
         × (walk.now.held ≤ length text) × (length text < 2 ^ 63)
-        × FormFits form (length text - walk.now.held) }
+        × FormFits frame.form (length text - walk.now.held) }
     ensures put { (kind : Kind) (text : List ℕ) → kept_meant event.old ≡ Message kind text →
-        IsWrittenOrStops output.old output.new (frame_bytes (frame_here walk.now (Message kind text ∷ []) (Last key form))) result }
+        IsWrittenOrStops output.old output.new
+        (frame_bytes (frame_here walk.now (Message kind text ∷ []) (Last frame.key frame.form))) result }
     ensures same { kept_meant event.new ≡ kept_meant event.old }
 {
     let Kept::Message(kind, text) = event else {
         unreachable!();
     };
     let from = walk.held as usize;
-    put_masked(
-        output,
-        true,
-        op_after(walk.pieces, *kind),
-        key,
-        form,
-        &mut text[from..],
-    )
+    let head = FrameHead {
+        fin: true,
+        op: op_after(walk.pieces, *kind),
+        key: frame.key,
+        form: frame.form,
+    };
+    put_masked(output, head, &mut text[from..])
 }
 
 /// The opcode of a message's frame after this many Pieces: the first has that of the message's kind, the others
@@ -143,7 +160,13 @@ fn put_control<A: Allocator, W: Write>(
     let Kept::Control(op, body) = event else {
         unreachable!();
     };
-    put_masked(output, true, *op, key, Form::Shortest, body)
+    let head = FrameHead {
+        fin: true,
+        op: *op,
+        key,
+        form: Form::Shortest,
+    };
+    put_masked(output, head, body)
 }
 
 /// Writes a frame. With a key the payload is masked in place, and unmasked again afterwards: `unmask` does both (RFC
@@ -151,27 +174,30 @@ fn put_control<A: Allocator, W: Write>(
 #[tactic(none)]
 fn put_masked<W: Write>(
     output: &mut Output<W>,
-    fin: bool,
-    op: Op,
-    key: Option<[u8; 4]>,
-    form: Form,
+    head: FrameHead,
     payload: &mut [u8],
 ) -> Result<(), Stop>
     requires unfailed { output.old.failed ≡ false }
     requires size { length payload.old < 2 ^ 63 }
-    requires control { is_control op ≡ true → (fin ≡ true) × (length payload.old ≤ 125) × (form ≡ Form.Shortest) }
-    requires fits { FormFits form (length payload.old) }
-    ensures put { IsWrittenOrStops output.old output.new
-        (frame_bytes (record { fin = fin; op = op; key = key; form = form; payload = payload.old })) result }
+    requires control { is_control head.op ≡ true →
+        (head.fin ≡ true) × (length payload.old ≤ 125) × (head.form ≡ Form.Shortest) }
+    requires fits { FormFits head.form (length payload.old) }
+    ensures put { IsWrittenOrStops output.old output.new (frame_bytes (record {
+      fin = head.fin;
+      op = head.op;
+      key = head.key;
+      form = head.form;
+      payload = payload.old;
+    })) result }
     ensures same { payload.new ≡ payload.old }
 {
-    let mask = changing(key);
+    let mask = changing(head.key);
     unmask(mask, 0, payload);
     let frame = WireFrame {
-        fin,
-        op,
-        key,
-        form,
+        fin: head.fin,
+        op: head.op,
+        key: head.key,
+        form: head.form,
         wire: payload,
     };
     let done = put_frame(output, &frame);

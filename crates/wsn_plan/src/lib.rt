@@ -22,7 +22,7 @@ mod walking;
 
 pub use planning::{PlanAnswer, plan_of};
 pub use recutting::{RecutAnswer, recut, recut_uniform};
-pub use uniform_plans::uniform;
+pub use uniform_plans::{UniformFrames, uniform};
 pub use wsn_plan_text::{
     LineWhy, Plan, PlanFault, PlanFileFault, read_plan, read_plan_file, write_plan,
 };

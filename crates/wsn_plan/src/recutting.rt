@@ -15,7 +15,7 @@ use crate::checking::fault_of;
 use crate::framing::put_step;
 use crate::gathering::{Gathered, gather};
 use crate::kept::Kept;
-use crate::uniform_plans::uniform_of_kept;
+use crate::uniform_plans::{UniformFrames, uniform_of_kept};
 use crate::walking::Walk;
 use bumpalo::Bump;
 use std::alloc::Allocator;
@@ -72,26 +72,25 @@ pub fn recut<A: Allocator + Copy, R: Read, W: Write>(
     refragment(output, role, limits, &mut events, plan.steps())
 }
 
-/// Refragments a stream as [`recut`] does, by the plan that [`uniform`] makes of its events. `size` is at least 1, and
-/// there is a key exactly for a client. Its only fault is `TooManyPieces`. The plan is held beside the events: 24 bytes
-/// for each frame, in a vector that can have room for twice as many.
+/// Refragments a stream as [`recut`] does, by the plan that [`uniform`] makes of its events. Its only fault is
+/// `TooManyPieces`. The plan is held beside the events: 24 bytes for each frame, in a vector that can have room for twice
+/// as many.
 pub fn recut_uniform<A: Allocator + Copy, R: Read, W: Write>(
     alloc: A,
     input: &mut Input<R>,
     output: &mut Output<W>,
     role: Role,
     limits: Limits,
-    size: u32,
-    weave: bool,
-    key: Option<[u8; 4]>,
+    frames: UniformFrames,
 ) -> Result<RecutAnswer, Stop>
     requires readable { input.old.failed ≡ false }
     requires writable { output.old.failed ≡ false }
-    requires size { 1 ≤ size }
-    requires key { IsSome key ↔ (role ≡ Client) }
-    ensures recut { IsRecut role limits (uniform_plan size weave key) input.old input.new output.old output.new result }
+    requires size { 1 ≤ frames.size }
+    requires key { IsSome frames.key ↔ (role ≡ Client) }
+    ensures recut { IsRecut role limits (uniform_plan frames.size frames.weave frames.key) input.old input.new output.old
+        output.new result }
     ensures whole { (all : List ℕ) → input.old.remaining ≡ Some all →
-        IsRecutWhole role limits (uniform_plan size weave key) all output.old output.new result }
+        IsRecutWhole role limits (uniform_plan frames.size frames.weave frames.key) all output.old output.new result }
     ensures only_fault { (step : ℕ) (why : Why) → result ≡ Ok (RecutAnswer.Fault step why) → why ≡ TooManyPieces }
 {
     let arena = Bump::new(alloc);
@@ -102,7 +101,7 @@ pub fn recut_uniform<A: Allocator + Copy, R: Read, W: Write>(
     let Verdict::Accepted(_) = verdict else {
         return Ok(RecutAnswer::NotAccepted(verdict));
     };
-    let plan = uniform_of_kept(alloc, &events, size, weave, key)?;
+    let plan = uniform_of_kept(alloc, &events, frames)?;
     refragment(output, role, limits, &mut events, plan.steps())
 }
 

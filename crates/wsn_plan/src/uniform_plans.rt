@@ -17,23 +17,30 @@ use wsn_rules::Step;
 use wsn_scan::Stop;
 use wsn_wire::{Form, Role};
 
+/// Frames of one size, as [`uniform`] plans them.
+#[derive(Clone, Copy, Debug)]
+pub struct UniformFrames {
+    /// The bytes of each frame of a message but the last; at least 1.
+    pub size: u32,
+    /// Whether the first frame of a message that has several comes before the controls directly before that message.
+    pub weave: bool,
+    /// The masking key of all frames: a client's must have one, a server's none (RFC 6455 section 5.1).
+    pub key: Option<[u8; 4]>,
+}
+
 /// Plans frames of one size for events of an endpoint of this role: each control in one frame, and each message in
-/// frames of `size` bytes, the last of which holds the rest (RFC 6455 section 5.4). `size` is at least 1. With `weave`,
-/// the first frame of a message that has several comes before the controls directly before that message. All frames
-/// have this key: a client's must have one, a server's none (section 5.1).
+/// frames of that size, the last of which holds the rest (RFC 6455 section 5.4).
 ///
 /// `Memory` if an allocation fails, and no other error. Without events it allocates no memory.
 pub fn uniform<A: Allocator>(
     alloc: A,
     events: &[Event<A>],
     role: Role,
-    size: u32,
-    weave: bool,
-    key: Option<[u8; 4]>,
+    frames: UniformFrames,
 ) -> Result<Plan<A>, Stop>
-    requires size { 1 ≤ size }
-    requires key { IsSome key ↔ (role ≡ Client) }
-    ensures plan { IfOk result (λ plan. plan ≡ uniform_plan size weave key (map meant events.now)) }
+    requires size { 1 ≤ frames.size }
+    requires key { IsSome frames.key ↔ (role ≡ Client) }
+    ensures plan { IfOk result (λ plan. plan ≡ uniform_plan frames.size frames.weave frames.key (map meant events.now)) }
     ensures stop { IfErr result (λ stop. (stop ≡ Stop.Memory) × (0 < length events.now)) }
 {
     // The role only determines whether there is a key.
@@ -42,13 +49,13 @@ pub fn uniform<A: Allocator>(
     let mut controls = 0;
     for event in events {
         if let Some(bytes) = event_len(event) {
-            push_message(&mut plan, size, weave, key, controls, bytes)?;
+            push_message(&mut plan, frames, controls, bytes)?;
             controls = 0;
         } else {
             controls += 1;
         }
     }
-    push_times(&mut plan, Step::Control { key }, controls)?;
+    push_times(&mut plan, Step::Control { key: frames.key }, controls)?;
     Ok(plan)
 }
 
@@ -56,25 +63,24 @@ pub fn uniform<A: Allocator>(
 pub(crate) fn uniform_of_kept<A: Allocator, B: Allocator>(
     alloc: A,
     events: &[Kept<B>],
-    size: u32,
-    weave: bool,
-    key: Option<[u8; 4]>,
+    frames: UniformFrames,
 ) -> Result<Plan<A>, Stop>
-    requires size { 1 ≤ size }
-    ensures plan { IfOk result (λ plan. plan ≡ uniform_plan size weave key (map kept_meant events.now)) }
+    requires size { 1 ≤ frames.size }
+    ensures plan { IfOk result (λ plan.
+        plan ≡ uniform_plan frames.size frames.weave frames.key (map kept_meant events.now)) }
     ensures stop { IfErr result (λ stop. (stop ≡ Stop.Memory) × (0 < length events.now)) }
 {
     let mut plan = Plan::new(alloc);
     let mut controls = 0;
     for event in events {
         if let Some(bytes) = message_len(event) {
-            push_message(&mut plan, size, weave, key, controls, bytes)?;
+            push_message(&mut plan, frames, controls, bytes)?;
             controls = 0;
         } else {
             controls += 1;
         }
     }
-    push_times(&mut plan, Step::Control { key }, controls)?;
+    push_times(&mut plan, Step::Control { key: frames.key }, controls)?;
     Ok(plan)
 }
 
@@ -92,28 +98,27 @@ fn event_len<A: Allocator>(event: &Event<A>) -> Option<u64>
 #[tactic(none)]
 fn push_message<A: Allocator>(
     plan: &mut Plan<A>,
-    size: u32,
-    weave: bool,
-    key: Option<[u8; 4]>,
+    frames: UniformFrames,
     controls: u64,
     bytes: u64,
 ) -> Result<(), Stop>
-    requires { 1 ≤ size }
-    ensures pushed { IfOk result (λ _. plan.new ≡ plan.old ++ message_steps size weave key controls bytes) }
+    requires { 1 ≤ frames.size }
+    ensures pushed { IfOk result (λ _.
+        plan.new ≡ plan.old ++ message_steps frames.size frames.weave frames.key controls bytes) }
     ensures stop { IfErr result (λ stop. stop ≡ Stop.Memory) }
 {
     let piece = Step::Piece {
-        len: u64::from(size),
-        key,
+        len: u64::from(frames.size),
+        key: frames.key,
         form: Form::Shortest,
     };
-    let pieces = bytes.saturating_sub(1) / u64::from(size);
-    let ahead = pieces.min(most_ahead(weave));
+    let pieces = bytes.saturating_sub(1) / u64::from(frames.size);
+    let ahead = pieces.min(most_ahead(frames.weave));
     push_times(plan, piece, ahead)?;
-    push_times(plan, Step::Control { key }, controls)?;
+    push_times(plan, Step::Control { key: frames.key }, controls)?;
     push_times(plan, piece, pieces - ahead)?;
     plan.push(Step::Last {
-        key,
+        key: frames.key,
         form: Form::Shortest,
     })
 }

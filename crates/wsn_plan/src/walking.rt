@@ -14,6 +14,15 @@ use wsn_rules::{Step, Why};
 use wsn_scan::Limits;
 use wsn_wire::{Form, Lengths, Role};
 
+/// What a step says of its frame: the masking key, and how the length is encoded.
+#[derive(Clone, Copy)]
+pub(crate) struct FrameForm {
+    /// The key; `None` if the frame isn't masked.
+    pub key: Option<[u8; 4]>,
+    /// The form of its length.
+    pub form: Form,
+}
+
 /// How far a plan has been followed over events: the state after its steps so far.
 #[derive(Clone, Copy)]
 pub(crate) struct Walk {
@@ -56,9 +65,19 @@ impl Walk {
     {
         match step {
             Step::Piece { len, key, form } => {
-                self.against_piece(role, limits, events, *len, *key, *form)
+                let frame = FrameForm {
+                    key: *key,
+                    form: *form,
+                };
+                self.against_piece(role, limits, events, *len, frame)
             }
-            Step::Last { key, form } => self.against_last(role, limits, events, *key, *form),
+            Step::Last { key, form } => {
+                let frame = FrameForm {
+                    key: *key,
+                    form: *form,
+                };
+                self.against_last(role, limits, events, frame)
+            }
             Step::Control { key } => self.against_control(role, events, *key),
         }
     }
@@ -71,14 +90,14 @@ impl Walk {
         limits: Limits,
         events: &[Kept<A>],
         len: u64,
-        key: Option<[u8; 4]>,
-        form: Form,
+        frame: FrameForm,
     ) -> Option<Why>
         requires placed { IsPlaced self.now (map kept_meant events.now) }
         requires few { self.now.pieces + 1 < 2 ^ 64 }
-        ensures { IsFirstAgainst (IsAgainst role limits self.now (map kept_meant events.now) (Piece len key form)) result }
+        ensures { IsFirstAgainst
+            (IsAgainst role limits self.now (map kept_meant events.now) (Piece len frame.key frame.form)) result }
     {
-        if !has_key_of(role, key) {
+        if !has_key_of(role, frame.key) {
             return Some(Why::KeyMismatch);
         }
         if self.event == events.len() {
@@ -93,7 +112,7 @@ impl Walk {
         if is_one_too_many(limits, self.pieces) {
             return Some(Why::TooManyPieces);
         }
-        if !is_allowed_form(limits.lengths(), form, len) {
+        if !is_allowed_form(limits.lengths(), frame.form, len) {
             return Some(Why::WrongForm);
         }
         None
@@ -107,13 +126,13 @@ impl Walk {
         role: Role,
         limits: Limits,
         events: &[Kept<A>],
-        key: Option<[u8; 4]>,
-        form: Form,
+        frame: FrameForm,
     ) -> Option<Why>
         requires { IsPlaced self.now (map kept_meant events.now) }
-        ensures { IsFirstAgainst (IsAgainst role limits self.now (map kept_meant events.now) (Last key form)) result }
+        ensures { IsFirstAgainst (IsAgainst role limits self.now (map kept_meant events.now) (Last frame.key frame.form))
+            result }
     {
-        if !has_key_of(role, key) {
+        if !has_key_of(role, frame.key) {
             return Some(Why::KeyMismatch);
         }
         if self.event == events.len() {
@@ -125,7 +144,11 @@ impl Walk {
         if self.message != self.event {
             return Some(Why::NotAMessage);
         }
-        if !is_allowed_form(limits.lengths(), form, text_len.saturating_sub(self.held)) {
+        if !is_allowed_form(
+            limits.lengths(),
+            frame.form,
+            text_len.saturating_sub(self.held),
+        ) {
             return Some(Why::WrongForm);
         }
         None

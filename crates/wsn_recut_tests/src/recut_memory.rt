@@ -12,7 +12,7 @@ use wsn_canon::Event;
 use wsn_doubles::answer_lines::recut_line;
 use wsn_doubles::heaps::{fill, heap_of};
 use wsn_doubles::readers::Chopped;
-use wsn_plan::{Plan, PlanFault, Step, read_plan, uniform};
+use wsn_plan::{Plan, PlanFault, Step, UniformFrames, read_plan, uniform};
 use wsn_scan::Stop;
 use wsn_wire::{Form, Kind, Role};
 
@@ -111,7 +111,12 @@ fn is_planned(rt: &impl Abort, alloc: Global, blocks: usize) -> bool {
     push_event(rt, &mut events, Event::Message(Kind::Text, Vec::new(&heap)));
     let mut steps = [Step::Control { key: None }; 18];
     steps[17] = LAST;
-    let plan = uniform(&heap, events.as_slice(), Role::Server, 1, false, None);
+    let frames = UniformFrames {
+        size: 1,
+        weave: false,
+        key: None,
+    };
+    let plan = uniform(&heap, events.as_slice(), Role::Server, frames);
     is_made(rt, &plan, &Stop::Memory, &steps)
 }
 
@@ -134,7 +139,12 @@ fn is_planned_around(rt: &impl Abort, alloc: Global, blocks: usize) -> bool {
     push_event(rt, &mut events, Event::Ping(Default::default()));
     let text = b"Hello".to_vec(&heap).expect(rt, "memory");
     push_event(rt, &mut events, Event::Message(Kind::Text, text));
-    let plan = uniform(&heap, events.as_slice(), Role::Server, 3, true, None);
+    let frames = UniformFrames {
+        size: 3,
+        weave: true,
+        key: None,
+    };
+    let plan = uniform(&heap, events.as_slice(), Role::Server, frames);
     is_made(rt, &plan, &Stop::Memory, &AROUND_A_PING)
 }
 

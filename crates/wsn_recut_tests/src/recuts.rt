@@ -2,14 +2,14 @@
 
 use crate::expecting::{expect_answer, expect_of, expect_recut, plan_read};
 use std::alloc::{Allocator, Global};
-use std::io::{Read, Write};
+use std::io::Write;
 use std::process::Abort;
-use wsn_doubles::engines::{SentStream, key_of, recut_by};
+use wsn_doubles::engines::{SentStream, Sizes, recut_by, recut_uniformly};
 use wsn_doubles::readers::{Chopped, READS};
 use wsn_doubles::vectors::{ANY_LENGTHS, GREATEST, Settings, filled, limits_from, stream_named};
 use wsn_io::{Input, Output};
-use wsn_plan::{PlanFault, RecutAnswer, read_plan, recut, recut_uniform};
-use wsn_scan::{Limits, Stop};
+use wsn_plan::{PlanFault, RecutAnswer, read_plan, recut};
+use wsn_scan::Stop;
 use wsn_wire::Role;
 
 /// How a stream is recut: by the plan of a text, or in frames of this size. With `SizeAndWeave` the controls before a
@@ -160,48 +160,46 @@ pub fn recut_of<A: Allocator + Copy, W: Write>(
     rt: &impl Abort,
     heap: A,
     row: &RecutRow,
-    mut reader: Chopped,
+    reader: Chopped,
     writer: &mut W,
 ) -> Result<RecutAnswer, Stop> {
-    let role = row.role;
-    let limits = limits_from(&row.settings).expect(rt, "limits in range");
-    let (size, weave) = match row.by {
-        By::Plan(text) => {
-            return recut_by_text(rt, heap, &mut reader, writer, (role, limits), text);
-        }
-        By::Size(size) => (size.max(1), false),
-        By::SizeAndWeave(size) => (size.max(1), true),
+    let stream = SentStream {
+        role: row.role,
+        limits: limits_from(&row.settings).expect(rt, "limits in range"),
+        reader,
     };
-    let key = key_of(role);
-    let mut input = Input::new(&mut reader);
-    let mut output = Output::new(writer);
-    recut_uniform(
-        heap,
-        &mut input,
-        &mut output,
-        role,
-        limits,
-        size,
-        weave,
-        key,
-    )
+    match row.by {
+        By::Plan(text) => recut_by_text(rt, heap, stream, text, writer),
+        By::Size(size) => recut_uniformly(heap, stream, Sizes { size, weave: false }, writer),
+        By::SizeAndWeave(size) => recut_uniformly(
+            heap,
+            stream,
+            Sizes { size, weave: true },
+            writer,
+        ),
+    }
 }
 
-/// The answer of a recut by the plan of this text, of what the endpoint of this role sends under these limits. Fails
-/// unless the text is a plan.
-fn recut_by_text<A: Allocator + Copy, R: Read, W: Write>(
+/// The answer of a recut of this stream by the plan of this text. Fails unless the text is a plan.
+fn recut_by_text<A: Allocator + Copy, W: Write>(
     rt: &impl Abort,
     heap: A,
-    reader: &mut R,
-    writer: &mut W,
-    sender: (Role, Limits),
+    mut stream: SentStream,
     text: &str,
+    writer: &mut W,
 ) -> Result<RecutAnswer, Stop> {
     match read_plan(heap, text.as_bytes()) {
         Ok(plan) => {
-            let mut input = Input::new(reader);
+            let mut input = Input::new(&mut stream.reader);
             let mut output = Output::new(writer);
-            recut(heap, &mut input, &mut output, sender.0, sender.1, &plan)
+            recut(
+                heap,
+                &mut input,
+                &mut output,
+                stream.role,
+                stream.limits,
+                &plan,
+            )
         }
         Err(fault) => {
             expect_of(rt, fault == PlanFault::Memory, &fault);
@@ -240,10 +238,13 @@ fn wrong_form_of_a_length_of_two_bytes(rt: HostRuntime) {
         ("last -", "done", bytes.as_slice()),
     ] {
         let limits = limits_from(&ANY_LENGTHS).expect(&rt, "limits in range");
-        let mut reader = Chopped::new(bytes.as_slice(), usize::MAX);
+        let stream = SentStream {
+            role: Role::Server,
+            limits,
+            reader: Chopped::new(bytes.as_slice(), usize::MAX),
+        };
         let mut out = Vec::new(alloc);
-        let sender = (Role::Server, limits);
-        let answer = recut_by_text(&rt, alloc, &mut reader, &mut out, sender, text);
+        let answer = recut_by_text(&rt, alloc, stream, text, &mut out);
         let found = (&answer, out.as_slice());
         expect_recut(&rt, alloc, found, (line, expected), &text);
     }

@@ -10,7 +10,7 @@ use wsn_doubles::engines::{SentStream, Sizes, compared, recut_uniformly};
 use wsn_doubles::readers::Chopped;
 use wsn_doubles::vectors::stream_limits::TWO_FRAMES;
 use wsn_doubles::vectors::{Stream, streams};
-use wsn_plan::uniform;
+use wsn_plan::{UniformFrames, uniform};
 use wsn_wire::{Kind, Role};
 
 /// A size, whether to interleave, and the text of the plan of a server's ping and "Hello".
@@ -29,12 +29,14 @@ fn a_ping_and_hello_are_planned(rt: HostRuntime) {
     push_event(&rt, &mut events, Event::Ping(Default::default()));
     push_event(&rt, &mut events, Event::Message(Kind::Text, hello));
     for (size, weave, text) in PLANS {
-        let size = size.max(1);
-        let plan = uniform(alloc, events.as_slice(), Role::Server, size, weave, None).expect(
-            &rt, "memory",
-        );
+        let frames = UniformFrames {
+            size: size.max(1),
+            weave,
+            key: None,
+        };
+        let plan = uniform(alloc, events.as_slice(), Role::Server, frames).expect(&rt, "memory");
         let written = plan_written(&rt, alloc, &plan);
-        expect_bytes_of(&rt, written.as_slice(), text.as_bytes(), &(size, weave));
+        expect_bytes_of(&rt, written.as_slice(), text.as_bytes(), &frames);
     }
 }
 

@@ -24,6 +24,15 @@ pub enum RedactStop {
     Write,
 }
 
+/// Room for one line that is redacted.
+#[derive(Drop)]
+struct LineRooms {
+    /// For the bytes of its entry.
+    bytes: [u8; BYTES_MAX],
+    /// For what becomes of it, with an LF.
+    into: [u8; LINE_ROOM],
+}
+
 /// Writes the redaction of the capture on the input: as many lines, each as soon as it is whole. It reads chunks of at
 /// most [`CHUNK`] bytes. The limits apply to each endpoint's stream separately.
 ///
@@ -42,35 +51,35 @@ pub fn redact_capture<R: Read, W: Write>(
 {
     let mut redactor = CaptureRedactor::new(limits);
     let mut lines = Lines::new();
-    let mut bytes = [0; BYTES_MAX];
-    let mut into = [0; LINE_ROOM];
+    let mut rooms = LineRooms {
+        bytes: [0; BYTES_MAX],
+        into: [0; LINE_ROOM],
+    };
     let mut chunk = [0; CHUNK];
     loop {
         let Some(count) = input.read(&mut chunk) else {
             return Err(RedactStop::Capture(CaptureStop::Read));
         };
         if count == 0 {
-            return end(&mut redactor, lines.line(), &mut bytes, &mut into, output);
+            return end(&mut redactor, lines.line(), &mut rooms, output);
         }
         redact_lines(
             &mut redactor,
             &mut lines,
             &chunk[..count],
-            &mut bytes,
-            &mut into,
+            &mut rooms,
             output,
         )?;
     }
 }
 
-/// Redacts the next line and writes what becomes of it, with an LF or without. The contents of `bytes` and `into` are then
+/// Redacts the next line and writes what becomes of it, with an LF or without. The contents of `rooms` are then
 /// unspecified.
 fn put_redacted<W: Write>(
     redactor: &mut CaptureRedactor,
     line: &[u8],
     lf: bool,
-    bytes: &mut [u8; BYTES_MAX],
-    into: &mut [u8; LINE_ROOM],
+    rooms: &mut LineRooms,
     output: &mut Output<W>,
 ) -> Result<(), RedactStop>
     requires redacting { IsRedactingLines redactor.old }
@@ -89,10 +98,10 @@ fn put_redacted<W: Write>(
         × (count_of redactor.new.lines ≤ 1000000)) }
 {
     let number = redactor.count() + 1;
-    match redactor.line(line, bytes, into) {
+    match redactor.line(line, &mut rooms.bytes, &mut rooms.into) {
         Ok(count) => {
-            let end = end_line(into, count, lf);
-            match put_line(output, &into[..end]) {
+            let end = end_line(&mut rooms.into, count, lf);
+            match put_line(output, &rooms.into[..end]) {
                 Ok(()) => Ok(()),
                 Err(_) => Err(RedactStop::Write),
             }
@@ -115,13 +124,12 @@ fn end_line(into: &mut [u8; LINE_ROOM], count: usize, lf: bool) -> usize
 }
 
 /// Redacts the lines that a chunk of the text ends. The error `Line` is returned at the first byte at which a line isn't
-/// accepted, whatever follows. The contents of `bytes` and `into` are then unspecified.
+/// accepted, whatever follows. The contents of `rooms` are then unspecified.
 fn redact_lines<W: Write>(
     redactor: &mut CaptureRedactor,
     lines: &mut Lines,
     chunk: &[u8],
-    bytes: &mut [u8; BYTES_MAX],
-    into: &mut [u8; LINE_ROOM],
+    rooms: &mut LineRooms,
     output: &mut Output<W>,
 ) -> Result<(), RedactStop>
     requires writing { IsWritingLines redactor.old lines.old output.old }
@@ -145,19 +153,18 @@ fn redact_lines<W: Write>(
         let (count, ended) = lines.take(&chunk[taken..]);
         taken += count;
         if ended {
-            put_redacted(redactor, lines.line(), true, bytes, into, output)?;
+            put_redacted(redactor, lines.line(), true, rooms, output)?;
             lines.clear();
         }
     }
     Ok(())
 }
 
-/// Redacts the last line, which has no LF, unless it is empty. The contents of `bytes` and `into` are then unspecified.
+/// Redacts the last line, which has no LF, unless it is empty. The contents of `rooms` are then unspecified.
 fn end<W: Write>(
     redactor: &mut CaptureRedactor,
     last: &[u8],
-    bytes: &mut [u8; BYTES_MAX],
-    into: &mut [u8; LINE_ROOM],
+    rooms: &mut LineRooms,
     output: &mut Output<W>,
 ) -> Result<(), RedactStop>
     requires writing { IsWritingLines redactor.old last.now output.old }
@@ -170,5 +177,5 @@ fn end<W: Write>(
     if last.is_empty() {
         return Ok(());
     }
-    put_redacted(redactor, last, false, bytes, into, output)
+    put_redacted(redactor, last, false, rooms, output)
 }

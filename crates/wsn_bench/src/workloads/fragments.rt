@@ -2,7 +2,7 @@
 //! inside characters, and JSON with a ping after each fragment. They are judged, and written in their normal form.
 use crate::commands::{Printed, usual_limits};
 use crate::digest::Digest;
-use crate::frames::{CLIENT_CLOSE, Cut, TEXT, put_fragments};
+use crate::frames::{CLIENT_CLOSE, Cut, Frame, TEXT, put_fragments};
 use crate::pool::Pool;
 use crate::random::Random;
 use crate::recording::Recording;
@@ -48,8 +48,8 @@ fn pool(alloc: Global, random: &mut Random, blocks: usize) -> Result<Pool, Alloc
                 put_mixed(random, wanted, &mut text)?;
                 Cut { most, pings: 4 }
             };
-            let payload = text.as_bytes();
-            put_fragments(random, Role::Client, TEXT, payload, cut, &mut pool.bytes)?;
+            let whole = Frame::whole(Role::Client, TEXT, text.as_bytes());
+            put_fragments(random, whole, cut, &mut pool.bytes)?;
         }
     }
     Ok(pool)

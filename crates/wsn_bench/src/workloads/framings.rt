@@ -82,9 +82,9 @@ fn texts(alloc: Global, random: &mut Random, blocks: usize) -> Result<Pair, Allo
         for message in 0..MESSAGES {
             text.clear();
             put_message(random, &mut text)?;
-            let payload = text.as_bytes();
-            Frame::whole(Role::Client, TEXT, payload).put(random, &mut before.bytes)?;
-            put_fragments(random, Role::Client, TEXT, payload, CUT, &mut after.bytes)?;
+            let whole = Frame::whole(Role::Client, TEXT, text.as_bytes());
+            whole.put(random, &mut before.bytes)?;
+            put_fragments(random, whole, CUT, &mut after.bytes)?;
             if message % 8 == 7 {
                 let ping = Frame::whole(Role::Client, PING, b"12345678");
                 ping.put(random, &mut before.bytes)?;

@@ -16,4 +16,6 @@ returns-in-ByPlan g c =
     c.recut.new.output c.recut.result) (sym c.in-ByPlan.is) c.recut.ensures.recut
 
 pub returns-in-BySize : goal.returns-in-BySize
-returns-in-BySize g c = search rules
+returns-in-BySize g c =
+    subst (λ (how : How g.row.A.Denot). IsRecut c.args.role c.args.limits (planned_by how) c.args.input.now c.recut_uniform.new.input c.args.output.now
+    c.recut_uniform.new.output c.recut_uniform.result) (sym c.in-BySize.is) c.recut_uniform.ensures.recut

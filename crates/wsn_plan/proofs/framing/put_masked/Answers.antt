@@ -5,7 +5,7 @@ use Rattle.wsn_plan.proofs.MaskedPayloads.{masked_is}
 use Rattle.wsn_plan.proofs.framing.put_masked.Goals as goal
 
 pub returns-clause-put : goal.returns-clause-put
-returns-clause-put g c = c.put_frame-done.ensures c.args.payload.now (c.unmask.ensures ∙ c.changing-mask.ensures c.args.payload.now ∙ masked_is c.args.key c.args.payload.now)
+returns-clause-put g c = c.put_frame-done.ensures c.args.payload.now (c.unmask.ensures ∙ c.changing-mask.ensures c.args.payload.now ∙ masked_is c.args.head.key c.args.payload.now)
 
 pub returns-clause-same : goal.returns-clause-same
 returns-clause-same g c = c.unmask-2.ensures ∙ ap (unmasked_by c.changing-mask.result 0) c.unmask.ensures ∙ unmasked_by-twice c.changing-mask.result 0 c.args.payload.now

@@ -9,14 +9,14 @@ use Rattle.wsn_plan.proofs.uniform_plans.push_message.Goals as goal
 pub returns : goal.returns
 returns g c = record {
   pushed = let m = c.min-ahead.result in
-      let pieces = piece_count c.args.size c.args.bytes in
-      let least : m ≡ min pieces (ahead c.args.weave) = cc (c.min-ahead.ensures, c.saturating_sub.ensures, c.from-2.ensures, c.most_ahead.ensures) in
-      let first : c.push_times.new.plan ≡ c.args.plan.now ++ replicate m (Piece c.args.size c.args.key Shortest) = cc (c.in_ok-push_times.ensures.pushed, c.from.ensures) in
-      let second : c.push_times-2.new.plan ≡ c.push_times.new.plan ++ replicate c.args.controls (Control c.args.key) = c.in_ok-push_times-2.ensures.pushed in
-      let third : c.push_times-3.new.plan ≡ c.push_times-2.new.plan ++ replicate (pieces - m) (Piece c.args.size c.args.key Shortest) =
+      let pieces = piece_count c.args.frames.size c.args.bytes in
+      let least : m ≡ min pieces (ahead c.args.frames.weave) = cc (c.min-ahead.ensures, c.saturating_sub.ensures, c.from-2.ensures, c.most_ahead.ensures) in
+      let first : c.push_times.new.plan ≡ c.args.plan.now ++ replicate m (Piece c.args.frames.size c.args.frames.key Shortest) = cc (c.in_ok-push_times.ensures.pushed, c.from.ensures) in
+      let second : c.push_times-2.new.plan ≡ c.push_times.new.plan ++ replicate c.args.controls (Control c.args.frames.key) = c.in_ok-push_times-2.ensures.pushed in
+      let third : c.push_times-3.new.plan ≡ c.push_times-2.new.plan ++ replicate (pieces - m) (Piece c.args.frames.size c.args.frames.key Shortest) =
       cc (c.in_ok-push_times-3.ensures.pushed, c.from.ensures, c.saturating_sub.ensures, c.from-2.ensures) in
-      ok_on c.push.result (c.push.new.self ≡ c.push_times-3.new.plan ++ Last c.args.key Shortest ∷ []) (c.push.new.self ≡ c.args.plan.now ++ message_steps c.args.size c.args.weave c.args.key c.args.controls c.args.bytes)
-      (λ fourth. message_pushed c.args.size c.args.weave c.args.key c.args.plan.now c.push_times.new.plan c.push_times-2.new.plan c.push_times-3.new.plan c.push.new.self c.args.controls c.args.bytes m least first second third fourth)
+      ok_on c.push.result (c.push.new.self ≡ c.push_times-3.new.plan ++ Last c.args.frames.key Shortest ∷ []) (c.push.new.self ≡ c.args.plan.now ++ message_steps c.args.frames.size c.args.frames.weave c.args.frames.key c.args.controls c.args.bytes)
+      (λ fourth. message_pushed c.args.frames.size c.args.frames.weave c.args.frames.key c.args.plan.now c.push_times.new.plan c.push_times-2.new.plan c.push_times-3.new.plan c.push.new.self c.args.controls c.args.bytes m least first second third fourth)
       c.push.ensures.pushed;
   stop = search rules;
 }

@@ -10,20 +10,20 @@ use Rattle.wsn_plan.proofs.uniform_plans.uniform_of_kept.Goals.{in-Some+in_ok-pu
 pub loop-event-preserved : goal.loop-event-preserved
 loop-event-preserved g c =
     let events = map kept_meant c.args.events.now in
-    let whole = uniform_plan c.args.size c.args.weave c.args.key events in
+    let whole = uniform_plan c.args.frames.size c.args.frames.weave c.args.frames.key events in
     let plan = c.loop-event.plan in
     let event = kept_meant c.event-item.result in
     let later = drop (c.loop-event.event-index + 1) events in
-    let so_far : whole ≡ plan ++ plan_after c.args.size c.args.weave c.args.key c.loop-event.controls (event ∷ later) =
+    let so_far : whole ≡ plan ++ plan_after c.args.frames.size c.args.frames.weave c.args.frames.key c.loop-event.controls (event ∷ later) =
     c.loop-event.invariant.plan
-    ∙ ap (λ (left : List MeantEvent). plan ++ plan_after c.args.size c.args.weave c.args.key c.loop-event.controls left) (stands_for kept_meant c.args.events.now c.loop-event.event-index c.event-item.result c.loop-event-test.true c.event-item.is) in
+    ∙ ap (λ (left : List MeantEvent). plan ++ plan_after c.args.frames.size c.args.frames.weave c.args.frames.key c.loop-event.controls left) (stands_for kept_meant c.args.events.now c.loop-event.event-index c.event-item.result c.loop-event-test.true c.event-item.is) in
     elim c.match-message_len.branch [
       | in-Some+in_ok-push_message w ↦ rw (w.plan-is, w.controls-is) (record {
         few = omega arith;
-        plan = ends_message c.args.size c.args.weave c.args.key plan w.push_message.new.plan whole c.loop-event.controls w.in-Some.bytes event later w.in-Some.ensures so_far w.in_ok-push_message.ensures.pushed;
+        plan = ends_message c.args.frames.size c.args.frames.weave c.args.frames.key plan w.push_message.new.plan whole c.loop-event.controls w.in-Some.bytes event later w.in-Some.ensures so_far w.in_ok-push_message.ensures.pushed;
       })
       | in_default w ↦ rw (w.plan-is, w.controls-is) (record {
         few = omega (arith, c.loop-event.invariant.few);
-        plan = counts_control c.args.size c.args.weave c.args.key plan whole c.loop-event.controls event later w.in_default.ensures so_far;
+        plan = counts_control c.args.frames.size c.args.frames.weave c.args.frames.key plan whole c.loop-event.controls event later w.in_default.ensures so_far;
       })
     ]

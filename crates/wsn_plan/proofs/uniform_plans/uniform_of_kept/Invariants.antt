@@ -8,5 +8,5 @@ use Rattle.wsn_plan.proofs.uniform_plans.uniform_of_kept.Given as goal
 abbrev pub invariant-loop-event : goal.invariant-loop-event
 invariant-loop-event g l = record {
   few : l.controls ≤ l.event-index;
-  plan : uniform_plan l.size l.weave l.key (map kept_meant l.events) ≡ l.plan ++ plan_after l.size l.weave l.key l.controls (drop l.event-index (map kept_meant l.events));
+  plan : uniform_plan l.frames.size l.frames.weave l.frames.key (map kept_meant l.events) ≡ l.plan ++ plan_after l.frames.size l.frames.weave l.frames.key l.controls (drop l.event-index (map kept_meant l.events));
 }
