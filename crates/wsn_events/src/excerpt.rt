@@ -4,7 +4,7 @@ ghost use Rattle.wsn_rules.specs.Meaning.{MeantEvent, Message};
 ghost use Rattle.wsn_events.specs.EventsMeant.{meant};
 
 use crate::event::Event;
-use crate::normal_frames::{control_of, op_of};
+use crate::normal_form::{control_of, op_of};
 use arrayvec::ArrayVec;
 use std::alloc::Allocator;
 use wsn_print::{PlacedEvent, ShownEvent};

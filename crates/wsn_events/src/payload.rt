@@ -6,7 +6,7 @@ ghost use Rattle.wsn_events.specs.PayloadExcerpts.{meant_payload, meant_payloads
 ghost use Rattle.wsn_events.specs.Turns.{IsLawfulTurn, meant_turn};
 
 use crate::event::{Event, Small};
-use crate::normal_frames::control_of;
+use crate::normal_form::control_of;
 use crate::source::{Next, Source};
 use crate::turn::Turn;
 use std::alloc::Allocator;

@@ -1,5 +1,5 @@
 use crate::event::{Event, Small};
-use crate::normal_frames::op_of;
+use crate::normal_form::op_of;
 use std::alloc::Allocator;
 use std::mem;
 use wsn_scan::{CHUNK, Part};

@@ -5,7 +5,7 @@ use Rattle.wsn_wire.specs.declared.opcode.Op.TheVariants.{Continue, Text, Binary
 use Rattle.wsn_wire.specs.declared.refusal.Reason.{Reason}
 use Rattle.wsn_wire.specs.declared.refusal.Reason.TheVariants.{NothingToContinue, MessageOpen}
 use Rattle.wsn_wire.specs.Frame.{Frame, opcode, first_byte, key_bytes}
-use Rattle.wsn_wire.specs.HeadBytes.{opcode_field}
+use Rattle.wsn_wire.specs.ReceivedHead.{opcode_field}
 use Rattle.wsn_wire.proofs.FrameLemmas.{first_byte_fields}
 use Rattle.wsn_frame.specs.declared.heads.Head.{Head}
 use Rattle.wsn_rules.specs.Limits.{Limits}

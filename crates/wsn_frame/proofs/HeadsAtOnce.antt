@@ -12,7 +12,7 @@ use Rattle.wsn_wire.specs.declared.length_encoding.Lengths.{Lengths}
 use Rattle.wsn_wire.specs.declared.refusal.Reason.{Reason}
 use Rattle.wsn_wire.specs.declared.refusal.Reason.TheVariants.{MaskMissing, MaskPresent, LengthTopBit, LengthNotMinimal, MessageTooBig}
 use Rattle.wsn_wire.specs.Frame.{Frame, IsBytes, IsKey, opcode, first_byte, key_bytes}
-use Rattle.wsn_wire.specs.HeadBytes.{opcode_field, mask_bit, len_form_at, length_count, encoded_length, key_count}
+use Rattle.wsn_wire.specs.ReceivedHead.{opcode_field, mask_bit, len_form_at, length_count, encoded_length, key_count}
 use Rattle.wsn_wire.specs.Refusal.{number_of, IsFirstEvident}
 use Rattle.wsn_wire.specs.EvidenceInHeads.{EvidentInSecond, EvidentInLength}
 use Rattle.wsn_wire.proofs.FrameLemmas.{first_byte_fields, key_bytes_count}

@@ -6,7 +6,7 @@ use Rattle.wsn_wire.specs.declared.refusal.Reason.{Reason}
 use Rattle.wsn_wire.specs.declared.refusal.Reason.TheVariants.{CloseCode, CloseReason, TextBad, TextCut}
 use Rattle.wsn_wire.specs.declared.length_encoding.LenForm.{LenForm}
 use Rattle.wsn_wire.specs.Frame.{Frame, first_byte, key_bytes, masked}
-use Rattle.wsn_wire.specs.HeadBytes.{mask_bit, opcode_field, len_form_at, length_count, encoded_length, key_count}
+use Rattle.wsn_wire.specs.ReceivedHead.{mask_bit, opcode_field, len_form_at, length_count, encoded_length, key_count}
 use Rattle.wsn_wire.specs.Refusal.{number_of}
 use Rattle.wsn_wire.proofs.FrameLemmas.{key_bytes_count}
 use Rattle.wsn_frame.specs.declared.heads.Head.{Head}

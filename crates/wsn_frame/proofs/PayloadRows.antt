@@ -8,7 +8,7 @@ use Rattle.wsn_wire.specs.declared.refusal.Reason.{Reason}
 use Rattle.wsn_wire.specs.declared.refusal.Reason.TheVariants.{CloseCode, CloseReason, TextBad, TextCut}
 use Rattle.wsn_wire.specs.Refusal.{number_of}
 use Rattle.wsn_wire.specs.Frame.{Frame}
-use Rattle.wsn_wire.specs.HeadBytes.{fin_bit, opcode_field}
+use Rattle.wsn_wire.specs.ReceivedHead.{fin_bit, opcode_field}
 use Rattle.wsn_text.specs.Validated.{HasValidated}
 use Rattle.wsn_text.specs.Utf8.{Range, IsText, BeginsText, IsFirstBad}
 use Rattle.wsn_text.specs.CloseBody.{IsAcceptedCode}

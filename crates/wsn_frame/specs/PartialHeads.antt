@@ -9,7 +9,7 @@ use Rattle.wsn_wire.specs.declared.length_encoding.LenForm.{LenForm}
 use Rattle.wsn_wire.specs.declared.length_encoding.LenForm.TheVariants as len_form
 use Rattle.wsn_wire.specs.declared.length_encoding.Lengths.{Lengths}
 use Rattle.wsn_wire.specs.Frame.{Frame, IsBytes, IsKey, first_byte, key_bytes}
-use Rattle.wsn_wire.specs.HeadBytes.{mask_bit, len_form_at, length_count, encoded_length, key_count}
+use Rattle.wsn_wire.specs.ReceivedHead.{mask_bit, len_form_at, length_count, encoded_length, key_count}
 use Rattle.wsn_wire.specs.Refusal.{IsFirstEvident, number_of}
 use Rattle.wsn_wire.specs.EvidenceInHeads.{EvidentInSecond, EvidentInLength}
 use Rattle.wsn_rules.specs.declared.head_info.HeadInfo.{HeadInfo}

@@ -3,7 +3,7 @@ use Rattle.std.specs.Prelude.{◌≡◌, ◌≢◌, ℕ, ◌+◌, ◌<◌, ◌�
 use Rattle.std.specs.Int.{to_be_bytes, w16}
 use Rattle.wsn_wire.specs.declared.refusal.Reason.{Reason}
 use Rattle.wsn_wire.specs.Frame.{Frame}
-use Rattle.wsn_wire.specs.HeadBytes.{opcode_field}
+use Rattle.wsn_wire.specs.ReceivedHead.{opcode_field}
 use Rattle.wsn_wire.specs.Refusal.{number_of}
 use Rattle.wsn_text.specs.Utf8.{Range, IsText, BeginsText, IsFirstBad}
 use Rattle.wsn_text.specs.Validated.{HasValidated}

@@ -18,7 +18,7 @@ pub struct FrameContext {
 impl FrameContext {
     ghost use Rattle.std.specs.Prelude.{◌≡◌, ℕ, ◌+◌, ◌<◌, ◌↔◌, List, length, IsTrue};
     ghost use Rattle.wsn_wire.specs.Frame.{Frame, opcode};
-    ghost use Rattle.wsn_wire.specs.HeadBytes.{opcode_field};
+    ghost use Rattle.wsn_wire.specs.ReceivedHead.{opcode_field};
     ghost use Rattle.wsn_wire.specs.Refusal.{IsFirstOrNone};
     ghost use Rattle.wsn_wire.specs.EvidenceInHeads.{EvidentInFirst};
     ghost use Rattle.wsn_rules.specs.Group.{payload_of};

@@ -2,7 +2,7 @@
 ghost use Rattle.std.specs.Prelude.{◌≡◌, ℕ, ◌+◌, ◌<◌, ◌≤◌, List, [], ◌∷◌, length, take, IfOk, IfErr, IfSome, IfNone};
 ghost use Rattle.wsn_wire.specs.declared.refusal.Reason.{Reason};
 ghost use Rattle.wsn_wire.specs.Frame.{Frame, first_byte};
-ghost use Rattle.wsn_wire.specs.HeadBytes.{length_count};
+ghost use Rattle.wsn_wire.specs.ReceivedHead.{length_count};
 ghost use Rattle.wsn_wire.specs.Refusal.{IsFirstEvident};
 ghost use Rattle.wsn_rules.specs.Evidence.{EvidentByFirst};
 ghost use Rattle.wsn_frame.specs.KeptMessages.{IsOpenMessage};

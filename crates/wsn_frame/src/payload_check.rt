@@ -4,7 +4,7 @@ ghost use Rattle.wsn_wire.specs.declared.opcode.Op.TheVariants.{Continue, Text, 
 ghost use Rattle.wsn_wire.specs.declared.refusal.Reason.{Reason};
 ghost use Rattle.wsn_wire.specs.declared.refusal.Reason.TheVariants.{CloseReason, TextCut};
 ghost use Rattle.wsn_wire.specs.Frame.{Frame, first_byte};
-ghost use Rattle.wsn_wire.specs.HeadBytes.{fin_bit};
+ghost use Rattle.wsn_wire.specs.ReceivedHead.{fin_bit};
 ghost use Rattle.wsn_text.specs.Utf8.{BeginsText};
 ghost use Rattle.wsn_text.specs.Validated.{HasValidated};
 ghost use Rattle.wsn_rules.specs.Evidence.{EvidentByPayload};

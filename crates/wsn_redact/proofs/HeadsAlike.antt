@@ -9,7 +9,7 @@ use Rattle.wsn_wire.specs.declared.opcode.Op.TheVariants.{Continue, Text, Binary
 use Rattle.wsn_wire.specs.declared.refusal.Reason.{Reason}
 use Rattle.wsn_wire.specs.declared.refusal.Reason.TheVariants.{ReservedBits, ReservedOpcode, ControlNotFinal, NothingToContinue, MessageOpen, MaskMissing, MaskPresent, ControlTooLong, CloseOneByte, LengthTopBit, LengthNotMinimal, MessageTooBig, CloseCode, CloseReason, TextBad, TextCut, TooManyFrames}
 use Rattle.wsn_wire.specs.Frame.{Frame}
-use Rattle.wsn_wire.specs.HeadBytes.{opcode_field, encoded_length, len_form_at}
+use Rattle.wsn_wire.specs.ReceivedHead.{opcode_field, encoded_length, len_form_at}
 use Rattle.wsn_text.specs.Utf8.{BeginsText}
 use Rattle.wsn_text.proofs.Prefixes.{begins-nil, begins_take, bad_ends}
 use Rattle.wsn_rules.specs.Evidence.{Evidence, IntoPayload, EvidentByFirst, EvidentByLength, EvidentByPayload, IsOfText}

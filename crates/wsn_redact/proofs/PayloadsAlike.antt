@@ -8,7 +8,7 @@ use Rattle.wsn_wire.specs.declared.opcode.Op.TheVariants.{Continue, Text, Binary
 use Rattle.wsn_wire.specs.declared.refusal.Reason.{Reason}
 use Rattle.wsn_wire.specs.declared.refusal.Reason.TheVariants.{ReservedBits, ReservedOpcode, ControlNotFinal, NothingToContinue, MessageOpen, MaskMissing, MaskPresent, ControlTooLong, CloseOneByte, LengthTopBit, LengthNotMinimal, MessageTooBig, CloseCode, CloseReason, TextBad, TextCut, TooManyFrames}
 use Rattle.wsn_wire.specs.Frame.{Frame, opcode, first_byte}
-use Rattle.wsn_wire.specs.HeadBytes.{opcode_field}
+use Rattle.wsn_wire.specs.ReceivedHead.{opcode_field}
 use Rattle.wsn_wire.proofs.FrameLemmas.{first_byte_fields, fronts_agree}
 use Rattle.wsn_text.specs.Utf8.{BeginsText}
 use Rattle.wsn_text.proofs.Prefixes.{begins_take, bad_ends}

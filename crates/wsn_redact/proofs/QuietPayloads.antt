@@ -8,7 +8,7 @@ use Rattle.wsn_wire.specs.declared.length_encoding.LenForm.{LenForm}
 use Rattle.wsn_wire.specs.declared.refusal.Reason.{Reason}
 use Rattle.wsn_wire.specs.declared.refusal.Reason.TheVariants.{CloseReason, TextBad}
 use Rattle.wsn_wire.specs.Frame.{Frame, opcode, first_byte, second_byte, len_form_of, length_bytes, key_bytes, wire_payload}
-use Rattle.wsn_wire.specs.HeadBytes.{opcode_field, encoded_length, len_form_at, length_count}
+use Rattle.wsn_wire.specs.ReceivedHead.{opcode_field, encoded_length, len_form_at, length_count}
 use Rattle.wsn_wire.proofs.FrameLemmas.{first_byte_fields, second_byte_fields, length_bytes_fields, spells-len_form_of, key_bytes_count, length-wire_payload}
 use Rattle.wsn_text.specs.Utf8.{BeginsText, IsFirstBad}
 use Rattle.wsn_text.proofs.Prefixes.{begins-nil, begins_or_first_bad, first_bad_front}

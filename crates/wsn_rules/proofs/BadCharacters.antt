@@ -11,7 +11,7 @@ use Rattle.wsn_wire.specs.declared.refusal.Reason.TheVariants.{ReservedBits, Res
 use Rattle.wsn_wire.specs.declared.opcode.Op.{Op}
 use Rattle.wsn_wire.specs.declared.opcode.Op.TheVariants.{Continue, Text, Binary, Close, Ping, Pong}
 use Rattle.wsn_wire.specs.Frame.{Frame, IsBytes, is_control, opcode, stream, head_bytes, key_bytes, masked, wire_payload}
-use Rattle.wsn_wire.specs.HeadBytes.{opcode_field, mask_bit}
+use Rattle.wsn_wire.specs.ReceivedHead.{opcode_field, mask_bit}
 use Rattle.wsn_wire.proofs.FrameLemmas.{first_byte_fields, IsBytes-left, IsBytes-right, length-wire_payload}
 use Rattle.wsn_text.specs.Utf8.{IsText, BeginsText, IsFirstBad}
 use Rattle.wsn_text.proofs.Prefixes.{begins-nil, bad_ends}

@@ -8,7 +8,7 @@ use Rattle.wsn_wire.specs.declared.opcode.Op.TheVariants.{Continue}
 use Rattle.wsn_wire.specs.declared.refusal.Reason.{Reason}
 use Rattle.wsn_wire.specs.declared.refusal.Reason.TheVariants.{NothingToContinue, MessageOpen}
 use Rattle.wsn_wire.specs.Frame.{Frame, opcode, first_byte, second_byte, len_form_of, length_bytes, key_bytes, head_bytes, stream, is_control, wire_payload}
-use Rattle.wsn_wire.specs.HeadBytes.{HasLayout, opcode_field, mask_bit, len_form_at, length_count, encoded_length, key_count}
+use Rattle.wsn_wire.specs.ReceivedHead.{HasLayout, opcode_field, mask_bit, len_form_at, length_count, encoded_length, key_count}
 use Rattle.wsn_wire.specs.EvidenceInHeads.{HeadHasNoEvidence}
 use Rattle.wsn_wire.proofs.FrameLemmas.{IsFirstByteOf, first_byte_fields, second_byte_fields, length_bytes_fields, spells-len_form_of, key_bytes_count, fronts_agree, length-wire_payload, frame_at}
 use Rattle.wsn_wire.proofs.HeadLemmas.{IsSpelledBy, frame_of_layout}

@@ -4,7 +4,7 @@ use Rattle.std.proofs.lemmas.List.{length-append}
 use Rattle.wsn_wire.specs.declared.endpoint.Role.{Role}
 use Rattle.wsn_wire.specs.declared.refusal.Reason.{Reason}
 use Rattle.wsn_wire.specs.Frame.{Frame, frame_bytes, stream, IsBytes}
-use Rattle.wsn_wire.specs.HeadBytes.{HasLayout}
+use Rattle.wsn_wire.specs.ReceivedHead.{HasLayout}
 use Rattle.wsn_wire.proofs.FrameLemmas.{IsBytes-right}
 use Rattle.wsn_rules.specs.Limits.{Limits, InRange}
 use Rattle.wsn_rules.specs.Group.{unfinished}

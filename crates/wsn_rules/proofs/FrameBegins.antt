@@ -5,7 +5,7 @@ use Rattle.wsn_wire.specs.declared.opcode.Op.TheVariants.{Text, Binary, Close, P
 use Rattle.wsn_wire.specs.declared.refusal.Reason.{Reason}
 use Rattle.wsn_wire.specs.declared.refusal.Reason.TheVariants.{NothingToContinue, MessageOpen, TooManyFrames}
 use Rattle.wsn_wire.specs.Frame.{Frame, opcode}
-use Rattle.wsn_wire.specs.HeadBytes.{opcode_field}
+use Rattle.wsn_wire.specs.ReceivedHead.{opcode_field}
 use Rattle.wsn_wire.specs.Refusal.{number_of, IsFirstEvident}
 use Rattle.wsn_wire.specs.EvidenceInHeads.{EvidentInFirst}
 use Rattle.wsn_rules.specs.Limits.{Limits}

@@ -7,7 +7,7 @@ use Rattle.wsn_wire.specs.declared.opcode.Op.{Op}
 use Rattle.wsn_wire.specs.declared.refusal.Reason.{Reason}
 use Rattle.wsn_wire.specs.declared.refusal.Reason.TheVariants.{ReservedBits, ReservedOpcode, ControlNotFinal, NothingToContinue, MessageOpen, LengthTopBit, LengthNotMinimal, MessageTooBig, CloseCode, CloseReason, TextBad, TextCut, TooManyFrames}
 use Rattle.wsn_wire.specs.Frame.{Frame, opcode, is_control, second_byte, len_form_of, length_bytes, key_bytes, wire_payload, masked}
-use Rattle.wsn_wire.specs.HeadBytes.{HasLayout, opcode_field, mask_bit, encoded_length}
+use Rattle.wsn_wire.specs.ReceivedHead.{HasLayout, opcode_field, mask_bit, encoded_length}
 use Rattle.wsn_wire.specs.EvidenceInHeads.{HeadHasNoEvidence}
 use Rattle.wsn_wire.proofs.MaskLemmas.{masked-masked}
 use Rattle.wsn_wire.proofs.FrameLemmas.{layout_of_frame, first_byte_fields, second_byte_fields, length_bytes_fields, spells-len_form_of}

@@ -3,7 +3,7 @@ use Rattle.std.proofs.Common.{◌≡◌, ◌≢◌, ℕ, zero, suc, ◌+◌, ◌
 use Rattle.wsn_text.proofs.Numbers.{less_or_not}
 use Rattle.std.proofs.lemmas.List.{take-append-drop, length-take-le, length-append}
 use Rattle.wsn_wire.specs.Frame.{IsBytes}
-use Rattle.wsn_wire.specs.HeadBytes.{HasLayout, len_form_at, length_count, encoded_length, key_count}
+use Rattle.wsn_wire.specs.ReceivedHead.{HasLayout, len_form_at, length_count, encoded_length, key_count}
 use Rattle.wsn_wire.proofs.FrameLemmas.{IsBytes-append, IsBytes-left}
 use Rattle.wsn_rules.specs.Verdict.{EndsWithinFrame}
 use Rattle.wsn_rules.proofs.Prefixes.{nil-cons, nil-parts}

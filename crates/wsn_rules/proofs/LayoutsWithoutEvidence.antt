@@ -8,7 +8,7 @@ use Rattle.wsn_wire.specs.declared.opcode.Op.TheVariants.{Continue, Text, Close}
 use Rattle.wsn_wire.specs.declared.refusal.Reason.{Reason}
 use Rattle.wsn_wire.specs.declared.refusal.Reason.TheVariants.{ReservedBits, ReservedOpcode, ControlNotFinal, NothingToContinue, MessageOpen, LengthTopBit, LengthNotMinimal, MessageTooBig, CloseCode, CloseReason, TextBad, TextCut, TooManyFrames}
 use Rattle.wsn_wire.specs.Frame.{Frame, opcode, frame_bytes}
-use Rattle.wsn_wire.specs.HeadBytes.{HasLayout, opcode_field, len_form_at}
+use Rattle.wsn_wire.specs.ReceivedHead.{HasLayout, opcode_field, len_form_at}
 use Rattle.wsn_wire.specs.EvidenceInHeads.{EvidentInFirst, EvidentInLength, HeadHasNoEvidence}
 use Rattle.wsn_wire.proofs.FrameLemmas.{frame_at}
 use Rattle.wsn_wire.proofs.HeadLemmas.{IsSpelledBy, frame_of_layout}

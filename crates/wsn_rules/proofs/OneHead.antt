@@ -4,7 +4,7 @@ use Rattle.std.proofs.Common.{◌≡◌, ℕ, ◌<◌, ◌^◌, Bool, cond, List
 use Rattle.wsn_wire.specs.declared.endpoint.Role.{Role}
 use Rattle.wsn_wire.specs.declared.length_encoding.LenForm.{LenForm}
 use Rattle.wsn_wire.specs.Frame.{Frame, IsKey, FormFits, first_byte, second_byte, len_form_of, length_bytes, key_bytes, head_bytes}
-use Rattle.wsn_wire.specs.HeadBytes.{fin_bit, opcode_field, mask_bit, len_form_at, length_count, encoded_length}
+use Rattle.wsn_wire.specs.ReceivedHead.{fin_bit, opcode_field, mask_bit, len_form_at, length_count, encoded_length}
 use Rattle.wsn_wire.proofs.FrameLemmas.{first_byte_fields, second_byte_fields, length_bytes_fields, spells-len_form_of, key_bytes_count, op_at, op_at-opcode, key_at, key_at-key_bytes, form_at, form_at-len_form_of, fronts_agree}
 use Rattle.wsn_rules.specs.declared.head_info.HeadInfo.{HeadInfo}
 use Rattle.wsn_rules.specs.Limits.{Limits}

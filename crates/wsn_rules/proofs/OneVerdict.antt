@@ -3,7 +3,7 @@ use Rattle.std.proofs.Common.{◌≡◌, ℕ, List, [], ◌∷◌, ◌++◌, len
 use Rattle.wsn_wire.specs.declared.endpoint.Role.{Role}
 use Rattle.wsn_wire.specs.declared.refusal.Reason.{Reason}
 use Rattle.wsn_wire.specs.Frame.{Frame, frame_bytes, stream}
-use Rattle.wsn_wire.specs.HeadBytes.{HasLayout}
+use Rattle.wsn_wire.specs.ReceivedHead.{HasLayout}
 use Rattle.wsn_wire.proofs.FrameLemmas.{layout_of_frame, layouts_agree}
 use Rattle.wsn_rules.specs.Limits.{Limits}
 use Rattle.wsn_rules.specs.Group.{unfinished}

@@ -4,7 +4,7 @@ use Rattle.std.proofs.lemmas.List.{take-append-drop, length-append, length-take-
 use Rattle.wsn_wire.specs.declared.endpoint.Role.{Role}
 use Rattle.wsn_wire.specs.declared.refusal.Reason.{Reason}
 use Rattle.wsn_wire.specs.Frame.{Frame, masked}
-use Rattle.wsn_wire.specs.HeadBytes.{HasLayout, mask_bit, len_form_at, length_count, encoded_length, key_count}
+use Rattle.wsn_wire.specs.ReceivedHead.{HasLayout, mask_bit, len_form_at, length_count, encoded_length, key_count}
 use Rattle.wsn_wire.specs.EvidenceInHeads.{EvidentInSecond}
 use Rattle.wsn_wire.proofs.MaskLemmas.{length-masked}
 use Rattle.wsn_rules.specs.Limits.{Limits}

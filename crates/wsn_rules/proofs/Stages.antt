@@ -4,7 +4,7 @@ use Rattle.std.proofs.lemmas.List.{length-append}
 use Rattle.wsn_wire.specs.declared.endpoint.Role.{Role}
 use Rattle.wsn_wire.specs.declared.refusal.Reason.{Reason}
 use Rattle.wsn_wire.specs.Frame.{Frame}
-use Rattle.wsn_wire.specs.HeadBytes.{len_form_at, length_count, encoded_length, key_count}
+use Rattle.wsn_wire.specs.ReceivedHead.{len_form_at, length_count, encoded_length, key_count}
 use Rattle.wsn_wire.specs.EvidenceInHeads.{EvidentInSecond}
 use Rattle.wsn_rules.specs.Limits.{Limits}
 use Rattle.wsn_rules.specs.Evidence.{Evidence, EvidentByLength, EvidentByPayload, unmasked}

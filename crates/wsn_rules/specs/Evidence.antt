@@ -5,7 +5,7 @@ use Rattle.wsn_wire.specs.declared.endpoint.Role.{Role}
 use Rattle.wsn_wire.specs.declared.opcode.Op.TheVariants.{Text}
 use Rattle.wsn_wire.specs.declared.refusal.Reason.{Reason, TheVariants.{NothingToContinue, MessageOpen, MessageTooBig, CloseCode, CloseReason, TextBad, TextCut, TooManyFrames}}
 use Rattle.wsn_wire.specs.Frame.{Frame, masked}
-use Rattle.wsn_wire.specs.HeadBytes.{fin_bit, opcode_field, mask_bit, len_form_at, length_count, encoded_length, key_count}
+use Rattle.wsn_wire.specs.ReceivedHead.{fin_bit, opcode_field, mask_bit, len_form_at, length_count, encoded_length, key_count}
 use Rattle.wsn_wire.specs.EvidenceInHeads.{EvidentInFirst, EvidentInSecond, EvidentInLength}
 use Rattle.wsn_text.specs.Utf8.{IsText, BeginsText, IsFirstBad}
 use Rattle.wsn_text.specs.CloseBody.{IsAcceptedCode}

@@ -5,7 +5,7 @@ use Rattle.std.specs.List.{AllByRecursion, flat_map, AllZip}
 use Rattle.wsn_wire.specs.declared.opcode.Kind.{Kind}
 use Rattle.wsn_wire.specs.declared.opcode.Op.TheVariants.{Continue, Close}
 use Rattle.wsn_wire.specs.Frame.{Frame, IsKey, FormFits, IsEncodable, is_control, head_bytes, frame_bytes, wire_payload}
-use Rattle.wsn_wire.specs.HeadBytes.{len_form_at, length_count, key_count}
+use Rattle.wsn_wire.specs.ReceivedHead.{len_form_at, length_count, key_count}
 use Rattle.wsn_rules.specs.declared.head_info.HeadInfo.{HeadInfo}
 use Rattle.wsn_rules.specs.Group.{is_data, kind_of, payload_of}
 use Rattle.wsn_rules.specs.BadCharacter.{PlacedByte, placed}

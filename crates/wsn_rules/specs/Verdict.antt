@@ -3,7 +3,7 @@ use Rattle.std.specs.Prelude.{◌≡◌, ◌≢◌, ℕ, ◌+◌, ◌-◌, ◌<�
 use Rattle.wsn_wire.specs.declared.endpoint.Role.{Role}
 use Rattle.wsn_wire.specs.declared.refusal.Reason.{Reason}
 use Rattle.wsn_wire.specs.Frame.{Frame, stream}
-use Rattle.wsn_wire.specs.HeadBytes.{HasLayout}
+use Rattle.wsn_wire.specs.ReceivedHead.{HasLayout}
 use Rattle.wsn_wire.specs.Refusal.{number_of}
 use Rattle.wsn_rules.specs.declared.verdict.Verdict.{Verdict, TheVariants.{Accepted, Cut, Refused}}
 use Rattle.wsn_rules.specs.Limits.{Limits}

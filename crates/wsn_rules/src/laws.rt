@@ -4,7 +4,7 @@ ghost use Rattle.std.specs.Prelude.{◌≡◌, ◌≢◌, ℕ, ◌+◌, ◌↔�
 ghost use Rattle.wsn_wire.specs.declared.endpoint.Role.{Role};
 ghost use Rattle.wsn_wire.specs.declared.refusal.Reason.{Reason};
 ghost use Rattle.wsn_wire.specs.Frame.{Frame, IsBytes, frame_bytes, stream};
-ghost use Rattle.wsn_wire.specs.HeadBytes.{HasLayout};
+ghost use Rattle.wsn_wire.specs.ReceivedHead.{HasLayout};
 ghost use Rattle.wsn_rules.specs.Limits.{Limits, InRange};
 ghost use Rattle.wsn_rules.specs.Group.{unfinished};
 ghost use Rattle.wsn_rules.specs.Lawful.{LawAt, IsLawful};

@@ -9,7 +9,7 @@ use Rattle.wsn_wire.specs.declared.length_encoding.Form.TheVariants.{Shortest}
 use Rattle.wsn_wire.specs.declared.refusal.Reason.{Reason}
 use Rattle.wsn_wire.specs.declared.refusal.Reason.TheVariants.{CloseCode, CloseReason, TextBad, TextCut}
 use Rattle.wsn_wire.specs.Frame.{Frame, IsBytes, first_byte, opcode}
-use Rattle.wsn_wire.specs.HeadBytes.{opcode_field}
+use Rattle.wsn_wire.specs.ReceivedHead.{opcode_field}
 use Rattle.wsn_wire.proofs.FrameLemmas.{first_byte_fields}
 use Rattle.wsn_wire.proofs.HeadLemmas.{close_from_opcode}
 use Rattle.wsn_text.proofs.Rests.{text-nil}

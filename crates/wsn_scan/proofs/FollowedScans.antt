@@ -6,7 +6,7 @@ use Rattle.std.proofs.lemmas.List.{length-take, length-take-le, take_all}
 use Rattle.wsn_wire.specs.declared.endpoint.Role.{Role}
 use Rattle.wsn_wire.specs.declared.opcode.Op.TheVariants.{Text}
 use Rattle.wsn_wire.specs.Frame.{Frame, first_byte, head_bytes, frame_bytes, is_control, opcode, wire_payload, stream}
-use Rattle.wsn_wire.specs.HeadBytes.{opcode_field}
+use Rattle.wsn_wire.specs.ReceivedHead.{opcode_field}
 use Rattle.wsn_wire.proofs.FrameLemmas.{first_byte_fields, length-wire_payload}
 use Rattle.wsn_text.specs.Utf8.{BeginsText}
 use Rattle.wsn_rules.specs.declared.head_info.HeadInfo.{HeadInfo}

@@ -7,7 +7,7 @@ use Rattle.wsn_wire.specs.declared.opcode.Op.TheVariants.{Close}
 use Rattle.wsn_wire.specs.declared.refusal.Reason.{Reason}
 use Rattle.wsn_wire.specs.declared.length_encoding.LenForm.{LenForm}
 use Rattle.wsn_wire.specs.Frame.{Frame, IsBytes, is_control, first_byte, key_bytes, masked, frame_bytes, stream}
-use Rattle.wsn_wire.specs.HeadBytes.{HasLayout, mask_bit, opcode_field, length_count, encoded_length}
+use Rattle.wsn_wire.specs.ReceivedHead.{HasLayout, mask_bit, opcode_field, length_count, encoded_length}
 use Rattle.wsn_wire.proofs.FrameLemmas.{first_byte_fields, op_at, op_at-opcode, key_at, key_at-key_bytes, form_at, key_bytes_count, IsBytes-right, frame_at, frame_bytes_determine}
 use Rattle.wsn_wire.proofs.HeadLemmas.{frame_of_layout, close_from_opcode}
 use Rattle.wsn_frame.specs.declared.heads.Head.{Head}

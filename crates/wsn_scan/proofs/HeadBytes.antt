@@ -9,7 +9,7 @@ use Rattle.wsn_wire.specs.declared.length_encoding.LenForm.{LenForm}
 use Rattle.wsn_wire.specs.declared.length_encoding.LenForm.TheVariants as len_form
 use Rattle.wsn_wire.specs.declared.refusal.Reason.{Reason}
 use Rattle.wsn_wire.specs.Frame.{Frame}
-use Rattle.wsn_wire.specs.HeadBytes.{mask_bit, len_form_at, length_count, key_count}
+use Rattle.wsn_wire.specs.ReceivedHead.{mask_bit, len_form_at, length_count, key_count}
 use Rattle.wsn_rules.specs.declared.head_info.HeadInfo.{HeadInfo}
 use Rattle.wsn_rules.specs.Limits.{Limits}
 use Rattle.wsn_rules.specs.Group.{unfinished}

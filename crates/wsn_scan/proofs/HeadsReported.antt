@@ -6,7 +6,7 @@ use Rattle.wsn_wire.specs.declared.length_encoding.Form.{Form}
 use Rattle.wsn_wire.specs.declared.length_encoding.LenForm.{LenForm}
 use Rattle.wsn_wire.specs.declared.length_encoding.LenForm.TheVariants as len_form
 use Rattle.wsn_wire.specs.Frame.{Frame, IsBytes, IsEncodable, FormFits, first_byte, second_byte, len_form_of, length_bytes, key_bytes, head_bytes, wire_payload, frame_bytes, stream}
-use Rattle.wsn_wire.specs.HeadBytes.{HasLayout, mask_bit, len_form_at, length_count, encoded_length, key_count}
+use Rattle.wsn_wire.specs.ReceivedHead.{HasLayout, mask_bit, len_form_at, length_count, encoded_length, key_count}
 use Rattle.wsn_wire.specs.EvidenceInHeads.{HeadHasNoEvidence}
 use Rattle.wsn_wire.proofs.FrameLemmas.{IsBytes-append, first_byte_fields, second_byte_fields, length_bytes_fields, spells-len_form_of, key_bytes_count, op_at, op_at-opcode, key_at, key_at-key_bytes, form_at, frame_at, fronts_agree, length-wire_payload}
 use Rattle.wsn_wire.proofs.HeadLemmas.{frame_of_layout}

@@ -10,7 +10,7 @@ use Rattle.wsn_wire.specs.declared.opcode.Op.{Op}
 use Rattle.wsn_wire.specs.declared.opcode.Op.TheVariants.{Continue, Text, Binary, Close, Ping, Pong}
 use Rattle.wsn_wire.specs.declared.refusal.Reason.TheVariants.{NothingToContinue, ControlTooLong}
 use Rattle.wsn_wire.specs.Frame.{Frame, opcode, is_control, first_byte, second_byte, len_form_of, stream}
-use Rattle.wsn_wire.specs.HeadBytes.{opcode_field}
+use Rattle.wsn_wire.specs.ReceivedHead.{opcode_field}
 use Rattle.wsn_wire.specs.EvidenceInHeads.{IsControlOpcode, IsLong}
 use Rattle.wsn_wire.proofs.FrameLemmas.{first_byte_fields, second_byte_fields, spells-len_form_of}
 use Rattle.wsn_wire.proofs.HeadLemmas.{control_opcode}

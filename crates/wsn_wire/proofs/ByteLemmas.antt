@@ -2,7 +2,7 @@
 use Rattle.std.proofs.Common.{◌≡◌, ℕ, ◌<◌, refl, bit_and, nat_eq, not, sym, ◌∙◌, arith, inl, inr}
 use Rattle.std.proofs.lemmas.Bool.{agree_below_at, eq-eqb, eqb-true, cases_eq}
 use Rattle.std.proofs.lemmas.Nat.{and_mask}
-use Rattle.wsn_wire.specs.HeadBytes.{fin_bit, reserved_bits, opcode_field}
+use Rattle.wsn_wire.specs.ReceivedHead.{fin_bit, reserved_bits, opcode_field}
 
 pub opcode_mask : (byte : ℕ) → bit_and byte 15 ≡ opcode_field byte
 opcode_mask byte = and_mask byte 4

@@ -11,7 +11,7 @@ use Rattle.wsn_wire.specs.declared.length_encoding.Form.TheVariants as form
 use Rattle.wsn_wire.specs.declared.length_encoding.LenForm.{LenForm}
 use Rattle.wsn_wire.specs.declared.length_encoding.LenForm.TheVariants as len_form
 use Rattle.wsn_wire.specs.Frame.{Frame, opcode, first_byte, second_byte, length_bytes, len_form_of, key_bytes, wire_payload, frame_bytes, IsBytes, IsKey, FormFits, IsEncodable}
-use Rattle.wsn_wire.specs.HeadBytes.{fin_bit, reserved_bits, opcode_field, mask_bit, len_form_at, length_count, encoded_length, key_count, HasLayout}
+use Rattle.wsn_wire.specs.ReceivedHead.{fin_bit, reserved_bits, opcode_field, mask_bit, len_form_at, length_count, encoded_length, key_count, HasLayout}
 use Rattle.wsn_wire.proofs.MaskLemmas.{masked-masked, length-masked, masked-bytes}
 
 -- ---- the first byte

@@ -16,7 +16,7 @@ use Rattle.wsn_wire.specs.declared.length_encoding.LenForm.TheVariants as len_fo
 use Rattle.wsn_wire.specs.declared.refusal.Reason.{Reason}
 use Rattle.wsn_wire.specs.declared.refusal.Reason.TheVariants.{ReservedBits, ReservedOpcode, ControlNotFinal, MaskMissing, MaskPresent, ControlTooLong, CloseOneByte, LengthTopBit, LengthNotMinimal}
 use Rattle.wsn_wire.specs.Frame.{Frame, opcode, is_control, first_byte, second_byte, length_field, length_bytes, len_form_of, key_bytes, wire_payload, frame_bytes, masked, IsBytes, IsKey, FormFits}
-use Rattle.wsn_wire.specs.HeadBytes.{fin_bit, reserved_bits, opcode_field, mask_bit, len_form_at, length_count, encoded_length, HasLayout}
+use Rattle.wsn_wire.specs.ReceivedHead.{fin_bit, reserved_bits, opcode_field, mask_bit, len_form_at, length_count, encoded_length, HasLayout}
 use Rattle.wsn_wire.specs.EvidenceInHeads.{IsReserved, IsControlOpcode, EvidentInFirst, EvidentInSecond, EvidentInLength, HasTopBit, IsNotMinimal, IsLong, HeadHasNoEvidence, IsNoCloseOfOneByte}
 use Rattle.wsn_wire.specs.HeadLaw.{IsEncodedFor}
 use Rattle.wsn_wire.proofs.MaskLemmas.{at-All}

@@ -4,7 +4,7 @@ use Rattle.wsn_wire.specs.declared.endpoint.Role.{Role, TheVariants.{Client, Ser
 use Rattle.wsn_wire.specs.declared.length_encoding.Lengths.{Lengths, TheVariants.{Shortest}}
 use Rattle.wsn_wire.specs.declared.length_encoding.LenForm.{LenForm, TheVariants.{Short, Two, Eight}}
 use Rattle.wsn_wire.specs.declared.refusal.Reason.{Reason, TheVariants.{ReservedBits, ReservedOpcode, ControlNotFinal, MaskMissing, MaskPresent, ControlTooLong, CloseOneByte, LengthTopBit, LengthNotMinimal}}
-use Rattle.wsn_wire.specs.HeadBytes.{fin_bit, reserved_bits, opcode_field, mask_bit, len_form_at, encoded_length}
+use Rattle.wsn_wire.specs.ReceivedHead.{fin_bit, reserved_bits, opcode_field, mask_bit, len_form_at, encoded_length}
 use Rattle.wsn_wire.specs.declared.opcode.Op.TheVariants.{Close}
 use Rattle.wsn_wire.specs.Frame.{Frame}
 

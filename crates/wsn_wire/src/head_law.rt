@@ -1,12 +1,12 @@
 ghost use Rattle.std.specs.Prelude.{◌≡◌, ℕ, ◌<◌, ◌≤◌, ◌^◌, true, List, Option, IfOk, IfErr, is_some};
 ghost use Rattle.wsn_wire.specs.declared.refusal.Reason.{Reason};
-ghost use Rattle.wsn_wire.specs.Frame.{is_control, first_byte, second_byte, IsSecondByteFor, length_bytes, head_bytes, FormFits};
-ghost use Rattle.wsn_wire.specs.HeadBytes.{len_form_at, encoded_length};
+ghost use Rattle.wsn_wire.specs.Frame.{is_control, first_byte, second_byte, IsSecondByteFor, head_bytes, FormFits};
+ghost use Rattle.wsn_wire.specs.ReceivedHead.{len_form_at};
 ghost use Rattle.wsn_wire.specs.Refusal.{IsFirstEvident};
-ghost use Rattle.wsn_wire.specs.EvidenceInHeads.{EvidentInFirst, EvidentInSecond, EvidentInLength};
+ghost use Rattle.wsn_wire.specs.EvidenceInHeads.{EvidentInFirst, EvidentInSecond};
 
 use crate::endpoint::Role;
-use crate::length_encoding::{Form, LenForm, Lengths, SHORT_MAX, TWO_MAX};
+use crate::length_encoding::{Form, LenForm};
 use crate::opcode::Op;
 use crate::refusal::Reason;
 use arrayvec::ArrayVec;
@@ -66,41 +66,6 @@ pub fn read_second_byte(f: FirstByte, role: Role, b: u8) -> Result<LenForm, Reas
         LenForm::Short(1) if f.op == Op::Close => Err(Reason::CloseOneByte),
         _ => Ok(form),
     }
-}
-
-/// Reads a length in two bytes (RFC 6455 section 5.2). `LengthNotMinimal` for a length below 126, if only the shortest
-/// encoding is accepted.
-#[tactic(none)]
-pub fn read_two_byte_length(b: [u8; 2], lengths: Lengths) -> Result<u64, Reason>
-    ensures read { IfOk result (λ len. b ≡ length_bytes LenForm.Two len) }
-    ensures decoded { IfOk result (λ len. len ≡ encoded_length LenForm.Two b) }
-    ensures nothing_evident { IfOk result (λ _. (reason : Reason) → ¬ (EvidentInLength lengths reason LenForm.Two b)) }
-    ensures refused { IfErr result (IsFirstEvident (λ reason. EvidentInLength lengths reason LenForm.Two b)) }
-{
-    let len = u64::from(u16::from_be_bytes(b));
-    if lengths == Lengths::Shortest && len <= SHORT_MAX {
-        return Err(Reason::LengthNotMinimal);
-    }
-    Ok(len)
-}
-
-/// Reads a length in eight bytes (RFC 6455 section 5.2). `LengthTopBit` for a length of 2^63 or more; otherwise
-/// `LengthNotMinimal` for one below 65,536, if only the shortest encoding is accepted.
-#[tactic(none)]
-pub fn read_eight_byte_length(b: [u8; 8], lengths: Lengths) -> Result<u64, Reason>
-    ensures read { IfOk result (λ len. b ≡ length_bytes LenForm.Eight len) }
-    ensures decoded { IfOk result (λ len. len ≡ encoded_length LenForm.Eight b) }
-    ensures nothing_evident { IfOk result (λ _. (reason : Reason) → ¬ (EvidentInLength lengths reason LenForm.Eight b)) }
-    ensures refused { IfErr result (IsFirstEvident (λ reason. EvidentInLength lengths reason LenForm.Eight b)) }
-{
-    let len = u64::from_be_bytes(b);
-    if len >= 1 << 63 {
-        return Err(Reason::LengthTopBit);
-    }
-    if lengths == Lengths::Shortest && len <= TWO_MAX {
-        return Err(Reason::LengthNotMinimal);
-    }
-    Ok(len)
 }
 
 /// Writes the head of a frame whose payload has `len` bytes, with the shortest encoding of the length (RFC 6455 section

@@ -2,7 +2,7 @@
 //! contracts are proved.
 ghost use Rattle.std.specs.Prelude.{◌≡◌, ℕ, ◌+◌, ◌<◌, ◌^◌, Bool, true, Option, None, List, [], ◌∷◌, ◌++◌, length, is_some};
 ghost use Rattle.wsn_wire.specs.Frame.{Frame, IsBytes, IsEncodable, masked, opcode, first_byte, second_byte, len_form_of, length_bytes, head_bytes, frame_bytes, FormFits};
-ghost use Rattle.wsn_wire.specs.HeadBytes.{fin_bit, reserved_bits, opcode_field, mask_bit, len_form_at, length_count, encoded_length, HasLayout};
+ghost use Rattle.wsn_wire.specs.ReceivedHead.{fin_bit, reserved_bits, opcode_field, mask_bit, len_form_at, length_count, encoded_length, HasLayout};
 ghost use Rattle.wsn_wire.specs.HeadLaw.{IsEncodedFor};
 ghost use Rattle.wsn_wire.specs.EvidenceInHeads.{HeadHasNoEvidence, IsNoCloseOfOneByte};
 ghost use Rattle.wsn_wire.specs.declared.endpoint.Role.{Role};

@@ -1,6 +1,11 @@
-ghost use Rattle.std.specs.Prelude.{◌≡◌, ◌↔◌, IsTrue};
-ghost use Rattle.wsn_wire.specs.Frame.{FormFits, len_form_of, length_field};
-ghost use Rattle.wsn_wire.specs.HeadBytes.{len_form_at, length_count};
+ghost use Rattle.std.specs.Prelude.{◌≡◌, ◌↔◌, IsTrue, IfOk, IfErr};
+ghost use Rattle.wsn_wire.specs.declared.refusal.Reason.{Reason};
+ghost use Rattle.wsn_wire.specs.Frame.{FormFits, len_form_of, length_field, length_bytes};
+ghost use Rattle.wsn_wire.specs.ReceivedHead.{len_form_at, length_count, encoded_length};
+ghost use Rattle.wsn_wire.specs.Refusal.{IsFirstEvident};
+ghost use Rattle.wsn_wire.specs.EvidenceInHeads.{EvidentInLength};
+
+use crate::refusal::Reason;
 
 /// The greatest length of a payload that a frame's second byte contains (RFC 6455 section 5.2).
 pub const SHORT_MAX: u64 = 125;
@@ -113,4 +118,39 @@ impl LenForm {
             LenForm::Eight => EIGHT_FIELD,
         }
     }
+}
+
+/// Reads a length in two bytes (RFC 6455 section 5.2). `LengthNotMinimal` for a length below 126, if only the shortest
+/// encoding is accepted.
+#[tactic(none)]
+pub fn read_two_byte_length(b: [u8; 2], lengths: Lengths) -> Result<u64, Reason>
+    ensures read { IfOk result (λ len. b ≡ length_bytes LenForm.Two len) }
+    ensures decoded { IfOk result (λ len. len ≡ encoded_length LenForm.Two b) }
+    ensures nothing_evident { IfOk result (λ _. (reason : Reason) → ¬ (EvidentInLength lengths reason LenForm.Two b)) }
+    ensures refused { IfErr result (IsFirstEvident (λ reason. EvidentInLength lengths reason LenForm.Two b)) }
+{
+    let len = u64::from(u16::from_be_bytes(b));
+    if lengths == Lengths::Shortest && len <= SHORT_MAX {
+        return Err(Reason::LengthNotMinimal);
+    }
+    Ok(len)
+}
+
+/// Reads a length in eight bytes (RFC 6455 section 5.2). `LengthTopBit` for a length of 2^63 or more; otherwise
+/// `LengthNotMinimal` for one below 65,536, if only the shortest encoding is accepted.
+#[tactic(none)]
+pub fn read_eight_byte_length(b: [u8; 8], lengths: Lengths) -> Result<u64, Reason>
+    ensures read { IfOk result (λ len. b ≡ length_bytes LenForm.Eight len) }
+    ensures decoded { IfOk result (λ len. len ≡ encoded_length LenForm.Eight b) }
+    ensures nothing_evident { IfOk result (λ _. (reason : Reason) → ¬ (EvidentInLength lengths reason LenForm.Eight b)) }
+    ensures refused { IfErr result (IsFirstEvident (λ reason. EvidentInLength lengths reason LenForm.Eight b)) }
+{
+    let len = u64::from_be_bytes(b);
+    if len >= 1 << 63 {
+        return Err(Reason::LengthTopBit);
+    }
+    if lengths == Lengths::Shortest && len <= TWO_MAX {
+        return Err(Reason::LengthNotMinimal);
+    }
+    Ok(len)
 }

@@ -1,7 +1,7 @@
 //! How a scan takes the payload of frames, part by part.
 ghost use Rattle.std.specs.Prelude.{◌≡◌, ◌≢◌, ◌+◌, ◌≤◌, ◌↔◌, true, false, ℕ, Ok, List, [], ◌<◌, length, IsTrue};
 ghost use Rattle.wsn_wire.specs.Frame.{Frame};
-ghost use Rattle.wsn_wire.specs.HeadBytes.{fin_bit};
+ghost use Rattle.wsn_wire.specs.ReceivedHead.{fin_bit};
 ghost use Rattle.wsn_wire.specs.declared.refusal.Reason.{Reason};
 ghost use Rattle.wsn_wire.specs.declared.refusal.Reason.TheVariants.{TextCut};
 ghost use Rattle.wsn_rules.specs.Evidence.{EvidentByPayload};

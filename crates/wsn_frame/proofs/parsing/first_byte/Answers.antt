@@ -1,6 +1,6 @@
 -- The first byte is refused by itself, or after the open message, or it begins a head.
 use Rattle.std.proofs.Common.{ap, ◌∙◌}
-use Rattle.wsn_wire.specs.HeadBytes.{opcode_field}
+use Rattle.wsn_wire.specs.ReceivedHead.{opcode_field}
 use Rattle.wsn_wire.proofs.FrameLemmas.{first_byte_fields}
 use Rattle.wsn_rules.proofs.FrameBegins.{first_of_byte}
 use Rattle.wsn_frame.proofs.parsing.first_byte.Goals as goal

@@ -2,7 +2,7 @@
 use Rattle.std.proofs.Common.{◌<◌, ◌≤◌, Ok, length, take, sym, subst, arith, rules}
 use Rattle.wsn_wire.specs.declared.length_encoding.LenForm.{LenForm}
 use Rattle.wsn_wire.specs.declared.length_encoding.LenForm.TheVariants.{Two, Eight}
-use Rattle.wsn_wire.specs.HeadBytes.{length_count}
+use Rattle.wsn_wire.specs.ReceivedHead.{length_count}
 use Rattle.wsn_frame.specs.PartialHeads.{IsLengthRead}
 use Rattle.wsn_frame.proofs.HeadsAtOnce.{short_shows_nothing, length_read}
 use Rattle.wsn_frame.proofs.parsing.length_in.Goals as goal

@@ -2,7 +2,7 @@ use Rattle.std.proofs.Common.{inl, inr, true≢false, ◌∙◌, ◌≡◌, ℕ,
 use Rattle.wsn_wire.specs.declared.opcode.Op.TheVariants.{Ping}
 use Rattle.std.specs.List.{AllByRecursion}
 use Rattle.wsn_wire.specs.declared.opcode.Kind.TheVariants as kind
-use Rattle.wsn_wire.specs.HeadBytes.{fin_bit}
+use Rattle.wsn_wire.specs.ReceivedHead.{fin_bit}
 use Rattle.wsn_wire.proofs.FrameLemmas.{first_byte_fields}
 use Rattle.wsn_rules.specs.Meaning.{Message, Control}
 use Rattle.wsn_rules.specs.ShownOffsets.{begun_bytes}
