@@ -10,7 +10,7 @@ pub mod FollowedScans
 pub mod FoundHeads
 pub mod FrameEnds
 pub mod FreePayloads
-pub mod ReceivedHead
+pub mod HeadBytes
 pub mod HeadsReported
 pub mod HeadsSoFar
 pub mod JudgedInputs

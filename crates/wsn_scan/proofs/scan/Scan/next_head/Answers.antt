@@ -8,7 +8,7 @@ use Rattle.wsn_rules.specs.Heads.{BeginsWithHead}
 use Rattle.wsn_rules.specs.declared.head_info.HeadInfo.{HeadInfo}
 use Rattle.wsn_rules.proofs.PlanTheory.MessageFrames.{bytes_take}
 use Rattle.wsn_scan.specs.Positions.{BetweenFrames}
-use Rattle.wsn_scan.proofs.ReceivedHead.{parsed_on, joined, short_size, head_since, refused_since, joined_front, refused_head}
+use Rattle.wsn_scan.proofs.HeadBytes.{parsed_on, joined, short_size, head_since, refused_since, joined_front, refused_head}
 use Rattle.wsn_scan.proofs.MoreBytes.{knows_more}
 use Rattle.wsn_scan.proofs.Refusals.{refuses}
 use Rattle.wsn_scan.proofs.PayloadPrefixes.{none_taken}

@@ -4,7 +4,7 @@ use Rattle.wsn_rules.specs.Group.{unfinished}
 use Rattle.wsn_frame.specs.PartialHeads.{IsHeadSoFar}
 use Rattle.wsn_frame.proofs.HeadsAtOnce.{nothing_so_far}
 use Rattle.wsn_scan.proofs.BegunFrames.{from_between}
-use Rattle.wsn_scan.proofs.ReceivedHead.{some_length}
+use Rattle.wsn_scan.proofs.HeadBytes.{some_length}
 use Rattle.wsn_scan.specs.declared.stage.Stage.{Stage}
 use Rattle.wsn_scan.specs.Scans.{HasScannedAt, HasScanned, HasConsumed}
 use Rattle.wsn_scan.proofs.MoreBytes.{same_scan}
