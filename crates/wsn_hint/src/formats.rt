@@ -1,7 +1,7 @@
 ghost use Rattle.std.specs.Prelude.{◌≡◌, ◌↔◌, ◌≤◌, IsTrue, length};
 ghost use Rattle.std.specs.List.{AllByRecursion};
 ghost use Rattle.wsn_rules.specs.Limits.{Limits};
-ghost use Rattle.wsn_hint.specs.Hints.{HintFits, IsFirstFit, BeginsByte, BeginsGroup, BeginsHexDump, BeginsHttp, BeginsOffsetDump, BeginsSpacedByte, IsHexByte, IsHexDigit, IsHexText, after_digits, digits_at_start, format_hints, marked_hints, written_hints};
+ghost use Rattle.wsn_hint.specs.Hints.{HintFits, IsFirstFit, Begins, BeginsByte, BeginsGroup, BeginsHexDump, BeginsHttp, BeginsOffsetDump, BeginsSpacedByte, IsHexByte, IsHexDigit, IsHexText, after_digits, digits_at_start, format_hints, marked_hints, written_hints};
 
 use crate::hint::Hint;
 
@@ -49,19 +49,25 @@ fn written_format_of(first: &[u8]) -> Option<Hint>
 fn is_http_head(first: &[u8]) -> bool
     ensures { IsTrue result ↔ BeginsHttp first.now }
 {
-    matches!(
-        first,
-        [b'H', b'T', b'T', b'P', b'/', b'1', b'.', ..]
-            | [b'G', b'E', b'T', b' ', ..]
-            | [b'H', b'E', b'A', b'D', b' ', ..]
-            | [b'P', b'O', b'S', b'T', b' ', ..]
-            | [b'P', b'U', b'T', b' ', ..]
-            | [b'D', b'E', b'L', b'E', b'T', b'E', b' ', ..]
-            | [b'C', b'O', b'N', b'N', b'E', b'C', b'T', b' ', ..]
-            | [b'O', b'P', b'T', b'I', b'O', b'N', b'S', b' ', ..]
-            | [b'T', b'R', b'A', b'C', b'E', b' ', ..]
-            | [b'P', b'A', b'T', b'C', b'H', b' ', ..]
-    )
+    match first {
+        _ if begins(first, b"HTTP/1.") => true,
+        _ if begins(first, b"GET ") => true,
+        _ if begins(first, b"HEAD ") => true,
+        _ if begins(first, b"POST ") => true,
+        _ if begins(first, b"PUT ") => true,
+        _ if begins(first, b"DELETE ") => true,
+        _ if begins(first, b"CONNECT ") => true,
+        _ if begins(first, b"OPTIONS ") => true,
+        _ if begins(first, b"TRACE ") => true,
+        _ => begins(first, b"PATCH "),
+    }
+}
+
+/// Whether these bytes begin with this mark.
+fn begins(first: &[u8], mark: &[u8]) -> bool
+    ensures { IsTrue result ↔ Begins mark.now first.now }
+{
+    first.starts_with(mark)
 }
 
 /// Whether these bytes begin with an offset of eight digits, a colon, a space and a digit.
