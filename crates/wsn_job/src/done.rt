@@ -1,6 +1,6 @@
 use crate::diagnostics::diagnose_if_stopped;
 use crate::verdicts::diagnose_unless_accepted;
-use crate::{answers, closings, payloads, plans, recuts, redactions};
+use crate::{answers, payloads, plans, printed_closings, recuts, redactions};
 use std::alloc::Allocator;
 use std::io::Write;
 use wsn_capture::CaptureReport;
@@ -49,7 +49,7 @@ impl<A: Allocator> Done<A> {
             Done::Recut(done) => recuts::diagnose_answer(*done, errors),
             Done::Payload(at, done) => payloads::diagnose_payload(*at, *done, errors),
             Done::Closing(done) | Done::Show(done) => {
-                closings::diagnose_closing(*done, errors);
+                printed_closings::diagnose_closing(*done, errors);
             }
             Done::RedactCapture(done) => redactions::diagnose_redaction(*done, errors),
         }
@@ -67,7 +67,7 @@ impl<A: Allocator> Done<A> {
             Done::Plan(done) => plans::status(done),
             Done::Recut(done) => recuts::status(*done),
             Done::Payload(_, done) => payloads::status(*done),
-            Done::Closing(done) | Done::Show(done) => closings::status(*done),
+            Done::Closing(done) | Done::Show(done) => printed_closings::status(*done),
             Done::RedactCapture(done) => redactions::capture_status(*done),
         }
     }
