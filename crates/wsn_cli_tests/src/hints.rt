@@ -1,6 +1,6 @@
-//! Hints: each everyday mistake by the first bytes of its format, and what has none. `files` has the formats and texts
-//! that a stream or a capture is mistaken for, `frames` the frames of streams, `commands` what a hint says for each
-//! command; `compressed` and `refused_sides` have captures with a refused side, `reports` and `accusations` others.
+//! Hints. `files` and `frames` have what isn't printed of the formats, texts and frames that are mistaken for others,
+//! `commands` what a hint says for each command; `compressed` and `refused_sides` have captures with a refused side,
+//! `reports` and `accusations` others. (The other everyday mistakes: `tests/printed_hints.py`.)
 
 mod accusations;
 mod commands;
