@@ -1,5 +1,5 @@
-"""Inputs that aren't what a command reads, frames of the other endpoint, and the hints that `wsn` prints. Each group is a
-test of tests/program, as those of printed.py are.
+"""Inputs that aren't what a command reads, frames of the other endpoint, and the hints that `wsn` prints. Each group is
+a test of tests/program, as those of printed.py are.
 
 A row has the words after `wsn`, the input, and how the hint begins; None if there is no hint.
 """
@@ -27,6 +27,12 @@ SMALL_LETTERS = "a line begins with a capital C or S: "
 BLANKS = "blanks between digits: "
 OTHER_TEXT = "text, but no capture, "
 BINARY = "binary, or text in UTF-16; "
+
+OF_SHOW = "this looks like a capture of both sides: leave out --role"
+WRONG_HANDSHAKE = "the handshake's answer is wrong: "
+NEVER_MASKED = "as it was sent, the text is plain ASCII under a key: was it never masked?"
+NOT_UTF8 = "a text isn't UTF-8: "
+MAYBE_COMPRESSED = "compressed? "
 
 # What files begin with: pcap's four marks, by time stamps and byte order; pcapng's section header; gzip's magic and
 # method; a ClientHello's and an alert's TLS record; a byte order mark in UTF-8.
@@ -95,13 +101,48 @@ OTHERS = (
     "c98001", "f18001", "8801", "89fe", "0080",
 )
 
+# A server's ping and a client's, an empty stream, and an HTTP head: two streams, and the hint on them.
+PING, MASKED = bytes.fromhex("8900"), bytes.fromhex("8980")
+STREAMS = (
+    (b"", MASKED, "FIRST is empty: check it, or the command before the pipe"),
+    (PING, MASKED, "SECOND is masked: did a client send it? --role client"),
+    (b"GET / HTTP/1.1", PING, "FIRST begins with an HTTP head: remove it, LC_ALL=C sed '1,/^\\r$/d'"),
+    (PING, PING, None),
+)
+
+# A faulty capture, and a stream where a capture is read: two files, and the hint on them.
+FAULTY = b"S 8900\nS 8\n"
+SIDES = (
+    (b"S 8900\n", FAULTY, "this line is in SECOND"),
+    (PING, b"S 8900\n", "FIRST is what one endpoint sent, and no capture: leave out --capture"),
+)
+
+# Comments that say what is wrong with the answer to a handshake, and others.
+HANDSHAKES = (
+    ("# accept is wrong\nS.\nC.\n", WRONG_HANDSHAKE), ("# path: /\r\n# accept is wrong\r\n", WRONG_HANDSHAKE),
+    ("S 8900\n# subprotocol mqtt was not offered\n", WRONG_HANDSHAKE),
+    ("# extension permessage-deflate was not offered", WRONG_HANDSHAKE), ("# accept is wrong?\n", None),
+    ("# the accept is wrong\n", None), ("# subprotocol: mqtt\n", None), ("# no extension x was not offered\n", None),
+)
+
+# The last line of a long capture, which has the offending byte; what comes before the line is more than what is kept of
+# a capture.
+LATE = (
+    ("C 81859c01020348656c6c6f\n", NEVER_MASKED), ("C 8180000000008188a10203044465204e20c3a9c3", NOT_UTF8),
+    ("C 818200000000e963\n", NOT_UTF8), ("C 81839c010203d5e861\n", NOT_UTF8),
+    ("C 8180000000008185a1020304446520c3c3\n", NOT_UTF8),
+    ("C 818000000000c187912ec62e63660be75829c6\n", MAYBE_COMPRESSED), ("C a187912ec62e63660be75829c6\n", None),
+    ("C 89809c0102038185\nC 9c01020348656c6c6f\n", NOT_UTF8),
+)
+
 
 class HintRow(NamedTuple):
-    """A run, and how its hint begins."""
+    """A run, and how its hint begins. The files, if there are any, are named after the words, in place of an input."""
 
     words: list
     given: bytes
     hint: object
+    files: tuple = ()
 
 
 def bytes_of(given):
@@ -138,6 +179,13 @@ def frames():
         yield from both(bytes.fromhex(digits), None)
 
 
+def compared(table, *options):
+    """Two inputs; in JSON no hint is printed."""
+    for first, second, hint in table:
+        for words, said in (([], hint), (["--json"], None)):
+            yield HintRow(["same", "--role", "server", *options, *words], b"", said, (first, second))
+
+
 GROUPS = (
     Group("formats_are_named", "what a stream and a capture are both mistaken for", list(named())),
     Group("captures_are_named_where_a_stream_is_read", "captures are no streams, and have no hint where one is read",
@@ -159,4 +207,17 @@ GROUPS = (
     Group("frames_are_compressed_or_of_the_other_endpoint", "the hint is by the first frame", list(frames())),
     Group("a_frame_past_the_limit_has_no_hint", "it is longer than a message may be, whoever sent it",
           [stream(b"\x81\x05", role, None, "--limit", "4") for role in ("server", "client")]),
+    Group("a_hint_at_a_capture_suits_the_command",
+          "show has no option --capture, and takes a capture without --role, as redact does", [
+              HintRow(["show", "--role", "client"], b"C 8180\n", OF_SHOW),
+              HintRow(["redact", "--role", "client"], b"C 8180\n", OF_SHOW),
+              HintRow(["judge", "--role", "client"], b"C 8180\n", CAPTURE),
+              HintRow(["show", "--role", "client"], b"\x81\x05", OF_A_SERVER),
+          ]),
+    Group("a_hint_says_which_of_two_streams_it_is_about", "or which is empty", list(compared(STREAMS))),
+    Group("a_hint_says_which_of_two_captures_has_the_line", "or which is none", list(compared(SIDES, "--capture"))),
+    Group("a_wrong_handshake_has_a_hint_by_its_comments", "they are those that the recipes write",
+          [capture(given, hint) for given, hint in HANDSHAKES]),
+    Group("a_side_that_is_refused_late_is_judged_by_its_line", "the answer has the line with the offending byte",
+          [capture("C 8185000000004848484848\n" * 4_000 + line, hint) for line, hint in LATE]),
 )

@@ -1,9 +1,8 @@
-//! Hints. `files` and `frames` have what isn't printed of the formats, texts and frames that are mistaken for others,
-//! `commands` what a hint says for each command; `compressed` and `refused_sides` have captures with a refused side,
-//! `reports` and `accusations` others. (The other everyday mistakes: `tests/printed_hints.py`.)
+//! Hints on answers that no input gives, by the first bytes of a file: `compressed` and `refused_sides` have captures with a
+//! refused side, `reports` and `accusations` others; `files` and `frames` have inputs that are mistaken for others. (What is
+//! printed of whole inputs: `tests/printed_hints.py`.)
 
 mod accusations;
-mod commands;
 mod compressed;
 mod files;
 mod frames;
