@@ -1,9 +1,8 @@
-//! Hints: each everyday mistake by the first bytes of its format, and what has none. `files` has the formats and texts
-//! that a stream or a capture is mistaken for, `frames` the frames of streams, `commands` what a hint says for each
-//! command; `compressed` and `refused_sides` have captures with a refused side, `reports` and `accusations` others.
+//! Hints on answers that no input gives, by the first bytes of a file: `compressed` and `refused_sides` have captures with a
+//! refused side, `reports` and `accusations` others; `files` and `frames` have inputs that are mistaken for others. (What is
+//! printed of whole inputs: `tests/printed_hints.py`.)
 
 mod accusations;
-mod commands;
 mod compressed;
 mod files;
 mod frames;

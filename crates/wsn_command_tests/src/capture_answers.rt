@@ -84,30 +84,3 @@ pub fn fed_line_by_line(lines: &str, limits: Limits) -> (Capture, Option<LineFau
 pub fn put(rt: &impl Abort, text: &mut Vec<u8>, bytes: &[u8]) {
     text.extend_from_slice(bytes).expect(rt, "memory");
 }
-
-/// The same bytes of each side, each byte in a line of its own.
-pub fn one_byte_lines(rt: &impl Abort, alloc: Global, text: &str) -> Vec<u8> {
-    let mut small = Vec::new(alloc);
-    for line in text.split('\n') {
-        match line.split_once(' ') {
-            Some((side, digits)) if side == "C" || side == "S" => {
-                put_pairs(rt, &mut small, side, digits.trim_end());
-            }
-            _ => {
-                put(rt, &mut small, line.as_bytes());
-                put(rt, &mut small, b"\n");
-            }
-        }
-    }
-    small
-}
-
-/// Appends a line of this side for each pair of digits.
-fn put_pairs(rt: &impl Abort, small: &mut Vec<u8>, side: &str, digits: &str) {
-    for pair in digits.as_bytes().chunks(2) {
-        put(rt, small, side.as_bytes());
-        put(rt, small, b" ");
-        put(rt, small, pair);
-        put(rt, small, b"\n");
-    }
-}

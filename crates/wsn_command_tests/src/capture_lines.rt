@@ -1,11 +1,10 @@
 //! The lines of a capture: malformed ones, which of their faults is reported, and the longest that are allowed.
+//! (`tests/program` reads the table of malformed ones, too.)
 
 use crate::capture_answers::{
-    SizedReads, expect_judged, expect_judged_by, fed_line_by_line, judged_text, limits_of, put,
+    SizedReads, expect_judged_by, fed_line_by_line, judged_text, limits_of, put,
 };
-use crate::expecting::{
-    expect, expect_equal_of, expect_line_answer, expect_line_of, expect_of, expect_shown,
-};
+use crate::expecting::{expect, expect_equal_of, expect_line_answer, expect_line_of, expect_of};
 use std::alloc::Global;
 use std::process::Abort;
 use wsn_capture::{Capture, LineFault, Side};
@@ -80,20 +79,6 @@ fn input_limit_unless_after_end(rt: HostRuntime) {
     }
 }
 
-#[test]
-fn words_of_a_line_fault(rt: HostRuntime) {
-    for (fault, word) in [
-        (LineFault::TooManyLines, "too-many-lines"),
-        (LineFault::TooLong, "too-long"),
-        (LineFault::BadForm, "bad-form"),
-        (LineFault::BadHex, "bad-hex"),
-        (LineFault::AfterEnd, "after-end"),
-        (LineFault::InputLimit, "input-limit"),
-    ] {
-        expect_shown(&rt, rt.alloc(), &fault, word);
-    }
-}
-
 /// An LF in a line that is passed to `line` is a byte of that line.
 #[test]
 fn bad_form_and_bad_hex_of_lines_with_an_lf(rt: HostRuntime) {
@@ -150,7 +135,8 @@ fn expect_long(rt: &impl Abort, alloc: Global, line: &Long, end: &str) {
     expect_judged_by(rt, alloc, reads, expected, &(first, count, end));
 }
 
-/// A comment, and digits, of the greatest length and of one byte more.
+/// A comment, and digits, of the greatest length and of one byte more. A CR inside a line counts, and each line counts by
+/// itself. `too-long` takes precedence over `bad-form`.
 #[test]
 fn too_long_past_8_194_bytes(rt: HostRuntime) {
     let alloc = rt.alloc();
@@ -159,29 +145,8 @@ fn too_long_past_8_194_bytes(rt: HostRuntime) {
             expect_long(&rt, alloc, line, end);
         }
     }
-}
-
-/// A CR inside a line counts, and each line counts by itself. `too-long` takes precedence over `bad-form`.
-#[test]
-fn too_long_with_other_line_ends(rt: HostRuntime) {
     for (line, end) in ENDED.iter() {
-        expect_long(&rt, rt.alloc(), line, end);
-    }
-}
-
-/// A million lines are accepted, and any further line is one too many.
-#[test]
-fn too_many_lines_past_a_million(rt: HostRuntime) {
-    let alloc = rt.alloc();
-    let mut text = filled(alloc, b"", b'\n', 1_000_000).expect(&rt, "memory");
-    for (more, at_most, expected) in [
-        ("", usize::MAX, OPEN),
-        ("X", usize::MAX, "line 1000001: too-many-lines"),
-        ("\n\n", 4_095, "line 1000001: too-many-lines"),
-    ] {
-        put(&rt, &mut text, more.as_bytes());
-        let reader = Chopped::new(text.as_slice(), at_most);
-        expect_judged(&rt, alloc, reader, expected, &more);
+        expect_long(&rt, alloc, line, end);
     }
 }
 

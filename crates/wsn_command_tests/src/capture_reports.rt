@@ -1,15 +1,16 @@
-//! Reports of captures: both sides, and how the connection closed, in the lines that are printed.
+//! Reports of captures: both sides, and how the connection closed, in the lines that are printed; the bytes after each
+//! Close. (`tests/program` reads the table, too.)
 
 use crate::capture_answers::{
-    SizedReads, expect_judged, expect_judged_by, fed_line_by_line, limits_of, one_byte_lines,
-    report_text,
+    SizedReads, expect_judged_by, fed_line_by_line, limits_of, report_text,
 };
 use crate::expecting::{expect_equal_of, expect_line_answer, expect_line_of, expect_of};
 use std::alloc::Global;
 use std::process::Abort;
-use wsn_capture::{Capture, LineFault, Outcome, Report, Side};
-use wsn_doubles::readers::{Chopped, READS};
+use wsn_capture::{Capture, LineFault, Outcome, Report, Side, Tails, read_capture};
+use wsn_doubles::readers::READS;
 use wsn_doubles::vectors::greatest;
+use wsn_io::Input;
 use wsn_rules::INPUT_MAX;
 use wsn_wire::Role;
 
@@ -165,7 +166,7 @@ pub fn report_rows() -> &'static [ReportRow] {
 }
 
 #[test]
-fn outcomes_with_reads_of_every_size(rt: HostRuntime) {
+fn outcomes_with_reads_of_every_size_and_of_lines_passed_one_by_one(rt: HostRuntime) {
     let alloc = rt.alloc();
     for row in report_rows() {
         let reads = SizedReads {
@@ -173,13 +174,7 @@ fn outcomes_with_reads_of_every_size(rt: HostRuntime) {
             sizes: &READS,
         };
         expect_judged_by(&rt, alloc, reads, row.report, &row.name);
-    }
-}
-
-#[test]
-fn outcomes_of_lines_passed_one_by_one(rt: HostRuntime) {
-    for row in report_rows() {
-        expect_line_by_line(&rt, rt.alloc(), row);
+        expect_line_by_line(&rt, alloc, row);
     }
 }
 
@@ -189,16 +184,6 @@ fn expect_line_by_line(rt: &impl Abort, alloc: Global, row: &ReportRow) {
     expect_of(rt, fault.is_none(), &row.name);
     let reported = report_text(rt, alloc, &capture.report());
     expect_line_of(rt, reported.as_str(), row.report, &row.name);
-}
-
-#[test]
-fn outcomes_of_a_line_for_each_byte(rt: HostRuntime) {
-    let alloc = rt.alloc();
-    for row in report_rows() {
-        let small = one_byte_lines(&rt, alloc, row.text);
-        let reader = Chopped::new(small.as_slice(), usize::MAX);
-        expect_judged(&rt, alloc, reader, row.report, &row.name);
-    }
 }
 
 #[test]
@@ -217,9 +202,10 @@ fn the_fields_of_a_report(rt: HostRuntime) {
     expect_equal_of(&rt, &capture.report(), &expected, &text);
 }
 
-/// A line past the limit leaves its side unchanged, and the other side has its own limit.
+/// A line past the limit leaves its side unchanged, and the other side has its own limit. With a limit of 0 a side may
+/// still have its end mark. Bytes after a refusal are not examined, but they count.
 #[test]
-fn input_limit_applies_to_each_side(rt: HostRuntime) {
+fn input_limit_of_lines_passed_one_by_one(rt: HostRuntime) {
     let mut capture = Capture::new(limits_of(&rt, 1));
     expect_line_answer(&rt, &mut capture, b"S 8100", Err(LineFault::InputLimit));
     expect_of(&rt, capture.report().server == Side::Running, &"S 8100");
@@ -227,22 +213,40 @@ fn input_limit_applies_to_each_side(rt: HostRuntime) {
     expect_line_answer(&rt, &mut capture, b"S 00", Err(LineFault::InputLimit));
     expect_line_answer(&rt, &mut capture, b"C c1", Ok(()));
     expect_line_answer(&rt, &mut capture, b"S.", Ok(()));
-}
 
-/// With a limit of 0 a side may still have its end mark.
-#[test]
-fn input_limit_0_allows_an_end_mark(rt: HostRuntime) {
     let mut capture = Capture::new(limits_of(&rt, 0));
     expect_line_answer(&rt, &mut capture, b"C 00", Err(LineFault::InputLimit));
     expect_line_answer(&rt, &mut capture, b"C.", Ok(()));
     expect_of(&rt, capture.report().client == Side::Ended, &"C.");
-}
 
-/// Bytes after a refusal are not examined, but they count.
-#[test]
-fn input_limit_counts_bytes_after_a_refusal(rt: HostRuntime) {
     let mut capture = Capture::new(limits_of(&rt, 3));
     expect_line_answer(&rt, &mut capture, b"S c1", Ok(()));
     expect_line_answer(&rt, &mut capture, b"S 0000", Ok(()));
     expect_line_answer(&rt, &mut capture, b"S 00", Err(LineFault::InputLimit));
+}
+
+/// A capture, and the number of bytes after the client's Close and after the server's.
+static CAPTURES: [(&str, u64, u64); 8] = [
+    ("S 88008900\n", 0, 2),
+    ("C 888000000000\nS 8800\nC 00\n", 1, 0),
+    ("S 880000\nC 88800000000000\n", 1, 1),
+    ("S 8900\nS 88\nS 0000\nS 8900\n", 0, 3),
+    ("C 888000000000\nS 8800\nS.\nC.\n", 0, 0),
+    // a Close that isn't whole, no Close, and a refused Ping in place of one
+    ("S 88028900\n", 0, 0),
+    ("S 8900\n", 0, 0),
+    ("C 89008800\n", 0, 0),
+];
+
+#[test]
+fn the_bytes_after_a_close_are_counted(rt: HostRuntime) {
+    for row in CAPTURES.iter() {
+        let read = read_capture(&mut Input::new(row.0.as_bytes()), greatest());
+        let tails = read.expect(&rt, "a capture that is read").tails;
+        let expected = Tails {
+            client: row.1,
+            server: row.2,
+        };
+        assert_eq!(rt; tails, expected, "{}", row.0);
+    }
 }

@@ -25,11 +25,21 @@ fn expect_stop(rt: &impl Abort, text: &[u8], at_most: usize, expected: CaptureSt
 }
 
 #[test]
-fn words_of_a_capture_stop(rt: HostRuntime) {
+fn words_of_stops_and_faults(rt: HostRuntime) {
     let fault = LineFault::BadHex;
     let line = CaptureStop::Line { number: 7, fault };
     expect_shown(&rt, rt.alloc(), &CaptureStop::Read, "read failed");
     expect_shown(&rt, rt.alloc(), &line, "line 7: bad-hex");
+    for (fault, word) in [
+        (LineFault::TooManyLines, "too-many-lines"),
+        (LineFault::TooLong, "too-long"),
+        (LineFault::BadForm, "bad-form"),
+        (LineFault::BadHex, "bad-hex"),
+        (LineFault::AfterEnd, "after-end"),
+        (LineFault::InputLimit, "input-limit"),
+    ] {
+        expect_shown(&rt, rt.alloc(), &fault, word);
+    }
 }
 
 /// A failed read is no end of the capture, whether it comes between lines or inside one.

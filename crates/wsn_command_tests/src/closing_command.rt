@@ -11,10 +11,10 @@ use std::process::Abort;
 use wsn_command_runs::run_on;
 use wsn_doubles::heaps::heap_of;
 use wsn_doubles::readers::{Chopped, READS};
-use wsn_doubles::vectors::{filled, greatest};
+use wsn_doubles::vectors::greatest;
 use wsn_doubles::writers::{FULL, Full, Narrow};
 use wsn_io::{Input, Output};
-use wsn_job::{Format, Job, run};
+use wsn_job::{Format, Job, NamedClosing, run, run_named_closing};
 use wsn_rules::Limits;
 
 /// The kinds of failed reads. After each, the next call would succeed, and no read is retried.
@@ -23,14 +23,6 @@ const KINDS: [ErrorKind; 3] = [
     ErrorKind::Interrupted,
     ErrorKind::WouldBlock,
 ];
-
-/// The expected result of a run: its exit status, standard output, and the line on standard error, if any.
-#[derive(Clone, Copy)]
-struct Expected<'a> {
-    status: u8,
-    out: &'a str,
-    err: &'a str,
-}
 
 /// The limits, a capture's text and the maximum size of its reads. A read may fail after the given number of bytes.
 #[derive(Clone, Copy)]
@@ -63,67 +55,24 @@ impl<'a> Given<'a> {
     }
 }
 
-/// Fails unless this is the result of the command, both with no memory and with memory.
-fn expect_closing(rt: &impl Abort, alloc: Global, given: &Given<'_>, expected: Expected) {
+/// Fails unless the command writes only this line, on standard error, both with no memory and with memory.
+fn expect_stop(rt: &impl Abort, alloc: Global, given: &Given<'_>, words: &str) {
     let heap = heap_of(alloc, 0).expect(rt, "memory");
-    expect_closing_on(rt, &heap, alloc, given, expected);
-    expect_closing_on(rt, alloc, alloc, given, expected);
+    expect_stop_on(rt, &heap, alloc, given, words);
+    expect_stop_on(rt, alloc, alloc, given, words);
 }
 
-/// Fails unless this is the result of the command, with memory from this heap.
-fn expect_closing_on<A: Allocator + Copy>(
+/// Fails unless the command writes only this line, on standard error, with memory from this heap.
+fn expect_stop_on<A: Allocator + Copy>(
     rt: &impl Abort,
     heap: A,
     alloc: Global,
     given: &Given<'_>,
-    expected: Expected,
+    words: &str,
 ) {
     let job = Job::Closing(given.limits, Format::Text);
     let done = run_on(heap, alloc, &job, given.reader(), Narrow::wide(alloc));
-    expect_run(
-        rt,
-        &done,
-        expected.status,
-        expected.out.as_bytes(),
-        expected.err,
-    );
-}
-
-/// Fails unless the command writes only this line, on standard error.
-fn expect_stop(rt: &impl Abort, alloc: Global, given: &Given<'_>, words: &str) {
-    let expected = Expected {
-        status: 2,
-        out: "",
-        err: words,
-    };
-    expect_closing(rt, alloc, given, expected);
-}
-
-#[test]
-fn outcomes_are_printed(rt: HostRuntime) {
-    let alloc = rt.alloc();
-    for row in report_rows() {
-        let expected = Expected {
-            status: row.status(),
-            out: row.report,
-            err: "",
-        };
-        for at_most in READS {
-            let given = Given::whole(row.text.as_bytes(), at_most);
-            expect_closing(&rt, alloc, &given, expected);
-        }
-    }
-}
-
-#[test]
-fn bad_hex_bad_form_and_after_end_are_reported(rt: HostRuntime) {
-    let alloc = rt.alloc();
-    for (text, words, _fault) in faulty() {
-        for at_most in READS {
-            let given = Given::whole(text.as_bytes(), at_most);
-            expect_stop(&rt, alloc, &given, words);
-        }
-    }
+    expect_run(rt, &done, 2, b"", words);
 }
 
 #[test]
@@ -133,22 +82,6 @@ fn input_limit_is_reported(rt: HostRuntime) {
         ..Given::whole(b"C 81\nS 81\nS 00\n", 4_096)
     };
     expect_stop(&rt, rt.alloc(), &given, "line 3: input-limit");
-}
-
-#[test]
-fn too_long_is_reported(rt: HostRuntime) {
-    let alloc = rt.alloc();
-    let long = filled(alloc, b"#\n#", b'#', 8_194).expect(&rt, "memory");
-    let given = Given::whole(long.as_slice(), 4_096);
-    expect_stop(&rt, alloc, &given, "line 2: too-long");
-}
-
-#[test]
-fn too_many_lines_is_reported(rt: HostRuntime) {
-    let alloc = rt.alloc();
-    let many = filled(alloc, b"", b'\n', 1_000_001).expect(&rt, "memory");
-    let given = Given::whole(many.as_slice(), usize::MAX);
-    expect_stop(&rt, alloc, &given, "line 1000001: too-many-lines");
 }
 
 #[test]
@@ -230,16 +163,42 @@ fn a_failed_write_is_reported_after_every_byte(rt: HostRuntime) {
     }
 }
 
+/// Outcomes are printed, however much a read returns, and where a writer accepts one byte per call.
 #[test]
-fn a_writer_may_accept_one_byte_per_call(rt: HostRuntime) {
+fn reads_may_have_any_size_and_writes_one_byte(rt: HostRuntime) {
     let alloc = rt.alloc();
     let heap = heap_of(alloc, 0).expect(&rt, "memory");
     for row in report_rows() {
-        let job = Job::Closing(greatest(), Format::Text);
-        let reader = Chopped::new(row.text.as_bytes(), 1);
-        let writer = Narrow::new(alloc, 1, usize::MAX, Full::Fails);
-        let done = run_on(&heap, alloc, &job, reader, writer);
-        expect_run(&rt, &done, row.status(), row.report.as_bytes(), "");
+        for at_most in READS {
+            let job = Job::Closing(greatest(), Format::Text);
+            let reader = Chopped::new(row.text.as_bytes(), at_most);
+            let done = run_on(&heap, alloc, &job, reader, Narrow::byte_by_byte(alloc));
+            expect_run(&rt, &done, row.status(), row.report.as_bytes(), "");
+        }
+    }
+}
+
+/// The report of one of several captures is one line.
+#[test]
+fn a_named_report_is_printed(rt: HostRuntime) {
+    let alloc = rt.alloc();
+    let closing = NamedClosing {
+        name: "a b",
+        limits: greatest(),
+        format: Format::Text,
+    };
+    for at_most in READS {
+        let text = Chopped::new(b"C 88820000000003e8\nS 880203e8\nS.\nC.\n", at_most);
+        let (mut out, mut err) = (Vec::new(alloc), Vec::new(alloc));
+        let status = run_named_closing(
+            &closing,
+            &mut Input::new(text),
+            &mut Output::new(&mut out),
+            &mut Output::new(&mut err),
+        );
+        let line = b"a b\tclean\tclosed 1000\tclosed 1000\n";
+        expect_bytes_of(&rt, out.as_slice(), line, &at_most);
+        expect_of(&rt, status == 0 && err.is_empty(), &(at_most, status));
     }
 }
 

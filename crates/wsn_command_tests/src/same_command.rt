@@ -138,9 +138,11 @@ pub fn expect_compared(
     expect_line(rt, line.as_str(), expected);
 }
 
+/// The command prints the comparison, which is the same for reads of every size.
 #[test]
 fn streams_are_compared_by_what_they_mean(rt: HostRuntime) {
     for pair in PAIRS.iter() {
+        expect_printed(&rt, rt.alloc(), rt.alloc(), pair);
         for at_most in READS {
             let (first, second) = (
                 Chopped::new(pair.first, at_most),
@@ -187,13 +189,6 @@ pub fn expect_printed<A: Allocator + Copy>(rt: &impl Abort, heap: A, alloc: Glob
     expect_run(rt, &done, pair.status(), line.as_bytes(), "");
 }
 
-#[test]
-fn the_answer_is_printed(rt: HostRuntime) {
-    for pair in PAIRS.iter() {
-        expect_printed(&rt, rt.alloc(), rt.alloc(), pair);
-    }
-}
-
 /// Fails unless the command reports that its writer fails after each byte of the line.
 fn expect_failed_line(rt: &impl Abort, alloc: Global, pair: &Pair, line: &[u8], full: Full) {
     let limits = greatest();
@@ -230,15 +225,11 @@ fn expect_error(rt: &impl Abort, alloc: Global, first: Chopped, second: Chopped,
 }
 
 #[test]
-fn input_limit_of_either_stream_is_reported_in_one_line(rt: HostRuntime) {
+fn a_stop_of_either_stream_is_reported_in_one_line(rt: HostRuntime) {
     let (close, long) = (Chopped::new(CLOSE, 2), Chopped::new(LONG, 2));
     expect_error(&rt, rt.alloc(), long, close, "input limit");
     let (close, long) = (Chopped::new(CLOSE, 2), Chopped::new(LONG, 2));
     expect_error(&rt, rt.alloc(), close, long, "input limit");
-}
-
-#[test]
-fn a_failed_read_of_either_stream_is_reported_in_one_line(rt: HostRuntime) {
     let (close, broken) = (Chopped::new(CLOSE, 2), Chopped::breaking(CLOSE, 2));
     expect_error(&rt, rt.alloc(), broken, close, "read failed");
     let (close, broken) = (Chopped::new(CLOSE, 2), Chopped::breaking(CLOSE, 2));

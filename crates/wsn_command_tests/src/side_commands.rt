@@ -1,5 +1,5 @@
-//! Commands on one side of a capture: they answer as on the side's bytes; at a line that isn't accepted they end, report
-//! the line, and what they printed before stays.
+//! Commands on one side of a capture: they answer as on the side's bytes. (What they say of lines that
+//! aren't accepted: `tests/printed.py`.)
 ghost use Rattle.wsn_job.specs.Sides.{MayRunOnSide};
 
 use crate::expecting::{expect_bytes_of, expect_equal_of, expect_run};
@@ -8,9 +8,9 @@ use std::io::ErrorKind;
 use std::process::Abort;
 use wsn_command_runs::{run_on, run_on_side_on, run_same_on_sides_on};
 use wsn_doubles::readers::{Chopped, READS};
-use wsn_doubles::vectors::{filled, greatest};
+use wsn_doubles::vectors::greatest;
 use wsn_doubles::writers::{FULL, Narrow};
-use wsn_job::{Format, How, Job};
+use wsn_job::{Format, Job};
 use wsn_wire::Role;
 
 /// Lines of both sides, and no LF at the end.
@@ -23,36 +23,6 @@ const BOTH_SERVER: &[u8] = b"\x89\x00\x01\x02Hi";
 
 /// A ping and a text's head, and then a line of none of the forms.
 const FAULTY: &[u8] = b"C 00\nS 8900\nS 8102\nX\nS 4869\n";
-
-/// The expected result of a run: its exit status, standard output, and the line on standard error, if any.
-#[derive(Clone, Copy)]
-struct Expected<'a> {
-    status: u8,
-    out: &'a [u8],
-    line: &'a str,
-}
-
-impl<'a> Expected<'a> {
-    /// A run that prints this, and then reports a stop.
-    fn stop(out: &'a [u8], line: &'a str) -> Self {
-        Expected {
-            status: 2,
-            out,
-            line,
-        }
-    }
-}
-
-/// Fails unless this is the result of a command on the server's side of a text, however the text is read.
-fn expect_on_side(rt: &impl Abort, alloc: Global, job: &Job, text: &[u8], expected: Expected)
-    requires { MayRunOnSide job.now }
-{
-    for at_most in READS {
-        let text = Chopped::new(text, at_most);
-        let done = run_on_side_on(alloc, alloc, job, text, Narrow::wide(alloc));
-        expect_run(rt, &done, expected.status, expected.out, expected.line);
-    }
-}
 
 /// Fails unless a command answers on a side of `BOTH` as it does on the side's bytes.
 fn expect_as_on_bytes(rt: &impl Abort, alloc: Global, job: &Job, bytes: &[u8])
@@ -81,104 +51,17 @@ fn each_command_answers_as_on_the_sides_bytes(rt: HostRuntime) {
     }
 }
 
-#[test]
-fn a_side_is_recut_by_size(rt: HostRuntime) {
-    let alloc = rt.alloc();
-    let how = How::by_size(Role::Server, 1, false, None).expect(&rt, "a size");
-    let job = Job::Recut(Role::Server, greatest(), how);
-    let text = b"S 8102\nC 00\nS 4869";
-    let recut = Expected {
-        status: 0,
-        out: b"\x01\x01H\x80\x01i",
-        line: "",
-    };
-    expect_on_side(&rt, alloc, &job, text, recut);
-    expect_on_side(
-        &rt,
-        alloc,
-        &job,
-        FAULTY,
-        Expected::stop(b"", "line 4: bad-form"),
-    );
-}
-
+/// However the text is read.
 #[test]
 fn what_was_printed_before_a_faulty_line_stays(rt: HostRuntime) {
     let alloc = rt.alloc();
-    let line = "line 4: bad-form";
-    let judge = Job::Judge(Role::Server, greatest(), Format::Text);
-    expect_on_side(&rt, alloc, &judge, FAULTY, Expected::stop(b"", line));
     let frames = Job::Frames(Role::Server, greatest(), Format::Text);
-    let heads = b"0 fin ping - 0\n2 fin text - 2\n";
-    expect_on_side(&rt, alloc, &frames, FAULTY, Expected::stop(heads, line));
-    let normal = Job::Normal(Role::Server, greatest());
-    expect_on_side(
-        &rt,
-        alloc,
-        &normal,
-        FAULTY,
-        Expected::stop(b"\x89\x00", line),
-    );
-    let plan = Job::Plan(Role::Server, greatest());
-    expect_on_side(&rt, alloc, &plan, FAULTY, Expected::stop(b"", line));
-}
-
-/// A text, and the line that is reported of it.
-static FAULTS: [(&str, &str); 6] = [
-    ("X", "line 1: bad-form"),
-    ("# C\n\nS 8\n", "line 3: bad-hex"),
-    ("C 8g\nS 8900", "line 1: bad-hex"),
-    ("S 8900\nS.\nS 8900\n", "line 3: after-end"),
-    ("C.\nC.", "line 2: after-end"),
-    ("S 8900\nC.\nS.\nC 00\r\n", "line 4: after-end"),
-];
-
-#[test]
-fn bad_form_bad_hex_and_after_end_are_reported(rt: HostRuntime) {
-    let alloc = rt.alloc();
-    let judge = Job::Judge(Role::Server, greatest(), Format::Text);
-    for (text, line) in FAULTS.iter() {
-        expect_on_side(
-            &rt,
-            alloc,
-            &judge,
-            text.as_bytes(),
-            Expected::stop(b"", line),
-        );
+    for at_most in READS {
+        let text = Chopped::new(FAULTY, at_most);
+        let done = run_on_side_on(alloc, alloc, &frames, text, Narrow::wide(alloc));
+        let heads = b"0 fin ping - 0\n2 fin text - 2\n";
+        expect_run(&rt, &done, 2, heads, "line 4: bad-form");
     }
-}
-
-#[test]
-fn too_long_and_too_many_lines_are_reported(rt: HostRuntime) {
-    let alloc = rt.alloc();
-    let judge = Job::Judge(Role::Server, greatest(), Format::Text);
-    let long = filled(alloc, b"#\n#", b'#', 8_194).expect(&rt, "memory");
-    let expected = Expected::stop(b"", "line 2: too-long");
-    expect_on_side(&rt, alloc, &judge, long.as_slice(), expected);
-    let many = filled(alloc, b"", b'\n', 1_000_001).expect(&rt, "memory");
-    let text = Chopped::new(many.as_slice(), usize::MAX);
-    let done = run_on_side_on(alloc, alloc, &judge, text, Narrow::wide(alloc));
-    expect_run(&rt, &done, 2, b"", "line 1000001: too-many-lines");
-}
-
-#[test]
-fn a_refusal_before_a_faulty_line_is_the_answer(rt: HostRuntime) {
-    let alloc = rt.alloc();
-    let text = b"C 00\nS 89\nS 00c1\nX\n";
-    let judge = Job::Judge(Role::Server, greatest(), Format::Text);
-    let printed = Expected {
-        status: 1,
-        out: b"refused 2 reserved-bits 1002\n",
-        line: "",
-    };
-    expect_on_side(&rt, alloc, &judge, text, printed);
-    let plan = Job::Plan(Role::Server, greatest());
-    let reported = Expected {
-        status: 1,
-        out: b"",
-        line: "refused 2 reserved-bits 1002",
-    };
-    expect_on_side(&rt, alloc, &plan, text, reported);
 }
 
 #[test]
@@ -206,7 +89,7 @@ fn a_failed_write_before_a_faulty_line_is_reported(rt: HostRuntime) {
 }
 
 /// Two captures, and the exit status, the line on standard output, and the line on standard error.
-static PAIRS: [(&str, &str, u8, &str, &str); 7] = [
+static PAIRS: [(&str, &str, u8, &str, &str); 2] = [
     (
         "S 8102\nS 4869",
         "# x\nS 0101\nS 488001\nC 00\nS 69",
@@ -214,12 +97,7 @@ static PAIRS: [(&str, &str, u8, &str, &str); 7] = [
         "equal\n",
         "",
     ),
-    ("S 8900", "S 8a00", 1, "different 0\n", ""),
-    ("S 89", "S 8900", 1, "first cut 1\n", ""),
-    ("S 8900\nX", "S 8900\n", 2, "", "line 2: bad-form"),
     ("S 8900\n", "S 8900\n\nS 8", 2, "", "line 3: bad-hex"),
-    ("X", "\nX", 2, "", "line 1: bad-form"),
-    ("S 8900\nX", "X", 2, "", "line 1: bad-form"),
 ];
 
 #[test]

@@ -4,8 +4,8 @@
 //! A rule's test is found by its printed word: reasons of refusals (`text-bad`) in `head_bytes`, `refusal_reasons` and
 //! the names of vectors, `close_code` in `close_codes`.
 //!
-//! `every_way` reads each vector in every way, and `conformance` gives some of them short names. `scanner`, `source`,
-//! `events` and `limit_ranges` test what commands are made of.
+//! `every_way` reads each vector in every way. (`tests/program` judges some of them under short names.) `scanner`,
+//! `source`, `events` and `limit_ranges` test what commands are made of.
 //!
 //! Hostile use: streams without an end in `stream_endings`; failing readers and writers in `stops`, `failed_writes` and
 //! `interruptions`.
@@ -16,8 +16,6 @@
 
 #[cfg(test)]
 mod close_codes;
-#[cfg(test)]
-mod conformance;
 #[cfg(test)]
 mod events;
 #[cfg(test)]

@@ -1,68 +1,8 @@
-//! Hints on streams by their first frame.
+//! Hints on streams by their first frame. (What is printed of them: `tests/printed_hints.py`.)
 
 use crate::hints::of_stream;
-use std::process::Abort;
-use wsn_cli::{Hint, capture_hint_of, hint_of};
-use wsn_rules::{INPUT_MAX, Limits};
+use wsn_cli::{Hint, capture_hint_of};
 use wsn_wire::Role;
-
-/// Frames that only this endpoint sends: a client masks its frames, and a server doesn't.
-static OWN: [(&[u8], Role); 6] = [
-    (&[0x81, 0x05, 0x48], Role::Server),
-    (&[0x81, 0x85, 0x37], Role::Client),
-    (&[0x01, 0x00], Role::Server),
-    (&[0x88, 0x82, 1, 2, 3, 4], Role::Client),
-    (&[0x89, 0x00], Role::Server),
-    (&[0x82, 0xff, 0x80], Role::Client),
-];
-
-/// Compressed frames of this endpoint.
-static COMPRESSED: [(&[u8], Role); 4] = [
-    (&[0xc1, 0x07, 0xf2], Role::Server),
-    (&[0xc1, 0x87, 0x37], Role::Client),
-    (&[0x41, 0xfe, 0x01], Role::Client),
-    (&[0xc2, 0x7e, 0x01], Role::Server),
-];
-
-/// A control with RSV1, frames with other bits or of a wrong length, and a continuation without a message.
-static OTHERS: [&[u8]; 5] = [
-    &[0xc9, 0x80, 0x01],
-    &[0xf1, 0x80, 0x01],
-    &[0x88, 0x01],
-    &[0x89, 0xfe],
-    &[0x00, 0x80],
-];
-
-/// Fails unless these are the hints on a stream of the endpoint, and on one of the other endpoint.
-fn expect_hints(rt: &impl Abort, first: &[u8], role: Role, own: Option<Hint>, other: Option<Hint>) {
-    let peer = match role {
-        Role::Client => Role::Server,
-        Role::Server => Role::Client,
-    };
-    assert_eq!(rt; of_stream(rt, first, role), own);
-    assert_eq!(rt; of_stream(rt, first, peer), other);
-}
-
-#[test]
-fn frames_are_compressed_or_of_the_other_endpoint(rt: HostRuntime) {
-    for (first, role) in OWN.iter() {
-        expect_hints(&rt, first, *role, None, Some(Hint::OtherRole(*role)));
-    }
-    for (first, role) in COMPRESSED.iter() {
-        expect_hints(&rt, first, *role, Some(Hint::Compressed), None);
-    }
-    for first in OTHERS.iter() {
-        expect_hints(&rt, first, Role::Client, None, None);
-    }
-}
-
-/// A frame that is longer than a message may be has no hint, whoever sent it.
-#[test]
-fn a_frame_past_the_limit_has_no_hint(rt: HostRuntime) {
-    let small = Limits::new(4, INPUT_MAX).expect(&rt, "limits in range");
-    assert_eq!(rt; hint_of(&[0x81, 0x05], Role::Server, small), None);
-    assert_eq!(rt; hint_of(&[0x81, 0x05], Role::Client, small), None);
-}
 
 #[test]
 fn a_stream_is_no_capture(rt: HostRuntime) {
@@ -70,6 +10,7 @@ fn a_stream_is_no_capture(rt: HostRuntime) {
     assert_eq!(rt; capture_hint_of(&[0x81, 0x85, 0x37]), Some(Hint::Stream));
     assert_eq!(rt; capture_hint_of(&[0x81]), None);
     assert_eq!(rt; capture_hint_of(&[0xff, 0x85]), None);
+    assert_eq!(rt; capture_hint_of(&[]), None);
 }
 
 /// The next number of a generator with a fixed seed (Numerical Recipes' constants).

@@ -1,9 +1,7 @@
 //! Hints on captures with a side that is refused for a mask or for a text.
 
 use crate::hints::{NO_LINES, expect_sides, greatest, refused_at};
-use wsn_capture::read_capture;
-use wsn_cli::{Answer, Format, Hint, Job, RefusedSides, hint_on_run, sides_hint_of};
-use wsn_io::Input;
+use wsn_cli::{Hint, RefusedSides, sides_hint_of};
 use wsn_rules::Refusal;
 use wsn_wire::Reason;
 
@@ -136,51 +134,5 @@ fn a_side_that_is_refused_late_has_a_hint_too(rt: HostRuntime) {
             sides_hint_of(text, late(Reason::ReservedBits), NO_LINES, greatest(&rt)),
             None
         );
-    }
-}
-
-/// The last line of a long capture, and its hint by the answer: what comes before the line is beyond the first bytes.
-static LATE: [(&str, Option<Hint>); 8] = [
-    ("C 81859c01020348656c6c6f\n", Some(Hint::NeverMasked)),
-    (
-        "C 8180000000008188a10203044465204e20c3a9c3",
-        Some(Hint::NotUtf8),
-    ),
-    ("C 818200000000e963\n", Some(Hint::NotUtf8)),
-    ("C 81839c010203d5e861\n", Some(Hint::NotUtf8)),
-    (
-        "C 8180000000008185a1020304446520c3c3\n",
-        Some(Hint::NotUtf8),
-    ),
-    (
-        "C 818000000000c187912ec62e63660be75829c6\n",
-        Some(Hint::MaybeCompressed),
-    ),
-    ("C a187912ec62e63660be75829c6\n", None),
-    (
-        "C 89809c0102038185\nC 9c01020348656c6c6f\n",
-        Some(Hint::NotUtf8),
-    ),
-];
-
-/// The refusal is beyond the first bytes; the answer has the line with the offending byte.
-#[test]
-fn a_side_that_is_refused_late_is_judged_by_its_line(rt: HostRuntime) {
-    let closing: Job = Job::Closing(greatest(&rt), Format::Text);
-    for row in LATE.iter() {
-        let mut text = Vec::new(rt.alloc());
-        for _ in 0..4_000 {
-            text.extend_from_slice("C 8185000000004848484848\n".as_bytes())
-                .expect(&rt, "memory");
-        }
-        text.extend_from_slice(row.0.as_bytes())
-            .expect(&rt, "memory");
-        let read = read_capture(&mut Input::lent(text.as_slice()), greatest(&rt)).expect(
-            &rt,
-            "accepted lines",
-        );
-        let first = text.as_slice().get(..65_536).expect(&rt, "a long capture");
-        let hint = hint_on_run(&closing, None, first, Answer::Report(read));
-        assert_eq!(rt; hint, row.1, "{}", row.0);
     }
 }

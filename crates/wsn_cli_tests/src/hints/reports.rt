@@ -2,30 +2,9 @@
 
 use crate::hints::{answer_with, greatest, style};
 use wsn_capture::Tails;
-use wsn_cli::{Answer, Format, Hint, Job, after_close_hint_of, handshake_hint_of, hint_on_run};
+use wsn_cli::{Answer, Format, Hint, Job, after_close_hint_of, hint_on_run};
 use wsn_rules::{Outcome, Refusal, Report, Side, Summary, Verdict};
 use wsn_wire::{Reason, Role};
-
-/// Comments that say what is wrong with the answer to a handshake, and others.
-static HANDSHAKES: [(&str, bool); 9] = [
-    ("# accept is wrong\nS.\nC.\n", true),
-    ("# path: /\r\n# accept is wrong\r\n", true),
-    ("S 8900\n# subprotocol mqtt was not offered\n", true),
-    ("# extension permessage-deflate was not offered", true),
-    ("# accept is wrong?\n", false),
-    ("# the accept is wrong\n", false),
-    ("# subprotocol: mqtt\n", false),
-    ("# no extension x was not offered\n", false),
-    ("", false),
-];
-
-#[test]
-fn a_wrong_handshake_has_a_hint_by_its_comments(rt: HostRuntime) {
-    for row in HANDSHAKES.iter() {
-        let expected = row.1.then_some(Hint::WrongHandshake);
-        assert_eq!(rt; handshake_hint_of(row.0.as_bytes()), expected, "{}", row.0);
-    }
-}
 
 /// A report on these sides, whose tails are these; what else it says counts for nothing.
 fn report_with(client: Side, server: Side, tails: Tails) -> Answer {

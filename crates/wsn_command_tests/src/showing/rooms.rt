@@ -3,7 +3,7 @@
 
 ghost use Rattle.wsn_command.specs.Jobs.{MayRun};
 
-use crate::showing::expecting::{events_of, objects_of, style_of};
+use crate::showing::styles::{events_of, objects_of, style_of};
 use std::alloc::Global;
 use std::process::Abort;
 use wsn_command_runs::run_on;
@@ -94,16 +94,11 @@ fn a_shown_stream_fills_every_room(rt: HostRuntime) {
 }
 
 #[test]
-fn listed_frames_fill_every_room(rt: HostRuntime) {
+fn listed_frames_and_a_normal_form_fill_every_room(rt: HostRuntime) {
     let alloc = rt.alloc();
     for format in [Format::Text, Format::Json] {
         let job = Job::Frames(Role::Server, greatest(), format);
         expect_rooms(&rt, alloc, &job, STREAM);
     }
-}
-
-#[test]
-fn a_normal_form_fills_every_room(rt: HostRuntime) {
-    let alloc = rt.alloc();
     expect_rooms(&rt, alloc, &Job::Normal(Role::Server, greatest()), STREAM);
 }

@@ -1,16 +1,18 @@
-//! `show` with lines that aren't accepted, and with readers and writers that fail.
+//! `show` with readers and writers that fail, and past the input limit.
 
 ghost use Rattle.wsn_command.specs.Jobs.{MayRun};
 
-use crate::showing::expecting::{Expected, events_of, expect_job, expect_run};
+use crate::expecting::expect_run;
+use crate::showing::styles::events_of;
 use std::alloc::Global;
 use std::io::ErrorKind;
 use std::process::Abort;
 use wsn_command_runs::run_on;
-use wsn_doubles::readers::Chopped;
+use wsn_doubles::readers::{Chopped, READS};
 use wsn_doubles::vectors::greatest;
 use wsn_doubles::writers::{FULL, Narrow};
 use wsn_job::Job;
+use wsn_rules::Limits;
 use wsn_wire::Role;
 
 /// Three lines of one event each.
@@ -23,17 +25,17 @@ const SHOWN: [&str; 4] = [
     "S - 0 text 1 1 \"H\"\nC - 0 ping 0 1 \"\"\nS - 3 text 1 1 \"I\"\n",
 ];
 
+/// What is within the input limit is shown, and there is no verdict.
 #[test]
-fn a_line_that_is_not_accepted_ends_what_is_shown(rt: HostRuntime) {
+fn no_verdict_past_the_input_limit(rt: HostRuntime) {
     let alloc = rt.alloc();
-    let job = Job::Show(greatest(), events_of(&rt, 48));
-    let expected = Expected {
-        status: 2,
-        shown: "S - 0 text 1 1 \"H\"\n",
-        last: "",
-        line: "line 2: bad-form",
-    };
-    expect_job(&rt, alloc, &job, b"S 810148\nX\nS 810149\n", expected);
+    let limits = Limits::new(10, 3).expect(&rt, "limits");
+    let job = Job::ShowStream(Role::Server, limits, events_of(&rt, 48));
+    for at_most in READS {
+        let reader = Chopped::new(b"\x81\x01H\x89\x00", at_most);
+        let run = run_on(alloc, alloc, &job, reader, Narrow::wide(alloc));
+        expect_run(&rt, &run, 2, SHOWN[1].as_bytes(), "input limit");
+    }
 }
 
 /// The lines that are whole when a read fails are shown.
@@ -49,13 +51,7 @@ fn a_failed_read_is_reported(rt: HostRuntime) {
             .count();
         let reader = Chopped::stumbling(EVENTS, 4, left, ErrorKind::Other);
         let run = run_on(alloc, alloc, &job, reader, Narrow::wide(alloc));
-        let expected = Expected {
-            status: 2,
-            shown: SHOWN[whole.min(3)],
-            last: "",
-            line: "read failed",
-        };
-        expect_run(&rt, &run, EVENTS, expected);
+        expect_run(&rt, &run, 2, SHOWN[whole.min(3)].as_bytes(), "read failed");
     }
 }
 
