@@ -23,8 +23,7 @@ pub use wsn_capture::{
     Capture, CaptureStop, LineFault, Outcome, Report, Side, SideReader, judge_capture, put_report,
 };
 pub use wsn_events::{
-    Compared, ComparedStreams, Event, Next, Small, Source, control_of, is_lawful, normalise,
-    put_event, same,
+    Compared, Event, Next, Small, Source, control_of, is_lawful, normalise, put_event, same,
 };
 pub use wsn_io::{Input, Output};
 pub use wsn_list::{Format, list, list_as, put_verdict};

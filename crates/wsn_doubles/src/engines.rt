@@ -6,7 +6,7 @@ use crate::readers::Chopped;
 use crate::vectors::Stream;
 use std::alloc::{AllocError, Allocator, Global};
 use std::io::{Read, Write};
-use wsn_canon::{Compared, ComparedStreams, normalise, same};
+use wsn_canon::{Compared, normalise, same};
 use wsn_io::{Input, Output};
 use wsn_list::list;
 use wsn_plan::{Plan, PlanAnswer, RecutAnswer, UniformFrames, plan_of, recut, recut_uniform};
@@ -83,11 +83,13 @@ pub fn compared<A: Allocator + Copy>(
     role: Role,
     limits: Limits,
 ) -> Result<Compared, Stop> {
-    let mut streams = ComparedStreams {
-        first: Input::new(&mut first),
-        second: Input::new(&mut second),
-    };
-    same(heap, &mut streams, role, limits)
+    same(
+        heap,
+        &mut Input::new(&mut first),
+        &mut Input::new(&mut second),
+        role,
+        limits,
+    )
 }
 
 /// A stream that comes from the endpoint of this role, under these limits.

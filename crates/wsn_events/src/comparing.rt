@@ -17,10 +17,10 @@ use crate::leaving_out::turn_after;
 use crate::payload::payload_of;
 use crate::payload_difference::PayloadDifference;
 use crate::source::{Next, Source};
-use crate::streams::ComparedStreams;
 use crate::turn::{Turn, give_back};
 use std::alloc::Allocator;
 use std::io::Read;
+use wsn_io::Input;
 use wsn_rules::{Compared, Without};
 use wsn_scan::{Limits, Stop, Verdict};
 use wsn_wire::{Kind, Role};
@@ -35,15 +35,16 @@ use wsn_wire::{Kind, Role};
 #[tactic(none)]
 pub fn same<A: Allocator + Copy, R: Read, S: Read>(
     alloc: A,
-    streams: &mut ComparedStreams<R, S>,
+    first: &mut Input<R>,
+    second: &mut Input<S>,
     role: Role,
     limits: Limits,
 ) -> Result<Compared, Stop>
-    requires first { streams.old.first.failed ≡ false }
-    requires second { streams.old.second.failed ≡ false }
-    ensures compared { IsCompared role limits streams.old.first streams.new.first streams.old.second streams.new.second result }
-    ensures whole { IfOk result (λ compared. (all others : List ℕ) → streams.old.first.remaining ≡ Some all →
-        streams.old.second.remaining ≡ Some others →
+    requires first { first.old.failed ≡ false }
+    requires second { second.old.failed ≡ false }
+    ensures compared { IsCompared role limits first.old first.new second.old second.new result }
+    ensures whole { IfOk result (λ compared. (all others : List ℕ) → first.old.remaining ≡ Some all →
+        second.old.remaining ≡ Some others →
         IsComparisonOf role limits all others compared) }
 {
     let nothing = Without {
@@ -51,7 +52,7 @@ pub fn same<A: Allocator + Copy, R: Read, S: Read>(
         pong: false,
         close: false,
     };
-    same_without(alloc, streams, role, limits, nothing)
+    same_without(alloc, first, second, role, limits, nothing)
 }
 
 /// Compares what two streams mean, as [`same`] does, but leaves the controls of these kinds out of both meanings. An
@@ -61,20 +62,21 @@ pub fn same<A: Allocator + Copy, R: Read, S: Read>(
 #[tactic(none)]
 pub fn same_without<A: Allocator + Copy, R: Read, S: Read>(
     alloc: A,
-    streams: &mut ComparedStreams<R, S>,
+    first: &mut Input<R>,
+    second: &mut Input<S>,
     role: Role,
     limits: Limits,
     without: Without,
 ) -> Result<Compared, Stop>
-    requires first { streams.old.first.failed ≡ false }
-    requires second { streams.old.second.failed ≡ false }
-    ensures compared { IsComparedBy (events_without without) role limits streams.old.first streams.new.first streams.old.second
-        streams.new.second result }
-    ensures whole { IfOk result (λ compared. (all others : List ℕ) → streams.old.first.remaining ≡ Some all →
-        streams.old.second.remaining ≡ Some others →
+    requires first { first.old.failed ≡ false }
+    requires second { second.old.failed ≡ false }
+    ensures compared { IsComparedBy (events_without without) role limits first.old first.new second.old second.new
+        result }
+    ensures whole { IfOk result (λ compared. (all others : List ℕ) → first.old.remaining ≡ Some all →
+        second.old.remaining ≡ Some others →
         IsComparisonOfBy (events_without without) role limits all others compared) }
 {
-    let (compared, _difference) = contrast(alloc, streams, role, limits, without)?;
+    let (compared, _difference) = contrast(alloc, first, second, role, limits, without)?;
     Ok(compared)
 }
 
@@ -86,15 +88,15 @@ pub fn same_without<A: Allocator + Copy, R: Read, S: Read>(
 #[inline(always)]
 pub fn contrast<A: Allocator + Copy, R: Read, S: Read>(
     alloc: A,
-    streams: &mut ComparedStreams<R, S>,
+    first: &mut Input<R>,
+    second: &mut Input<S>,
     role: Role,
     limits: Limits,
     without: Without,
 ) -> Result<(Compared, Option<FirstDifference>), Stop>
-    requires first { streams.old.first.failed ≡ false }
-    requires second { streams.old.second.failed ≡ false }
-    ensures { IsContrasted without role limits streams.old.first streams.new.first streams.old.second
-        streams.new.second result }
+    requires first { first.old.failed ≡ false }
+    requires second { second.old.failed ≡ false }
+    ensures { IsContrasted without role limits first.old first.new second.old second.new result }
 {
     let mut events = Source::new(alloc, role, limits);
     let mut others = Source::new(alloc, role, limits);
@@ -107,8 +109,8 @@ pub fn contrast<A: Allocator + Copy, R: Read, S: Read>(
             index += 1;
             continue;
         }
-        let turn = turn_after(lent, &mut events, &mut streams.first, without)?;
-        let other = turn_after(other_lent, &mut others, &mut streams.second, without)?;
+        let turn = turn_after(lent, &mut events, first, without)?;
+        let other = turn_after(other_lent, &mut others, second, without)?;
         let round = end_round(&mut difference, index, &events, &turn, &others, &other);
         if let Round::Over(verdict, other) = round {
             let compared = outcome(verdict, other, index_of(&difference));

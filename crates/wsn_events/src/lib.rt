@@ -30,7 +30,6 @@ mod payload;
 mod payload_difference;
 mod reassembly;
 mod source;
-mod streams;
 mod turn;
 
 pub use comparing::{contrast, same, same_without};
@@ -42,6 +41,5 @@ pub use normal_form::{control_of, put_event};
 pub use normalisation::normalise;
 pub use payload_difference::PayloadDifference;
 pub use source::{Next, Source};
-pub use streams::ComparedStreams;
 pub use turn::Turn;
 pub use wsn_rules::{Compared, Without};

@@ -11,10 +11,11 @@ ghost use Rattle.wsn_job.specs.Diagnostics.{IsStopDiagnosed};
 
 use crate::answers;
 use crate::diagnostics::diagnose_if_stopped;
+use crate::streams::ComparedStreams;
 use std::alloc::Allocator;
 use std::io::{Read, Write};
 use wsn_command::{Comparison, Ran};
-use wsn_events::{Compared, ComparedStreams, FirstDifference, contrast};
+use wsn_events::{Compared, FirstDifference, contrast};
 use wsn_io::Output;
 use wsn_print::{ViewLimit, put_compared_as, status_of_comparison};
 use wsn_scan::Stop;
@@ -80,7 +81,14 @@ pub(crate) fn print_comparison<A: Allocator + Copy, R: Read, S: Read, W: Write>(
         without,
         ..
     } = comparison;
-    let (compared, difference) = contrast(alloc, streams, role, limits, without)?;
+    let (compared, difference) = contrast(
+        alloc,
+        &mut streams.first,
+        &mut streams.second,
+        role,
+        limits,
+        without,
+    )?;
     put_answer(output, comparison, compared, &difference)?;
     Ok(compared)
 }

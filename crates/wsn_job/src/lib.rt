@@ -21,13 +21,14 @@ mod redactions;
 mod running;
 mod sides;
 pub mod status_examples;
+mod streams;
 mod verdicts;
 
 pub use comparisons::run_same;
 pub use printed_closings::{NamedClosing, run_named_closing};
 pub use running::run;
 pub use sides::{run_on_side, run_same_on_sides};
+pub use streams::ComparedStreams;
 pub use wsn_command::{Answer, Comparison, How, Job, Ran};
-pub use wsn_events::ComparedStreams;
 pub use wsn_print::Format;
 pub use wsn_rules::Without;

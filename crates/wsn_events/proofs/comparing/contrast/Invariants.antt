@@ -13,10 +13,10 @@ abbrev pub invariant-loop-lent : goal.invariant-loop-lent
 invariant-loop-lent g l = record {
   came : List ℕ;
   given : List MeantEvent;
-  followed : HasFollowed l.fn.role l.fn.limits l.fn.streams.first l.streams.first l.events came given;
+  followed : HasFollowed l.fn.role l.fn.limits l.fn.first l.first l.events came given;
   other_came : List ℕ;
   other_given : List MeantEvent;
-  other_followed : HasFollowed l.fn.role l.fn.limits l.fn.streams.second l.streams.second l.others other_came other_given;
+  other_followed : HasFollowed l.fn.role l.fn.limits l.fn.second l.second l.others other_came other_given;
   difference : IsDifferenceSoFar l.events l.others l.index (events_without l.without given) (events_without l.without other_given) (index_in l.difference);
   kept : AreKept l.without l.fn.role l.fn.limits l.events came given l.others other_came other_given l.difference;
   rounds : l.index + (pending l.events + pending l.others) ≤ 2 ^ 50;

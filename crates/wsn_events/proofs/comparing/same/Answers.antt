@@ -7,6 +7,6 @@ same_without-requires g c = record { first = search rules; second = search rules
 
 pub returns : goal.returns
 returns g c = record {
-  compared = compared_in_all c.args.role c.args.limits c.args.streams.now.first c.same_without.new.streams.first c.args.streams.now.second c.same_without.new.streams.second c.same_without.result c.same_without.ensures.compared;
-  whole = whole_in_all c.args.role c.args.limits c.args.streams.now.first c.args.streams.now.second c.same_without.result c.same_without.ensures.whole;
+  compared = compared_in_all c.args.role c.args.limits c.args.first.now c.same_without.new.first c.args.second.now c.same_without.new.second c.same_without.result c.same_without.ensures.compared;
+  whole = whole_in_all c.args.role c.args.limits c.args.first.now c.args.second.now c.same_without.result c.same_without.ensures.whole;
 }

@@ -12,14 +12,14 @@ pub returns-in_err-compared : goal.returns-in_err-compared
 returns-in_err-compared g c = record {
   compared = let out = err_from_is_err_and c.from_residual.result c.from_residual.ensures.1 in
       let is = out.1 ∙ ap Err out.2 in
-      stopped_at c.args.without c.args.role c.args.limits c.args.streams.now.first c.contrast.new.streams.first c.args.streams.now.second c.contrast.new.streams.second c.contrast.result c.contrast.ensures c.in_err-compared.field-0.0 c.in_err-compared.was c.from_residual.result is;
+      stopped_at c.args.without c.args.role c.args.limits c.args.first.now c.contrast.new.first c.args.second.now c.contrast.new.second c.contrast.result c.contrast.ensures c.in_err-compared.field-0.0 c.in_err-compared.was c.from_residual.result is;
   whole = search rules;
 }
 
 pub returns-clause-compared : goal.returns-clause-compared
 returns-clause-compared g c =
-    answered_with c.args.without c.args.role c.args.limits c.args.streams.now.first c.contrast.new.streams.first c.args.streams.now.second c.contrast.new.streams.second c.contrast.result c.contrast.ensures (c.in_ok-compared.compared, c.in_ok-compared._difference) c.in_ok-compared.was
+    answered_with c.args.without c.args.role c.args.limits c.args.first.now c.contrast.new.first c.args.second.now c.contrast.new.second c.contrast.result c.contrast.ensures (c.in_ok-compared.compared, c.in_ok-compared._difference) c.in_ok-compared.was
 
 pub returns-clause-whole : goal.returns-clause-whole
 returns-clause-whole g c =
-    whole_comparison c.args.role c.args.limits (events_without c.args.without) c.args.streams.now.first c.contrast.new.streams.first c.args.streams.now.second c.contrast.new.streams.second c.in_ok-compared.compared (returns-clause-compared g c)
+    whole_comparison c.args.role c.args.limits (events_without c.args.without) c.args.first.now c.contrast.new.first c.args.second.now c.contrast.new.second c.in_ok-compared.compared (returns-clause-compared g c)
