@@ -184,23 +184,24 @@ pub fn recut_of<A: Allocator + Copy, W: Write>(
 fn recut_by_text<A: Allocator + Copy, W: Write>(
     rt: &impl Abort,
     heap: A,
-    mut stream: SentStream,
+    stream: SentStream,
     text: &str,
     writer: &mut W,
 ) -> Result<RecutAnswer, Stop> {
+    let SentStream {
+        role,
+        limits,
+        mut reader,
+    } = stream;
     match read_plan(heap, text.as_bytes()) {
-        Ok(plan) => {
-            let mut input = Input::new(&mut stream.reader);
-            let mut output = Output::new(writer);
-            recut(
-                heap,
-                &mut input,
-                &mut output,
-                stream.role,
-                stream.limits,
-                &plan,
-            )
-        }
+        Ok(plan) => recut(
+            heap,
+            &mut Input::new(&mut reader),
+            &mut Output::new(&mut *writer),
+            role,
+            limits,
+            &plan,
+        ),
         Err(fault) => {
             expect_of(rt, fault == PlanFault::Memory, &fault);
             Err(Stop::Memory)
