@@ -13,5 +13,5 @@ pub struct Style {
     pub detail: Detail,
     /// Whether lines of words, lines for people or JSON objects are printed.
     pub format: Format,
-    ghost in_range: { view ≤ 4096 },
+    ghost in_range: { view ≤ 33554432 },
 }
