@@ -19,6 +19,7 @@ mod plans;
 mod recuts;
 mod redactions;
 mod running;
+mod shows;
 mod sides;
 pub mod status_examples;
 mod verdicts;
