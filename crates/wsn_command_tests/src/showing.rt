@@ -3,7 +3,7 @@
 //! `hidden` of escaped characters, `comments` of comments and times; `rows` has what their tables are made of. `streams`
 //! runs the command over single streams, `stops` with readers and writers that fail, `rooms` with writers that are too
 //! small; `objects` runs commands that print JSON, and `bad_characters` has texts that are refused for a bad character, in
-//! both formats.
+//! both formats. `whole` shows payloads whole, with and without memory for them.
 mod bad_characters;
 mod comments;
 mod events;
@@ -17,3 +17,4 @@ mod rows;
 mod stops;
 mod streams;
 mod views;
+mod whole;
