@@ -55,7 +55,7 @@ report_is_read format limits old new before after (Err Write) printed = received
 report_is_read format limits old new before after _ printed = received_is_read _ old new _ printed.0.received
 
 refused_is_read : (style : Style) (old new : Incoming) (before after : Outgoing) → IsMemoryRefused style old new before after → IsRead old new
-refused_is_read style old new before after refused lent unfailed = ap (λ (i : Incoming). i.failed) refused.unread ∙ unfailed
+refused_is_read style old new before after refused lent unfailed = ap (λ (i : Incoming). i.failed) refused.1 ∙ unfailed
 
 done_is_read : {A : Type 0} (job : Job A) (old new : Incoming) (before after : Outgoing) (d : Done A) → IsDone job old new before after d → IsRead old new
 done_is_read (Judge role limits format) old new before after (done.Judge answer) is = verdict_is_read format role limits old new before after answer is

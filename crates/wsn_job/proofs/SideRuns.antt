@@ -171,7 +171,7 @@ run_of_failed_read (ShowStream role limits style) before after (done.ShowStream 
     let stopped = stream_shown role limits before.input after.input failed style before.output after.output answer is in
     (done.ShowStream answer, is, no_answer verdict_status verdict_answer answer refl stopped, subst (λ (a : Result Verdict Stop). IsStopDiagnosed a before.errors errors) (sym stopped) said)
 run_of_failed_read (ShowStream role limits style) before after done.Memory may readable is failed errors said =
-    let both : false ≡ true = sym readable ∙ sym (ap (λ (i : Incoming). i.failed) is.unread) ∙ failed in absurd cc
+    let both : false ≡ true = sym readable ∙ sym (ap (λ (i : Incoming). i.failed) is.1) ∙ failed in absurd cc
 run_of_failed_read (Closing limits format) before after d may readable is failed errors said = let h : false ≡ true = may.1 in absurd cc
 run_of_failed_read (Show limits style) before after d may readable is failed errors said = let h : false ≡ true = may.1 in absurd cc
 run_of_failed_read (RedactCapture limits) before after d may readable is failed errors said = let h : false ≡ true = may.1 in absurd cc

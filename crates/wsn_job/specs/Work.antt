@@ -29,10 +29,8 @@ use Rattle.wsn_show.specs.StreamShows.{IsStreamShown}
 use Rattle.wsn_job.specs.Closings.{IsReportPrinted, IsClosingDiagnosed, closing_status}
 
 -- Memory for a view over 4,096 bytes was refused: nothing was read, and nothing was printed.
-pub record IsMemoryRefused (style : Style) (old new : Incoming) (before after : Outgoing) : Type 0 where
-  pub long : 4096 < style.view
-  pub unread : new ≡ old
-  pub unprinted : after ≡ before
+abbrev pub IsMemoryRefused : Style → Incoming → Incoming → Outgoing → Outgoing → Type 0
+IsMemoryRefused style old new before after = (4096 < style.view) × (new ≡ old) × (after ≡ before)
 
 -- What came from the input and what was printed are of the job's answer or stop.
 abbrev pub IsDone : {A : Type 0} → Job A → Incoming → Incoming → Outgoing → Outgoing → Done A → Type 0

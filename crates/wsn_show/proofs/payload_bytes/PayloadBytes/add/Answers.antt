@@ -8,7 +8,6 @@ returns c n came small has =
     let inside = c.self.inside in
     let memory : List ℕ = inside.memory.now in
     let bytes = c.args.bytes.now in
-    let before : PayloadSoFar = record { count = inside.count; held = take inside.len memory; size = length memory } in
     let here = subst (λ (p : PayloadSoFar). HasPayload n p came) (sym c.self.view_is) has in
     let size : length (take inside.len memory) ≡ inside.len = length-take-le inside.len memory c.self.invariant in
     let room : (length memory - inside.len) + length (take inside.len memory) ≡ length memory = omega (arith, size, c.self.invariant) in
