@@ -38,7 +38,7 @@ fn limits(rt: &impl Abort) -> Limits {
 }
 
 /// Events whose payloads are shown whole.
-fn whole(rt: &impl Abort) -> Style {
+fn whole_events(rt: &impl Abort) -> Style {
     Style {
         view: ViewLimit::whole(limits(rt)),
         detail: Detail::Events,
@@ -48,7 +48,7 @@ fn whole(rt: &impl Abort) -> Style {
 
 /// Fails unless the text is shown whole, however it is read.
 fn expect_whole<A: Allocator + Copy>(rt: &impl Abort, heap: A, alloc: Global) {
-    let job = Job::ShowStream(Role::Server, limits(rt), whole(rt));
+    let job = Job::ShowStream(Role::Server, limits(rt), whole_events(rt));
     let bytes = stream(alloc).expect(rt, "memory");
     let shown = shown(alloc).expect(rt, "memory");
     for size in [1, 4_096, usize::MAX] {
@@ -60,7 +60,7 @@ fn expect_whole<A: Allocator + Copy>(rt: &impl Abort, heap: A, alloc: Global) {
 
 /// Fails unless nothing is shown, since memory is refused.
 fn expect_refused<A: Allocator + Copy>(rt: &impl Abort, heap: A, alloc: Global) {
-    let job = Job::ShowStream(Role::Server, limits(rt), whole(rt));
+    let job = Job::ShowStream(Role::Server, limits(rt), whole_events(rt));
     let bytes = stream(alloc).expect(rt, "memory");
     let reader = Chopped::new(bytes.as_slice(), usize::MAX);
     let done = run_on(heap, alloc, &job, reader, Narrow::wide(alloc));
@@ -69,7 +69,7 @@ fn expect_refused<A: Allocator + Copy>(rt: &impl Abort, heap: A, alloc: Global) 
 
 /// Fails unless nothing is shown of a capture, since memory is refused.
 fn expect_refused_capture<A: Allocator + Copy>(rt: &impl Abort, heap: A, alloc: Global) {
-    let job = Job::Show(limits(rt), whole(rt));
+    let job = Job::Show(limits(rt), whole_events(rt));
     let reader = Chopped::new(b"S 8900\n", usize::MAX);
     let done = run_on(heap, alloc, &job, reader, Narrow::wide(alloc));
     expect_run(rt, &done, 2, b"", "out of memory");
