@@ -1,5 +1,5 @@
 -- What options ask for, by the texts of their values.
-use Rattle.std.specs.Prelude.{◌≡◌, ◌≢◌, ℕ, Bool, true, false, Option, None, Some, option_map, List, [], codes}
+use Rattle.std.specs.Prelude.{◌≡◌, ◌≢◌, ◌⊎◌, ℕ, Bool, true, false, Option, None, Some, option_map, List, [], codes}
 use Rattle.std.specs.Char.{is_ascii_digit}
 use Rattle.std.specs.List.{list_all, list_any}
 use Rattle.std.specs.Str.{bytes_eq}
@@ -28,11 +28,15 @@ abbrev pub IsInDigits : Option (List ℕ) → Type 0
 IsInDigits None = Unit {0}
 IsInDigits (Some text) = (text ≢ []) × (list_all is_ascii_digit text ≡ true)
 
+-- The value of --view is `all`, or digits alone; or there is none.
+abbrev pub IsViewText : Option (List ℕ) → Type 0
+IsViewText value = (value ≡ Some (codes "all")) ⊎ IsInDigits value
+
 -- So are the values of all options that take a number.
 abbrev pub AreInDigits : Found → Type 0
 AreInDigits found =
     IsInDigits (first_value found (codes "limit")) × IsInDigits (first_value found (codes "frames"))
-    × IsInDigits (first_value found (codes "size")) × IsInDigits (first_value found (codes "view"))
+    × IsInDigits (first_value found (codes "size")) × IsViewText (first_value found (codes "view"))
     × IsInDigits (first_value found (codes "at"))
 
 -- the words that an option lists, such as ping,pong

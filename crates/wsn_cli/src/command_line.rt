@@ -88,7 +88,8 @@ fn reads_captures(words: &[String]) -> bool {
         .is_some_and(|word| matches!(word.as_str(), "show" | "closing"))
 }
 
-/// The job that a command's name and arguments ask for. The error is `OffsetTooLarge` for an offset of 2^64 or more.
+/// The job that a command's name and arguments ask for. The error is `OffsetTooLarge` for an offset of 2^64 or more, and
+/// `ViewTooLarge` for a view over 4,096 bytes.
 fn job_of(name: &str, matches: &ArgMatches<'_>) -> Result<Job, Mistake>
     ensures may_run { IfOk result MayRun }
     ensures limits { IfOk result (λ job. AreAskedLimits (job_limits job)) }
@@ -108,7 +109,7 @@ fn job_of(name: &str, matches: &ArgMatches<'_>) -> Result<Job, Mistake>
         "plan" => Ok(Job::Plan(role, limits)),
         "closing" => Ok(Job::Closing(limits, format_of(matches))),
         "show" => {
-            let style = style_of(matches).ok_or(Mistake::Other)?;
+            let style = style_of(matches, limits).ok_or(Mistake::ViewTooLarge)?;
             Ok(show_of(matches, limits, style))
         }
         _ => Err(Mistake::Other),
@@ -119,7 +120,7 @@ fn job_of(name: &str, matches: &ArgMatches<'_>) -> Result<Job, Mistake>
 fn show_of(matches: &ArgMatches<'_>, limits: Limits, style: Style) -> Job
     ensures may_run { MayRun result }
     ensures limits { job_limits result ≡ limits }
-    ensures read { AreReadLimits (found_of matches.now) limits → IsReadStyle (found_of matches.now) style
+    ensures read { AreReadLimits (found_of matches.now) limits → IsReadStyle (found_of matches.now) limits style
         → IsReadJob (codes "show") (found_of matches.now) result }
 {
     match matches.get_str("role") {
