@@ -74,7 +74,7 @@ fn broken_rule(alloc: Global, words: &[String]) -> Result<Usage, AllocError> {
 /// The rule that words break which clap accepts once they are as an error shows them: a number has a sign.
 fn mistake_in(matches: &ArgMatches<'_>) -> Usage {
     match matches.subcommand() {
-        Some((_name, command)) => check_digits(command)
+        Some((name, command)) => check_digits(name, command)
             .err()
             .unwrap_or(Usage::Own(Mistake::Other)),
         None => Usage::Own(Mistake::Other),
@@ -233,9 +233,9 @@ fn unexplained(alloc: Global, words: &str) -> Result<String, AllocError> {
 fn request_of(alloc: Global, name: &str, matches: &ArgMatches<'_>) -> Result<Request, Usage>
     ensures done { IfOk result CanBeDone }
     ensures read { IfOk result (IsRead name.now (found_of matches.now)) }
-    ensures digits { IfOk result (λ _. AreInDigits (found_of matches.now)) }
+    ensures digits { IfOk result (λ _. AreInDigits name.now (found_of matches.now)) }
 {
-    check_digits(matches)?;
+    check_digits(name, matches)?;
     match name {
         "explain" => explained(alloc, matches),
         "same" => same_of(alloc, matches),

@@ -210,23 +210,23 @@ pub fn comparison_of(matches: &ArgMatches<'_>) -> Option<Comparison>
     })
 }
 
-/// Refuses a number that isn't digits alone, such as `+5`, which clap accepts.
-pub fn check_digits(matches: &ArgMatches<'_>) -> Result<(), Usage>
-    ensures { IfOk result (λ _. AreInDigits (found_of matches.now)) }
+/// Refuses a number of the command with this name that isn't digits alone, such as `+5`, which clap accepts.
+pub fn check_digits(name: &str, matches: &ArgMatches<'_>) -> Result<(), Usage>
+    ensures { IfOk result (λ _. AreInDigits name.now (found_of matches.now)) }
 {
     check_number(matches, "limit")?;
     check_number(matches, "frames")?;
     check_number(matches, "size")?;
-    check_view(matches)?;
+    check_view(name, matches)?;
     check_number(matches, "at")
 }
 
-/// Refuses a value of `--view` that isn't digits alone, unless it is `all`.
-fn check_view(matches: &ArgMatches<'_>) -> Result<(), Usage>
-    ensures { IfOk result (λ _. IsViewText (first_value (found_of matches.now) (codes "view"))) }
+/// Refuses a value of `--view` that isn't digits alone, unless it is the `all` of `show`.
+fn check_view(name: &str, matches: &ArgMatches<'_>) -> Result<(), Usage>
+    ensures { IfOk result (λ _. IsViewText name.now (first_value (found_of matches.now) (codes "view"))) }
 {
-    match matches.get_str("view") {
-        Some("all") => Ok(()),
+    match (name, matches.get_str("view")) {
+        ("show", Some("all")) => Ok(()),
         _ => check_number(matches, "view"),
     }
 }
