@@ -50,9 +50,8 @@ impl ViewLimit {
         ensures { result ≡ whole_view limits }
     {
         let greatest = limits.message().max(CONTROL_MAX);
-        ViewLimit {
-            bytes: greatest * 2,
-        }
+        let bytes = greatest * 2;
+        ViewLimit { bytes }
     }
 
     /// This limit, or 4,096 bytes if it is greater.
