@@ -1,4 +1,4 @@
-ghost use Rattle.std.specs.Prelude.{◌≡◌, ◌≤◌, ◌⊎◌, false, true, IfSome, length, vec_len};
+ghost use Rattle.std.specs.Prelude.{◌≡◌, ◌⊎◌, false, true, IfSome, vec_len};
 ghost use Rattle.wsn_command.specs.declared.job.Job.TheVariants.{Show, ShowStream};
 ghost use Rattle.wsn_job.specs.Work.{IsDone, done_status};
 

@@ -1,4 +1,4 @@
-use Rattle.std.proofs.Common.{◌≤◌, ℕ, Some, refl, subst, arith}
+use Rattle.std.proofs.Common.{ℕ, Some, refl, subst, arith}
 use Rattle.wsn_c.specs.Calls.{GivesComparison, call}
 use Rattle.wsn_c.proofs.comparing.wsn_same_view.Goals as goal
 

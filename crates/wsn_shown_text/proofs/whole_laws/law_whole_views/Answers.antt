@@ -1,4 +1,4 @@
-use Rattle.std.proofs.Common.{◌≤◌, ◌/◌, length, arith}
+use Rattle.std.proofs.Common.{arith}
 use Rattle.wsn_print.specs.WholeViews.{whole_view}
 use Rattle.wsn_shown_text.proofs.WholeViews.{text_whole, bytes_whole, control_whole}
 use Rattle.wsn_shown_text.proofs.whole_laws.law_whole_views.Goals as goal
