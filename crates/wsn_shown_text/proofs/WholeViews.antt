@@ -33,7 +33,7 @@ bytes_whole n bytes few =
 -- ---- controls
 
 below_128 : (b : ℕ) → is_from 0x20 0x7e b ≡ true → b < 128
-below_128 b test = grind (arith, nat_tests)
+below_128 b test = grind (arith, nat_tests, test)
 
 ascii_of : (bytes : List ℕ) → is_printable bytes ≡ true → IsAscii bytes
 ascii_of [] test = IsAscii-nil
