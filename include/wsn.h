@@ -63,7 +63,12 @@ enum { WSN_SHORTEST = 0, WSN_ANY = 1 };
 /* wsn_options.detail: what wsn_show and wsn_show_stream show. */
 enum { WSN_EVENTS = 0, WSN_FRAMES = 1 };
 
-/* wsn_options.view: in hexadecimal half as many bytes are shown. */
+/*
+ * wsn_options.view: in hexadecimal half as many bytes are shown. WSN_VIEW_ALL:
+ * of every payload all, with memory for one payload of each endpoint, and of
+ * wsn_same_view 4,096 bytes.
+ */
+enum { WSN_VIEW_ALL = 65535 };
 
 typedef struct wsn_options {
     uint8_t role;            /* WSN_CLIENT */
@@ -73,7 +78,7 @@ typedef struct wsn_options {
     uint8_t without_pings;   /* 0; 1 to compare without pings */
     uint8_t without_pongs;   /* 0 */
     uint8_t without_closes;  /* 0 */
-    uint16_t view;           /* 48, to 4,096: bytes of a payload shown */
+    uint16_t view;           /* 48, to 4,096; or WSN_VIEW_ALL */
     uint32_t limit;          /* 16,777,216, the maximum: bytes of a message */
     uint32_t frames;         /* 0: no maximum; else that of a message */
 } wsn_options;

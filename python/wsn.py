@@ -18,7 +18,7 @@ import dataclasses
 import decimal
 import json
 import os
-from typing import Any, Callable, Collection, Dict, List, Optional, Tuple, TypeVar
+from typing import Any, Callable, Collection, Dict, List, Optional, Tuple, TypeVar, Union
 
 __all__ = [
     "BadCharacter", "Close", "Comparison", "DifferAt", "EndedBy", "Entry", "Fault", "FaultyCapture", "Frame", "Frames",
@@ -35,6 +35,7 @@ MESSAGE_MAX = 16_777_216
 FRAMES_MAX = 4_294_967_295
 OFFSET_MAX = 18_446_744_073_709_551_615
 VIEW_MAX = 4_096
+VIEW_ALL = 65_535
 
 
 # ---- what the calls answer
@@ -401,7 +402,7 @@ def _options(
     frames: Optional[int] = None,
     lengths: str = "shortest",
     json_lines: bool = True,
-    view: int = 48,
+    view: Union[int, str] = 48,
     wire: bool = False,
     without: Collection[str] = (),
 ) -> _Options:
@@ -415,7 +416,7 @@ def _options(
         without_pings=int("ping" in without),
         without_pongs=int("pong" in without),
         without_closes=int("close" in without),
-        view=_number("view", view, 0, VIEW_MAX),
+        view=VIEW_ALL if view == "all" else _number("view", view, 0, VIEW_MAX),
         limit=_number("limit", limit, 0, MESSAGE_MAX),
         frames=0 if frames is None else _number("frames", frames, 1, FRAMES_MAX),
     )
@@ -516,11 +517,11 @@ def frames(data: Any, role: str, **limits: Any) -> Frames:
     return Frames([_made(Frame, head) for head in heads], _verdict(verdict))
 
 
-def show(data: Any, role: Optional[str] = None, *, view: int = 48, wire: bool = False, **limits: Any) -> Session:
+def show(data: Any, role: Optional[str] = None, *, view: Union[int, str] = 48, wire: bool = False, **limits: Any) -> Session:
     """Shows what both sides of a capture said, in order; with a role, what the stream of that endpoint says.
 
-    view: the maximum bytes of a payload that an entry has, 0 to 4,096; as hex half as many. wire: frames instead of
-    events. The limits are those of `judge`.
+    view: the maximum bytes of a payload that an entry has, 0 to 4,096, as hex half as many; or "all" for whole payloads.
+    wire: frames instead of events. The limits are those of `judge`.
     """
     options = _options(role or "client", view=view, wire=wire, **limits)
     with _Lent(data) as given:
@@ -552,7 +553,7 @@ def same(
     without: any of "ping", "pong", "close"; events of these kinds are left out of both. The limits are those of `judge`.
     view: if given, the first events that differ are in the answer, each with at most so many bytes of its payload.
     """
-    options = _options(role, without=without, **limits, **({} if view is None else {"view": view}))
+    options = _options(role, without=without, **limits, **({} if view is None else {"view": _number("view", view, 0, VIEW_MAX)}))
     with _Lent(first) as one, _Lent(second) as other:
         fields = _asked("wsn_same" if view is None else "wsn_same_view", options, one, other)[0]
     return _comparison(fields)

@@ -182,6 +182,34 @@ FRAMES_OF_A_STREAM = Row(
     'S - 0 unfinished text 4 2 lacks 1 "Hell"\ncut 10\n',
 )  # fmt: skip
 
+# A server's text and its binary message of 5,000 bytes, and its ping of 125.
+LONG_TEXT = bytes.fromhex("817e1388") + b"a" * 5_000
+LONG_BINARY = bytes.fromhex("827e1388") + b"\xab" * 5_000
+LONG_PING = bytes.fromhex("897d") + b"p" * 125
+
+
+def of_whole(entry, view, given, *options):
+    """A server's stream of one frame, and how it is shown with a view."""
+    return Row(["show", "--role", "server", "--view", view, *options], given, 0,
+               f"S - 0 {entry}\naccepted {len(given)} tail 0 unfinished -\n")  # fmt: skip
+
+
+WHOLE_TEXT = f'text 5000 1 "{"a" * 5_000}"'
+WHOLE = [
+    of_whole(WHOLE_TEXT, "all", LONG_TEXT),
+    of_whole(WHOLE_TEXT, "all", LONG_TEXT, "--limit", "5000"),
+    of_whole(WHOLE_TEXT, "all", LONG_TEXT, "--limit", "16777216"),
+    of_whole(f'text 5000 1 "{"a" * 4_096}" ..', "4096", LONG_TEXT),
+    of_whole(f"binary 5000 1 {'ab' * 5_000}", "all", LONG_BINARY),
+    of_whole(f"binary 5000 1 {'ab' * 2_048} ..", "4096", LONG_BINARY),
+    # A control may have more bytes than --limit.
+    of_whole(f'ping 125 1 "{"p" * 125}"', "all", LONG_PING, "--limit", "0"),
+    Row(["show", "--role", "server", "--view", "all", "--json"], LONG_TEXT, 0,
+        f'{{"type":"event","side":"server","offset":0,"event":"text","bytes":5000,"frames":1,"text":"{"a" * 5_000}"}}\n'
+        '{"type":"verdict","verdict":"accepted","used":5004,"tail":0,"unfinished":null,"frames":1,"messages":1,'
+        '"pings":0,"pongs":0,"close":null}\n'),
+]
+
 GROUPS = (
     Group("an_event_is_in_the_line_of_its_last_byte", "each event is printed in the line with its last byte",
           of_captures(EVENTS)),
@@ -210,6 +238,7 @@ GROUPS = (
               *of_one_message("S 820300ff10\n", "S - 0 binary 3 1", VIEWS_OF_BYTES),
               *of_views(CONTROLS_AND_TAILS),
           ]),
+    Group("payloads_are_shown_whole", "with --view all nothing of a payload is left out", WHOLE),
     Group("objects_are_printed_one_a_line", "with --json each line is an object", OBJECTS),
     Group("a_stream_is_shown_with_its_verdict", "with --role the verdict follows what is shown, in place of a report", [
         *[Row(["show", "--role", role], bytes.fromhex(digits), status, lines + verdict)

@@ -2,9 +2,11 @@
 
 shown(text, view, frames_of, wire) gives the lines before the report; frames_of(role, data) gives the lines of `wsn frames`
 for the bytes of a side, "client" or "server". shown_stream(letter, data, lines, view, wire) does so for one stream. With
-wire, frames are shown in place of events.
+wire, frames are shown in place of events. view is a number of bytes; WHOLE stands for `--view all`.
 """
 import re
+
+WHOLE = 33_554_432
 
 HIDDEN = re.compile(
     "[\x00-\x1f\x7f-\x9f\xad\u034f\u061c\u115f\u1160\u17b4\u17b5\u180e\u200b\u200e\u200f\u2028-\u202e\u2060-\u206f\u3164\ufeff\uffa0\ufff0-\ufff8"
@@ -27,6 +29,16 @@ def escaped(text):
 def quoted(data):
     text = data.decode().replace("\\", "\\\\").replace('"', '\\"')
     return f'"{escaped(text)}"'
+
+
+def view_word(view):
+    """The value of --view."""
+    return "all" if view == WHOLE else str(view)
+
+
+def short(view):
+    """The view of what is no event: at most 4,096 bytes."""
+    return min(view, 4_096)
 
 
 def hexadecimal(data, view):
@@ -140,7 +152,7 @@ def stream_items(data, lines, view, wire):
         seen = data[at:refused_at + 1]
         if part and part.payload_at <= refused_at:
             seen = part.unmasked(data[part.payload_at:refused_at + 1])
-        count = min(view // 2, len(seen))
+        count = min(short(view) // 2, len(seen))
         shown = "-" if view == 0 else (".." if count < len(seen) else "") + seen[len(seen) - count:].hex()
         items.append((refused_at + 1, f"{at} {' '.join(verdict)} {shown}"))
         if verdict[2] == "text-bad":
@@ -165,7 +177,7 @@ def character_view(bad, kept, count, view):
     on. Before it the message has so many bytes."""
     if view == 0:
         return "- -"
-    before = kept[max(0, len(kept) - view // 2):max(0, len(kept) - len(bad))]
+    before = kept[max(0, len(kept) - short(view) // 2):max(0, len(kept) - len(bad))]
     while before and 0x80 <= before[0] <= 0xbf:
         before = before[1:]
     before = before[:whole_characters(before)]
@@ -174,7 +186,7 @@ def character_view(bad, kept, count, view):
 
 
 def bytes_left(word, at, data, view):
-    return [f"{at} {word} {len(data) - at} {hexadecimal(data[at:], view)}"] if at < len(data) else []
+    return [f"{at} {word} {len(data) - at} {hexadecimal(data[at:], short(view))}"] if at < len(data) else []
 
 
 def part_left(message, part, at, data, view):

@@ -196,6 +196,7 @@ TYPED = [
     ("wsn judge --role cl\t--cap\tthe\\ o\t\n", "GOT <judge> <--role> <client> <--capture> <the one>"),
     ("wsn closing the\\ o\t\n", "GOT <closing> <the one>"),
     ("wsn show --co\talw\t\n", "GOT <show> <--color> <always>"),
+    ("wsn show --vi\ta\t\n", "GOT <show> <--view> <all>"),
 ]
 
 
@@ -217,7 +218,7 @@ def completion_in_zsh(folder):
     functions = TOP / "share/zsh/site-functions"
     setup = f"cd '{folder}'; fpath=('{functions}' $fpath); autoload -U compinit; compinit -u -D\n{SAYS}"
     for keys, wanted in TYPED:
-        keys, wanted = keys.replace("--role cl", "--role=cl"), re.sub("--(role|color)> <", r"--\1=", wanted)
+        keys, wanted = keys.replace("--role cl", "--role=cl"), re.sub("--(role|color|view)> <", r"--\1=", wanted)
         typed(["zsh", "-f", "-i"], setup, keys, wanted)
 
 

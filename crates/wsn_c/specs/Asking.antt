@@ -1,7 +1,8 @@
 -- What options ask for.
-use Rattle.std.specs.Prelude.{◌≡◌, ◌<◌, ◌≤◌, ◌^◌, None, Some}
+use Rattle.std.specs.Prelude.{◌≡◌, ℕ, ◌==◌, ◌<◌, ◌≤◌, ◌^◌, ◌⊎◌, if◌then◌else◌, None, Some}
 use Rattle.wsn_rules.specs.Limits.{Limits}
 use Rattle.wsn_rules.specs.declared.without.Without.{Without}
+use Rattle.wsn_print.specs.WholeViews.{whole_view}
 use Rattle.wsn_c.specs.declared.options.Options.{Options}
 use Rattle.wsn_c.specs.declared.options.Asked.{Asked}
 use Rattle.wsn_c.specs.Numbers.{role_number, format_number, lengths_number, detail_number, flag_number}
@@ -12,6 +13,14 @@ pub record AreFlagsInRange (options : Options) : Type 0 where
   pub pongs : options.without_pongs ≤ 1
   pub closes : options.without_closes ≤ 1
 
+-- A view of at most 4,096 bytes, or 65,535 for whole payloads.
+abbrev pub IsViewInRange : ℕ → Type 0
+IsViewInRange view = (view ≤ 4096) ⊎ (view ≡ 65535)
+
+-- the view that is asked for, of a stream under these limits
+abbrev pub view_asked : ℕ → Limits → ℕ
+view_asked view limits = if view == 65535 then whole_view limits else view
+
 -- Each option has a meaning.
 pub record AreInRange (options : Options) : Type 0 where
   pub role : options.role ≤ 1
@@ -19,7 +28,7 @@ pub record AreInRange (options : Options) : Type 0 where
   pub lengths : options.lengths ≤ 1
   pub detail : options.detail ≤ 1
   pub flags : AreFlagsInRange options
-  pub view : options.view ≤ 4096
+  pub view : IsViewInRange options.view
   pub limit : options.limit ≤ 16777216
 
 -- The options ask for these limits: the number 0 stands for any number of frames, and an input may have 2^40 bytes.
@@ -41,7 +50,7 @@ pub record IsAsked (options : Options) (asked : Asked) : Type 0 where
   pub role : options.role ≡ role_number asked.role
   pub limits : AreLimitsAsked options asked.limits
   pub without : IsWithoutAsked options asked.without
-  pub view : asked.style.view ≡ options.view
+  pub view : asked.style.view ≡ view_asked options.view asked.limits
   pub detail : options.detail ≡ detail_number asked.style.detail
   pub format : options.format ≡ format_number asked.style.format
 

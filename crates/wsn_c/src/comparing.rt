@@ -1,4 +1,4 @@
-ghost use Rattle.std.specs.Prelude.{None, Some};
+ghost use Rattle.std.specs.Prelude.{◌≤◌, None, Some, IfSome, min};
 ghost use Rattle.wsn_c.specs.Calls.{IsCompared, GivesComparison, call};
 
 use crate::answer::Answer;
@@ -31,7 +31,7 @@ pub extern "C" fn wsn_same(
 }
 
 /// Compares them as `wsn same --view` does: where they differ, it also shows the first event of each that does, and where
-/// their payloads differ. The most bytes of a payload that it shows are the options' view.
+/// their payloads differ. The most bytes of a payload that it shows are the options' view, and never over 4,096.
 #[unsafe(no_mangle)]
 pub extern "C" fn wsn_same_view(
     alloc: Global,
@@ -41,21 +41,13 @@ pub extern "C" fn wsn_same_view(
     output: &mut [u8],
     message: &mut [u8],
 ) -> Answer
-    ensures { IsCompared options.now (λ asked. Some asked.style.view) first.now second.now
+    ensures { IsCompared options.now (λ asked. Some (min asked.style.view 4096)) first.now second.now
         (call output.old output.new message.old message.new result) }
 {
     match options.asked() {
         Some(asked) => {
-            let style = asked.style;
-            compare(
-                alloc,
-                &asked,
-                Some(style.view),
-                first,
-                second,
-                output,
-                message,
-            )
+            let view = asked.style.view.short();
+            compare(alloc, &asked, Some(view), first, second, output, message)
         }
         None => give_usage(output, message),
     }
@@ -71,6 +63,7 @@ fn compare(
     output: &mut [u8],
     message: &mut [u8],
 ) -> Answer
+    requires { IfSome view (λ n. n ≤ 4096) }
     ensures { GivesComparison asked.now view first.now second.now
         (call output.old output.new message.old message.new result) }
 {

@@ -7,6 +7,9 @@ use wsn_rules::{Detail, INPUT_MAX, Limits};
 use wsn_show::Style;
 use wsn_wire::{Lengths, Role};
 
+/// The view that means whole payloads.
+const VIEW_ALL: u16 = 65_535;
+
 /// How a command reads its input and prints its answer. `wsn.h` has names for the numbers.
 #[repr(C)]
 #[derive(Clone, Copy)]
@@ -25,7 +28,7 @@ pub struct Options {
     pub without_pongs: u8,
     /// Whether it leaves out Closes.
     pub without_closes: u8,
-    /// The maximum number of bytes of a payload that are shown, at most 4,096.
+    /// The maximum number of bytes of a payload that are shown, at most 4,096; 65,535 for whole payloads.
     pub view: u16,
     /// The maximum number of bytes in a message, at most 16,777,216.
     pub limit: u32,
@@ -47,7 +50,7 @@ pub struct Asked {
 }
 
 impl Options {
-    ghost use Rattle.wsn_c.specs.Asking.{AreInRange, AreFlagsInRange, AreLimitsAsked, IsAsked, IsWithoutAsked};
+    ghost use Rattle.wsn_c.specs.Asking.{AreInRange, AreFlagsInRange, AreLimitsAsked, IsAsked, IsViewInRange, IsWithoutAsked, view_asked};
 
     /// What the options ask for. `None` exactly if one of them is out of range.
     pub(crate) fn asked(&self) -> Option<Asked>
@@ -57,7 +60,7 @@ impl Options {
         let role = self.role()?;
         let limits = self.limits()?;
         let without = self.without()?;
-        let view = ViewLimit::new(self.view)?;
+        let view = self.view(limits)?;
         let detail = self.detail()?;
         let format = self.format()?;
         let style = Style {
@@ -115,6 +118,18 @@ impl Options {
             pong: flag(self.without_pongs)?,
             close: flag(self.without_closes)?,
         })
+    }
+
+    /// How much of a payload is shown of a stream under these limits.
+    fn view(&self, limits: Limits) -> Option<ViewLimit>
+        ensures in_range { IsSome result ↔ IsViewInRange self.now.view }
+        ensures value { IfSome result (λ view. view ≡ view_asked self.now.view limits) }
+    {
+        if self.view == VIEW_ALL {
+            Some(ViewLimit::whole(limits))
+        } else {
+            ViewLimit::new(self.view)
+        }
     }
 
     fn limits(&self) -> Option<Limits>

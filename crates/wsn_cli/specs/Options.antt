@@ -1,5 +1,5 @@
 -- What options ask for, by the texts of their values.
-use Rattle.std.specs.Prelude.{◌≡◌, ◌≢◌, ℕ, Bool, true, false, Option, None, Some, option_map, List, [], codes}
+use Rattle.std.specs.Prelude.{◌≡◌, ◌≢◌, ◌⊎◌, ℕ, Bool, true, false, Option, None, Some, option_map, List, [], codes}
 use Rattle.std.specs.Char.{is_ascii_digit}
 use Rattle.std.specs.List.{list_all, list_any}
 use Rattle.std.specs.Str.{bytes_eq}
@@ -28,11 +28,15 @@ abbrev pub IsInDigits : Option (List ℕ) → Type 0
 IsInDigits None = Unit {0}
 IsInDigits (Some text) = (text ≢ []) × (list_all is_ascii_digit text ≡ true)
 
--- So are the values of all options that take a number.
-abbrev pub AreInDigits : Found → Type 0
-AreInDigits found =
+-- So is the value of a command's --view; or it is the `all` of `show`.
+abbrev pub IsViewText : List ℕ → Option (List ℕ) → Type 0
+IsViewText name value = ((name ≡ codes "show") × (value ≡ Some (codes "all"))) ⊎ IsInDigits value
+
+-- The values of all options of the command with this name that take a number.
+abbrev pub AreInDigits : List ℕ → Found → Type 0
+AreInDigits name found =
     IsInDigits (first_value found (codes "limit")) × IsInDigits (first_value found (codes "frames"))
-    × IsInDigits (first_value found (codes "size")) × IsInDigits (first_value found (codes "view"))
+    × IsInDigits (first_value found (codes "size")) × IsViewText name (first_value found (codes "view"))
     × IsInDigits (first_value found (codes "at"))
 
 -- the words that an option lists, such as ping,pong

@@ -10,6 +10,7 @@ use Rattle.wsn_rules.specs.declared.detail.Detail.TheVariants as details
 use Rattle.wsn_print.specs.declared.format.Format.{Format}
 use Rattle.wsn_print.specs.declared.format.Format.TheVariants as formats
 use Rattle.wsn_print.specs.declared.style.Style.{Style}
+use Rattle.wsn_print.specs.WholeViews.{whole_view}
 use Rattle.wsn_command.specs.Jobs.{job_role, key_by_size}
 use Rattle.wsn_command.specs.declared.comparison.Comparison.{Comparison}
 use Rattle.wsn_command.specs.declared.job.How.{How, TheVariants.{ByPlan, BySize}}
@@ -49,9 +50,15 @@ pub record IsReadFormat (found : Found) (format : Format) : Type 0 where
   pub text : one_text found (codes "json") ≡ None → format ≡ formats.Text
   pub json : one_text found (codes "json") ≡ Some (codes "true") → format ≡ formats.Json
 
--- The style of --view, --wire and --json.
-pub record IsReadStyle (found : Found) (style : Style) : Type 0 where
-  pub view : IsAsked (one_text found (codes "view")) 48 style.view
+-- The view of --view for a stream under these limits: 48 bytes without it, and for `all` as many as show each payload
+-- whole.
+pub record IsReadView (found : Found) (limits : Limits) (view : ℕ) : Type 0 where
+  pub whole : first_value found (codes "view") ≡ Some (codes "all") → view ≡ whole_view limits
+  pub number : first_value found (codes "view") ≢ Some (codes "all") → IsAsked (one_text found (codes "view")) 48 view
+
+-- The style of --view, --wire and --json for a stream under these limits.
+pub record IsReadStyle (found : Found) (limits : Limits) (style : Style) : Type 0 where
+  pub view : IsReadView found limits style.view
   pub events : one_text found (codes "wire") ≡ None → style.detail ≡ details.Events
   pub frames : one_text found (codes "wire") ≡ Some (codes "true") → style.detail ≡ details.Frames
   pub format : IsReadFormat found style.format
@@ -86,7 +93,7 @@ pub record IsReadJob {A : Type 0} (name : List ℕ) (found : Found) (job : Job A
   pub role : IfSome (job_role job) (IsReadRole found)
   pub at : IfSome (job_at job) (IsAsked (one_text found (codes "at")) 0)
   pub format : IfSome (job_format job) (IsReadFormat found)
-  pub style : IfSome (job_style job) (IsReadStyle found)
+  pub style : IfSome (job_style job) (IsReadStyle found (job_limits job))
   pub source : IsReadSource found job
   pub how : IfSome (job_how job) (λ how. IfSome (job_role job) (λ role. IsReadHow found role how))
 

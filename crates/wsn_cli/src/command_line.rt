@@ -74,7 +74,7 @@ fn broken_rule(alloc: Global, words: &[String]) -> Result<Usage, AllocError> {
 /// The rule that words break which clap accepts once they are as an error shows them: a number has a sign.
 fn mistake_in(matches: &ArgMatches<'_>) -> Usage {
     match matches.subcommand() {
-        Some((_name, command)) => check_digits(command)
+        Some((name, command)) => check_digits(name, command)
             .err()
             .unwrap_or(Usage::Own(Mistake::Other)),
         None => Usage::Own(Mistake::Other),
@@ -88,7 +88,8 @@ fn reads_captures(words: &[String]) -> bool {
         .is_some_and(|word| matches!(word.as_str(), "show" | "closing"))
 }
 
-/// The job that a command's name and arguments ask for. The error is `OffsetTooLarge` for an offset of 2^64 or more.
+/// The job that a command's name and arguments ask for. The error is `OffsetTooLarge` for an offset of 2^64 or more, and
+/// `ViewTooLarge` for a view over 4,096 bytes.
 fn job_of(name: &str, matches: &ArgMatches<'_>) -> Result<Job, Mistake>
     ensures may_run { IfOk result MayRun }
     ensures limits { IfOk result (λ job. AreAskedLimits (job_limits job)) }
@@ -108,7 +109,7 @@ fn job_of(name: &str, matches: &ArgMatches<'_>) -> Result<Job, Mistake>
         "plan" => Ok(Job::Plan(role, limits)),
         "closing" => Ok(Job::Closing(limits, format_of(matches))),
         "show" => {
-            let style = style_of(matches).ok_or(Mistake::Other)?;
+            let style = style_of(matches, limits).ok_or(Mistake::ViewTooLarge)?;
             Ok(show_of(matches, limits, style))
         }
         _ => Err(Mistake::Other),
@@ -119,7 +120,7 @@ fn job_of(name: &str, matches: &ArgMatches<'_>) -> Result<Job, Mistake>
 fn show_of(matches: &ArgMatches<'_>, limits: Limits, style: Style) -> Job
     ensures may_run { MayRun result }
     ensures limits { job_limits result ≡ limits }
-    ensures read { AreReadLimits (found_of matches.now) limits → IsReadStyle (found_of matches.now) style
+    ensures read { AreReadLimits (found_of matches.now) limits → IsReadStyle (found_of matches.now) limits style
         → IsReadJob (codes "show") (found_of matches.now) result }
 {
     match matches.get_str("role") {
@@ -232,9 +233,9 @@ fn unexplained(alloc: Global, words: &str) -> Result<String, AllocError> {
 fn request_of(alloc: Global, name: &str, matches: &ArgMatches<'_>) -> Result<Request, Usage>
     ensures done { IfOk result CanBeDone }
     ensures read { IfOk result (IsRead name.now (found_of matches.now)) }
-    ensures digits { IfOk result (λ _. AreInDigits (found_of matches.now)) }
+    ensures digits { IfOk result (λ _. AreInDigits name.now (found_of matches.now)) }
 {
-    check_digits(matches)?;
+    check_digits(name, matches)?;
     match name {
         "explain" => explained(alloc, matches),
         "same" => same_of(alloc, matches),

@@ -1,13 +1,13 @@
-ghost use Rattle.std.specs.Prelude.{◌≡◌, ◌↔◌, Some, IfOk, IfSome, codes};
+ghost use Rattle.std.specs.Prelude.{◌≡◌, ◌≤◌, ◌↔◌, Some, IfOk, IfSome, codes};
 ghost use Rattle.std.specs.Char.{is_ascii_digit};
 ghost use Rattle.std.specs.List.{list_all};
 ghost use Rattle.clap.specs.Words.{found_of, first_value, matched_of, one_text};
 ghost use Rattle.wsn_wire.specs.declared.length_encoding.Lengths.TheVariants.{Any};
 ghost use Rattle.wsn_cli.specs.Colors.{IsReadColor, IsReadLayout};
 ghost use Rattle.wsn_cli.specs.Inputs.{IsInputNamed};
-ghost use Rattle.wsn_cli.specs.Options.{AreInDigits, AreLeftOut, IsAsked, IsAskedMaximum, IsInDigits, words_of};
+ghost use Rattle.wsn_cli.specs.Options.{AreInDigits, AreLeftOut, IsAsked, IsAskedMaximum, IsInDigits, IsViewText, words_of};
 ghost use Rattle.wsn_cli.specs.Requests.{AreAskedLimits};
-ghost use Rattle.wsn_cli.specs.ReadRequests.{AreReadLimits, IsReadComparison, IsReadFormat, IsReadRole, IsReadSide, IsReadStyle};
+ghost use Rattle.wsn_cli.specs.ReadRequests.{AreReadLimits, IsReadComparison, IsReadFormat, IsReadRole, IsReadSide, IsReadStyle, IsReadView};
 
 use crate::mistake::Mistake;
 use crate::request::{EntryLayout, Usage};
@@ -144,12 +144,12 @@ pub fn entries_of(matches: &ArgMatches<'_>) -> EntryLayout
     }
 }
 
-/// What is shown, how much of it and in which format, from `--view`, `--wire` and `--json`; `None` if the number of bytes
-/// is out of range.
-pub fn style_of(matches: &ArgMatches<'_>) -> Option<Style>
-    ensures { IfSome result (IsReadStyle (found_of matches.now)) }
+/// What is shown of a stream under these limits, how much of it and in which format, from `--view`, `--wire` and `--json`;
+/// `None` if the number of bytes is out of range.
+pub fn style_of(matches: &ArgMatches<'_>, limits: Limits) -> Option<Style>
+    ensures { IfSome result (IsReadStyle (found_of matches.now) limits) }
 {
-    let view = ViewLimit::new(view_of(matches)?.unwrap_or(VIEW_DEFAULT))?;
+    let view = shown_view_of(matches, limits)?;
     let detail = if matches.get_flag("wire") {
         Detail::Frames
     } else {
@@ -161,6 +161,29 @@ pub fn style_of(matches: &ArgMatches<'_>) -> Option<Style>
         detail,
         format,
     })
+}
+
+/// How much is shown of a payload of a stream under these limits, from `--view`; `None` if the number of bytes is out of
+/// range.
+fn shown_view_of(matches: &ArgMatches<'_>, limits: Limits) -> Option<ViewLimit>
+    ensures { IfSome result (IsReadView (found_of matches.now) limits) }
+{
+    match matches.get_str("view") {
+        Some("all") => Some(ViewLimit::whole(limits)),
+        _ => ViewLimit::new(view_of(matches)?.unwrap_or(VIEW_DEFAULT)),
+    }
+}
+
+/// How much a comparison shows of the events that differ, from `--view`, or `None` without it; `None` of that if the number
+/// of bytes is out of range.
+fn events_view_of(matches: &ArgMatches<'_>) -> Option<Option<ViewLimit>>
+    ensures in_range { IfSome result (λ view. IfSome view (λ n. n ≤ 4096)) }
+    ensures read { IfSome result (IsAskedMaximum (one_text (found_of matches.now) (codes "view"))) }
+{
+    match view_of(matches)? {
+        Some(bytes) => Some(Some(ViewLimit::new(bytes)?)),
+        None => Some(None),
+    }
 }
 
 /// The number of bytes that `--view` asks for, or `None` without it; `None` of that if its value is no number below 2^16.
@@ -177,10 +200,7 @@ pub fn comparison_of(matches: &ArgMatches<'_>) -> Option<Comparison>
     ensures read { IfSome result (IsReadComparison (found_of matches.now)) }
 {
     let limits = limits_of(matches)?;
-    let view = match view_of(matches)? {
-        Some(bytes) => Some(ViewLimit::new(bytes)?),
-        None => None,
-    };
+    let view = events_view_of(matches)?;
     Some(Comparison {
         role: role_of(matches),
         limits,
@@ -190,15 +210,25 @@ pub fn comparison_of(matches: &ArgMatches<'_>) -> Option<Comparison>
     })
 }
 
-/// Refuses a number that isn't digits alone, such as `+5`, which clap accepts.
-pub fn check_digits(matches: &ArgMatches<'_>) -> Result<(), Usage>
-    ensures { IfOk result (λ _. AreInDigits (found_of matches.now)) }
+/// Refuses a number of the command with this name that isn't digits alone, such as `+5`, which clap accepts.
+pub fn check_digits(name: &str, matches: &ArgMatches<'_>) -> Result<(), Usage>
+    ensures { IfOk result (λ _. AreInDigits name.now (found_of matches.now)) }
 {
     check_number(matches, "limit")?;
     check_number(matches, "frames")?;
     check_number(matches, "size")?;
-    check_number(matches, "view")?;
+    check_view(name, matches)?;
     check_number(matches, "at")
+}
+
+/// Refuses a value of `--view` that isn't digits alone, unless it is the `all` of `show`.
+fn check_view(name: &str, matches: &ArgMatches<'_>) -> Result<(), Usage>
+    ensures { IfOk result (λ _. IsViewText name.now (first_value (found_of matches.now) (codes "view"))) }
+{
+    match (name, matches.get_str("view")) {
+        ("show", Some("all")) => Ok(()),
+        _ => check_number(matches, "view"),
+    }
 }
 
 /// Refuses a value of this option that isn't digits alone, at least one.

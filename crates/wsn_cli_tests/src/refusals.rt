@@ -32,12 +32,11 @@ static WRONG: [&str; 49] = [
     "wsn plan --role server --json",
     "wsn recut --role server --size 3 --json",
     "wsn show file other",
-    "wsn show --view 4097",
-    "wsn show --view -1",
     "wsn show --layout columns",
     "wsn show --layout people --json",
     "wsn judge --role server --layout lines",
     "wsn same --role client a b --view 4097",
+    "wsn same --role client a b --view all",
     "wsn normal --role client --view 5",
     "wsn plan --role server --size 2",
     "wsn judge --role server --limit 16777217",
@@ -84,6 +83,11 @@ wsn payload --role server --at -5 => NoNumber
 wsn payload --role server --at end => NoNumber
 wsn payload --role server --at 18446744073709551616 => OffsetTooLarge
 wsn show --view +5 => NoNumber
+wsn show --view -1 => NoNumber
+wsn show --view ALL => NoNumber
+wsn show --view  => NoNumber
+wsn show --view 4097 => ViewTooLarge
+wsn show --view 65536 => ViewTooLarge
 wsn same --role client a b --view +5 => NoNumber
 wsn same --role client --frames +1 a b => NoNumber
 wsn recut --role server --size +3 => NoNumber

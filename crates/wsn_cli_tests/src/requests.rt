@@ -40,6 +40,9 @@ wsn show --role client --view 7 file => show client, events view 7, from file
 wsn show --view 0 => show, events view 0
 wsn show --view=4096 file => show, events view 4096, from file
 wsn show --layout people --view 5 => show, events view 5
+wsn show --view all => show, events view 33554432
+wsn show --limit 1000 --view all --role client file => show client within 1000 1099511627776 - shortest, events view 2000, from file
+wsn show --limit 5 --view all => show within 5 1099511627776 - shortest, events view 250
 wsn show --role client --layout=lines => show client, events view 48
 wsn show --limit 5 --view 3 --lengths any - => show within 5 1099511627776 - any, events view 3
 wsn same --role client a b => same client, a and b

@@ -1,5 +1,5 @@
 -- No read of lent bytes fails in a run.
-use Rattle.std.proofs.Common.{◌≡◌, ℕ, List, Result, Ok, Err, true, false, ◌∙◌}
+use Rattle.std.proofs.Common.{◌≡◌, ℕ, List, Result, Ok, Err, true, false, ap, ◌∙◌}
 use Rattle.wsn_wire.specs.declared.endpoint.Role.{Role}
 use Rattle.wsn_io.specs.Transfer.{Incoming, Outgoing, IsReceived}
 use Rattle.wsn_io.specs.declared.stop.Stop.{Stop}
@@ -9,6 +9,7 @@ use Rattle.wsn_rules.specs.declared.compared.Compared.{Compared}
 use Rattle.wsn_rules.specs.declared.verdict.Verdict.{Verdict}
 use Rattle.wsn_capture.specs.declared.capture_report.CaptureReport.{CaptureReport}
 use Rattle.wsn_print.specs.declared.format.Format.{Format}
+use Rattle.wsn_print.specs.declared.style.Style.{Style}
 use Rattle.wsn_show.specs.declared.showing.ShowStop.{ShowStop}
 use Rattle.wsn_show.specs.declared.showing.ShowStop.TheVariants.{Write}
 use Rattle.wsn_plan.specs.declared.planning.PlanAnswer.{PlanAnswer}
@@ -22,7 +23,7 @@ use Rattle.wsn_job.specs.Closings.{IsReportPrinted}
 use Rattle.wsn_job.specs.Comparisons.{IsComparisonPrinted}
 use Rattle.wsn_job.specs.Plans.{IsPlanPrinted}
 use Rattle.wsn_job.specs.Verdicts.{IsVerdictPrinted}
-use Rattle.wsn_job.specs.Work.{IsDone, IsRun}
+use Rattle.wsn_job.specs.Work.{IsDone, IsMemoryRefused, IsRun}
 use Rattle.wsn_job.specs.declared.done.Done.{Done}
 use Rattle.wsn_job.specs.declared.done.Done.TheVariants as done
 
@@ -53,6 +54,9 @@ report_is_read : (format : Format) (limits : Limits) (old new : Incoming) (befor
 report_is_read format limits old new before after (Err Write) printed = received_is_read _ old new _ printed.1.received
 report_is_read format limits old new before after _ printed = received_is_read _ old new _ printed.0.received
 
+refused_is_read : (style : Style) (old new : Incoming) (before after : Outgoing) → IsMemoryRefused style old new before after → IsRead old new
+refused_is_read style old new before after refused lent unfailed = ap (λ (i : Incoming). i.failed) refused.1 ∙ unfailed
+
 done_is_read : {A : Type 0} (job : Job A) (old new : Incoming) (before after : Outgoing) (d : Done A) → IsDone job old new before after d → IsRead old new
 done_is_read (Judge role limits format) old new before after (done.Judge answer) is = verdict_is_read format role limits old new before after answer is
 done_is_read (Frames role limits format) old new before after (done.Frames answer) is = received_is_read _ old new _ is.received
@@ -62,8 +66,10 @@ done_is_read (Plan role limits) old new before after (done.Plan answer) is = pla
 done_is_read (Recut role limits how) old new before after (done.Recut answer) is = received_is_read _ old new _ is.received
 done_is_read (Payload role limits at) old new before after (done.Payload place answer) is = received_is_read _ old new _ is.1.received
 done_is_read (ShowStream role limits style) old new before after (done.ShowStream answer) is = received_is_read _ old new _ is.received
+done_is_read (ShowStream role limits style) old new before after done.Memory is = refused_is_read style old new before after is
 done_is_read (Closing limits format) old new before after (done.Closing answer) is = report_is_read format limits old new before after answer is
 done_is_read (Show limits style) old new before after (done.Show answer) is = received_is_read _ old new _ is.received
+done_is_read (Show limits style) old new before after done.Memory is = refused_is_read style old new before after is
 done_is_read (RedactCapture limits) old new before after (done.RedactCapture answer) is = received_is_read _ old new _ is.received
 done_is_read job old new before after d is = absurd is
 

@@ -143,37 +143,39 @@ no_answer {A} status answered result none stopped =
 
 -- With `read failed` on standard error, the work is a run.
 pub run_of_failed_read : {A : Type 0} (job : Job A) (before after : Channels) (d : Done A) → MayRunOnSide job →
-    IsDone job before.input after.input before.output after.output d → after.input.failed ≡ true →
+    before.input.failed ≡ false → IsDone job before.input after.input before.output after.output d → after.input.failed ≡ true →
     (errors : Outgoing) → IsDiagnosed before.errors errors (stop_line stop.Read) →
     IsRun job before (record after { errors = errors }) (ran_with (done_status d) Stopped)
-run_of_failed_read (Judge role limits format) before after (done.Judge answer) may is failed errors said =
+run_of_failed_read (Judge role limits format) before after (done.Judge answer) may readable is failed errors said =
     let stopped = verdict_printed role limits before.input after.input failed format before.output after.output answer is in
     (done.Judge answer, is, no_answer verdict_status verdict_answer answer refl stopped, subst (λ (a : Result Verdict Stop). IsStopDiagnosed a before.errors errors) (sym stopped) said)
-run_of_failed_read (Frames role limits format) before after (done.Frames answer) may is failed errors said =
+run_of_failed_read (Frames role limits format) before after (done.Frames answer) may readable is failed errors said =
     let stopped = listed role limits before.input after.input failed format before.output after.output answer is in
     (done.Frames answer, is, no_answer verdict_status verdict_answer answer refl stopped, subst (λ (a : Result Verdict Stop). IsStopDiagnosed a before.errors errors) (sym stopped) said)
-run_of_failed_read (Normal role limits) before after (done.Normal answer) may is failed errors said =
+run_of_failed_read (Normal role limits) before after (done.Normal answer) may readable is failed errors said =
     let stopped = normalised role limits before.input after.input failed before.output after.output answer is in
     (done.Normal answer, is, no_answer verdict_status verdict_answer answer refl stopped, subst (λ (a : Result Verdict Stop). IsVerdictDiagnosed a before.errors errors) (sym stopped) said)
-run_of_failed_read (Redact role limits) before after (done.Redact answer) may is failed errors said =
+run_of_failed_read (Redact role limits) before after (done.Redact answer) may readable is failed errors said =
     let stopped = redacted role limits before.input after.input failed before.output after.output answer is in
     (done.Redact answer, is, no_answer redact_status verdict_answer answer refl stopped, subst (λ (a : Result Verdict Stop). IsStopDiagnosed a before.errors errors) (sym stopped) said)
-run_of_failed_read {A} (Plan role limits) before after (done.Plan answer) may is failed errors said =
+run_of_failed_read {A} (Plan role limits) before after (done.Plan answer) may readable is failed errors said =
     let stopped = plan_printed role limits before.input after.input failed before.output after.output answer is in
     (done.Plan answer, is, no_answer plan_status plan_answer answer refl stopped, subst (λ (a : Result (PlanAnswer A) Stop). IsPlanDiagnosed a before.errors errors) (sym stopped) said)
-run_of_failed_read (Recut role limits how) before after (done.Recut answer) may is failed errors said =
+run_of_failed_read (Recut role limits how) before after (done.Recut answer) may readable is failed errors said =
     let stopped = recut role limits before.input after.input failed (planned_by how) before.output after.output answer is in
     (done.Recut answer, is, no_answer recut_status recut_answer answer refl stopped, subst (λ (a : Result RecutAnswer Stop). IsRecutDiagnosed a before.errors errors) (sym stopped) said)
-run_of_failed_read (Payload role limits at) before after (done.Payload place answer) may is failed errors said =
+run_of_failed_read (Payload role limits at) before after (done.Payload place answer) may readable is failed errors said =
     let stopped = payload_taken role limits before.input after.input failed at before.output after.output answer is.1 in
     (done.Payload place answer, is, no_answer payload_status payload_answer answer refl stopped, subst (λ (a : Result Taken Stop). IsPayloadDiagnosed place a before.errors errors) (sym stopped) said)
-run_of_failed_read (ShowStream role limits style) before after (done.ShowStream answer) may is failed errors said =
+run_of_failed_read (ShowStream role limits style) before after (done.ShowStream answer) may readable is failed errors said =
     let stopped = stream_shown role limits before.input after.input failed style before.output after.output answer is in
     (done.ShowStream answer, is, no_answer verdict_status verdict_answer answer refl stopped, subst (λ (a : Result Verdict Stop). IsStopDiagnosed a before.errors errors) (sym stopped) said)
-run_of_failed_read (Closing limits format) before after d may is failed errors said = let h : false ≡ true = may.1 in absurd cc
-run_of_failed_read (Show limits style) before after d may is failed errors said = let h : false ≡ true = may.1 in absurd cc
-run_of_failed_read (RedactCapture limits) before after d may is failed errors said = let h : false ≡ true = may.1 in absurd cc
-run_of_failed_read job before after d may is failed errors said = absurd is
+run_of_failed_read (ShowStream role limits style) before after done.Memory may readable is failed errors said =
+    let both : false ≡ true = sym readable ∙ sym (ap (λ (i : Incoming). i.failed) is.1) ∙ failed in absurd cc
+run_of_failed_read (Closing limits format) before after d may readable is failed errors said = let h : false ≡ true = may.1 in absurd cc
+run_of_failed_read (Show limits style) before after d may readable is failed errors said = let h : false ≡ true = may.1 in absurd cc
+run_of_failed_read (RedactCapture limits) before after d may readable is failed errors said = let h : false ≡ true = may.1 in absurd cc
+run_of_failed_read job before after d may readable is failed errors said = absurd is
 
 -- A run over a side that ended with no faulty line.
 pub side_run : {A : Type 0} (job : Job A) (old new : Incoming) (before after quiet said : Outgoing) (d : Done A)
@@ -184,14 +186,14 @@ side_run job old new before after quiet said d ran is diagnosed ends =
 
 -- A run over a side that ended at a faulty line.
 pub side_run_to_line : {A : Type 0} (job : Job A) (old new : Incoming) (before after quiet said : Outgoing) (d : Done A)
-    (status number : ℕ) (fault : LineFault) → MayRunOnSide job → IsDone job old new before after d →
+    (status number : ℕ) (fault : LineFault) → MayRunOnSide job → old.failed ≡ false → IsDone job old new before after d →
     IsFaultySide new number fault → IsDiagnosed quiet said (line_fault_line number (fault_word fault)) →
     status ≡ done_status d →
     IsRunOnSide job (channels old before quiet) (channels new after said) (ran_with status FaultyLine)
-side_run_to_line job old new before after quiet said d status number fault may is faulty diagnosed ends =
+side_run_to_line job old new before after quiet said d status number fault may readable is faulty diagnosed ends =
     let run : (errors : Outgoing) → IsDiagnosed quiet errors (stop_line stop.Read) →
     IsRun job (channels old before quiet) (channels new after errors) (ran_with (done_status d) Stopped) =
-    run_of_failed_read job (channels old before quiet) (channels new after said) d may is faulty.failed in
+    run_of_failed_read job (channels old before quiet) (channels new after said) d may readable is faulty.failed in
     inr (record {
       number = number;
       fault = fault;

@@ -1,4 +1,4 @@
-use crate::diagnostics::diagnose_if_stopped;
+use crate::diagnostics::{diagnose_if_stopped, diagnose_stop};
 use crate::verdicts::diagnose_unless_accepted;
 use crate::{answers, payloads, plans, printed_closings, recuts, redactions};
 use std::alloc::Allocator;
@@ -28,6 +28,8 @@ pub(crate) enum Done<A: Allocator> {
     Closing(Result<CaptureReport, ShowStop>),
     Show(Result<CaptureReport, ShowStop>),
     RedactCapture(Result<(), RedactStop>),
+    /// Nothing was shown, since memory for a view was refused.
+    Memory,
 }
 
 impl<A: Allocator> Done<A> {
@@ -52,6 +54,7 @@ impl<A: Allocator> Done<A> {
                 printed_closings::diagnose_closing(*done, errors);
             }
             Done::RedactCapture(done) => redactions::diagnose_redaction(*done, errors),
+            Done::Memory => diagnose_stop(errors, Stop::Memory),
         }
     }
 
@@ -69,6 +72,7 @@ impl<A: Allocator> Done<A> {
             Done::Payload(_, done) => payloads::status(*done),
             Done::Closing(done) | Done::Show(done) => printed_closings::status(*done),
             Done::RedactCapture(done) => redactions::capture_status(*done),
+            Done::Memory => 2,
         }
     }
 
@@ -87,6 +91,7 @@ impl<A: Allocator> Done<A> {
             Done::Payload(_, done) => answers::of_payload(*done),
             Done::Closing(done) | Done::Show(done) => answers::of_report(*done),
             Done::RedactCapture(done) => answers::of_redaction(*done),
+            Done::Memory => Answer::Stopped,
         }
     }
 

@@ -19,6 +19,7 @@ mod printed_closings;
 mod recuts;
 mod redactions;
 mod running;
+mod shows;
 mod sides;
 pub mod status_examples;
 mod streams;

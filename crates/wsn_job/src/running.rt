@@ -7,6 +7,7 @@ use crate::done::Done;
 use crate::plans::print_plan;
 use crate::printed_closings::print_report;
 use crate::recuts::recut_input;
+use crate::shows::{show_capture, show_one_stream};
 use crate::verdicts::print_verdict;
 use std::alloc::Allocator;
 use std::io::{Read, Write};
@@ -16,7 +17,6 @@ use wsn_io::{Input, Output};
 use wsn_list::list_as;
 use wsn_payload::payload;
 use wsn_redact::{redact, redact_capture};
-use wsn_show::{show, show_stream};
 
 /// Does a command's work and returns the program's exit status and the answer.
 ///
@@ -82,12 +82,12 @@ pub(crate) fn work<A: Allocator + Copy, R: Read, W: Write>(
             Done::Payload(*at, payload(input, output, *role, *limits, *at))
         }
         Job::ShowStream(role, limits, style) => {
-            Done::ShowStream(show_stream(input, output, *role, *limits, *style))
+            show_one_stream(alloc, input, *role, *limits, *style, output)
         }
         Job::Closing(limits, format) => {
             Done::Closing(print_report(input, *limits, *format, output))
         }
-        Job::Show(limits, style) => Done::Show(show(input, output, *limits, *style)),
+        Job::Show(limits, style) => show_capture(alloc, input, *limits, *style, output),
         Job::RedactCapture(limits) => Done::RedactCapture(redact_capture(input, output, *limits)),
     }
 }

@@ -64,8 +64,8 @@ pub fn with_at<'a>(alloc: Global, command: Command<'a>) -> Result<Command<'a>, A
 /// Adds `--view`.
 pub fn with_view<'a>(alloc: Global, command: Command<'a>) -> Result<Command<'a>, AllocError> {
     let help =
-        "Maximum bytes of a payload to show, 0 to 4096;\nin hexadecimal, half as many\n[default: 48]";
-    command.arg(view(alloc, help))
+        "Maximum bytes of a payload to show, 0 to 4096;\nin hexadecimal, half as many; all for whole\npayloads [default: 48]";
+    command.arg(option(alloc, "view", "BYTES|all", help))
 }
 
 /// Adds `--view` to a comparison, which shows no events without it.
@@ -75,13 +75,8 @@ pub fn with_events_view<'a>(
 ) -> Result<Command<'a>, AllocError> {
     let help =
         "Also show the first events that differ, and at\nmost BYTES of a payload, 0 to 4096; in\nhexadecimal, half as many";
-    command.arg(view(alloc, help))
-}
-
-/// The option `--view`, with this help.
-fn view<'a>(alloc: Global, help: &'a str) -> Arg<'a> {
     let view = option(alloc, "view", "BYTES", help);
-    view.value_parser(value_parser!(u16).range(0..4_097))
+    command.arg(view.value_parser(value_parser!(u16).range(0..4_097)))
 }
 
 /// Adds `--wire`.

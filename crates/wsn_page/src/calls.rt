@@ -10,6 +10,9 @@ use wsn_io::{Input, Output};
 use wsn_redact::{redact, redact_capture};
 use wsn_show::{show, show_stream};
 
+/// The most bytes of a payload that are shown.
+const PAYLOAD_MAX: usize = 4_096;
+
 /// Shows what both sides of a capture said, in order, as `wsn show` does. The role counts for nothing. The text is
 /// composed in `scratch`. If it doesn't fit there, the call gives what fits, and the message `write failed`.
 #[unsafe(no_mangle)]
@@ -24,11 +27,15 @@ pub extern "C" fn wsn_page_show(
         (call output.old output.new message.old message.new result) }
 {
     let mut printed = Output::new(Room::new(scratch));
+    let mut client = [0; PAYLOAD_MAX];
+    let mut server = [0; PAYLOAD_MAX];
     let done = show(
         &mut Input::lent(capture),
         &mut printed,
         settings.limits(),
         settings.style(),
+        &mut client,
+        &mut server,
     );
     give_shown(done, printed.into_writer().text(), output, message)
 }
@@ -48,12 +55,14 @@ pub extern "C" fn wsn_page_show_stream(
         (call output.old output.new message.old message.new result) }
 {
     let mut printed = Output::new(Room::new(scratch));
+    let mut memory = [0; PAYLOAD_MAX];
     let done = show_stream(
         &mut Input::lent(stream),
         &mut printed,
         settings.role(),
         settings.limits(),
         settings.style(),
+        &mut memory,
     );
     give_stream(done, printed.into_writer().text(), output, message)
 }

@@ -14,6 +14,7 @@ pub mod EscapedText
 pub mod Formats
 pub mod NamedReportText
 pub mod ShownParts
+pub mod WholeViews
 pub mod DifferingPayloads
 pub mod HeldTexts
 pub mod Runs

@@ -1,13 +1,17 @@
 use std::marker::Model;
+use wsn_rules::Limits;
 use wsn_wire::{Op, Role};
 
-/// The greatest limit on the bytes of a payload that an entry shows.
+/// The greatest limit on the bytes of a payload that is given as a number.
 pub const VIEW_MAX: u16 = 4_096;
 
-/// The most bytes of a payload that an entry shows: 0 to 4,096.
+/// The most bytes in the body of a control (RFC 6455 section 5.5).
+const CONTROL_MAX: u32 = 125;
+
+/// The most bytes of a payload that an entry shows: 0 to 4,096, or as many as show each payload whole.
 #[derive(Clone, Copy)]
 pub struct ViewLimit {
-    bytes: u16,
+    bytes: u32,
 }
 
 impl Model for ViewLimit {
@@ -17,13 +21,14 @@ impl Model for ViewLimit {
 
     ghost view = { λ v. v.bytes };
 
-    ghost invariant = { λ v. v.bytes ≤ 4096 };
+    ghost invariant = { λ v. v.bytes ≤ 33554432 };
 
     ghost inverse = { λ n. record { bytes = n } };
 }
 
 impl ViewLimit {
-    ghost use Rattle.std.specs.Prelude.{◌≡◌, ◌≤◌, ◌↔◌, IfSome, IsSome};
+    ghost use Rattle.std.specs.Prelude.{◌≡◌, ◌≤◌, ◌↔◌, IfSome, IsSome, min};
+    ghost use Rattle.wsn_print.specs.WholeViews.{whole_view};
 
     /// A limit of `bytes` bytes. `None` exactly if that is over 4,096.
     #[tactic(none)]
@@ -34,16 +39,36 @@ impl ViewLimit {
         if bytes > VIEW_MAX {
             return None;
         }
-        Some(ViewLimit { bytes })
+        Some(ViewLimit {
+            bytes: u32::from(bytes),
+        })
+    }
+
+    /// The limit with which each payload is shown whole: twice the greatest number of bytes that a payload may have under
+    /// these limits, since in hexadecimal half as many bytes are shown.
+    pub fn whole(limits: Limits) -> ViewLimit
+        ensures { result ≡ whole_view limits }
+    {
+        let greatest = limits.message().max(CONTROL_MAX);
+        let bytes = greatest * 2;
+        ViewLimit { bytes }
+    }
+
+    /// This limit, or 4,096 bytes if it is greater.
+    pub fn short(&self) -> ViewLimit
+        ensures { result ≡ min self.now 4096 }
+    {
+        let bytes = self.bytes.min(u32::from(VIEW_MAX));
+        ViewLimit { bytes }
     }
 
     /// The number of bytes.
     #[tactic(none)]
     pub fn bytes(&self) -> usize
         ensures is { result ≡ self.now }
-        ensures in_range { result ≤ 4096 }
+        ensures in_range { result ≤ 33554432 }
     {
-        usize::from(self.bytes)
+        self.bytes as usize
     }
 }
 

@@ -1,5 +1,3 @@
-ghost use Rattle.std.specs.Prelude.{◌≤◌};
-
 use crate::format::Format;
 use crate::shown::ViewLimit;
 use wsn_rules::Detail;
@@ -13,5 +11,4 @@ pub struct Style {
     pub detail: Detail,
     /// Whether lines of words, lines for people or JSON objects are printed.
     pub format: Format,
-    ghost in_range: { view ≤ 4096 },
 }

@@ -1,6 +1,6 @@
 //! Examples of what `show` prints of a whole capture, computed from the definition in `wsn_show/specs/Styles.antt`.
 
-ghost use Rattle.std.specs.Prelude.{◌≡◌, ◌≤◌, false, None, Some, [], ◌∷◌, ◌++◌, codes};
+ghost use Rattle.std.specs.Prelude.{◌≡◌, false, None, Some, [], ◌∷◌, ◌++◌, codes};
 ghost use Rattle.wsn_wire.specs.declared.endpoint.Role.TheVariants.{Client, Server};
 ghost use Rattle.wsn_wire.specs.declared.opcode.Kind.TheVariants as kind;
 ghost use Rattle.wsn_wire.specs.declared.opcode.Op.TheVariants.{Close};
@@ -16,8 +16,8 @@ ghost use Rattle.wsn_show.specs.Styles.{styled_capture};
 
 /// The lines of a capture, what is left over at its end, and the report.
 pub fn of_words()
-    ensures { (few : 48 ≤ 4096) → styled_capture
-        (record { view = 48; detail = Events; format = format.Text; in_range = few })
+    ensures { styled_capture
+        (record { view = 48; detail = Events; format = format.Text })
         ((record { number = 2; time = Some (codes "0.25"); items = OfStream Server (Event 0 (Message kind.Text (codes "Hello")) 1) ∷ OfStream Server (RefusedFrame 7 (record { offset = 11; reason = TextBad }) (codes "Gr" ++ (0xfc ∷ [])) (Some (record { offset = 11; in_payload = 2; bytes = 0xfc ∷ []; earlier = [] }))) ∷ [] })
         ∷ (record { number = 4; time = Some (codes "0.5"); items = OfStream Client (Event 0 (Control Close ((0x03 ∷ 0xef ∷ []))) 1) ∷ [] })
         ∷ (record { number = 5; time = Some (codes "0.5"); items = End Client 8 ∷ [] })
@@ -39,8 +39,8 @@ pub fn of_words()
 /// The objects of a capture that the client ended: its lines by number, what is left over at its end, who ended the
 /// connection, and the report.
 pub fn of_objects()
-    ensures { (few : 48 ≤ 4096) → styled_capture
-        (record { view = 48; detail = Events; format = format.Json; in_range = few })
+    ensures { styled_capture
+        (record { view = 48; detail = Events; format = format.Json })
         ((record { number = 1; time = None; items = OfStream Server (Event 0 (Message kind.Text (codes "Hello")) 1) ∷ [] })
         ∷ (record { number = 3; time = Some (codes "0.5"); items = End Client 8 ∷ [] })
         ∷ (record { number = 4; time = Some (codes "0.5"); items = Comment (codes "# reset") ∷ [] }) ∷ [])

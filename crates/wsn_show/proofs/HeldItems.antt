@@ -17,7 +17,7 @@ use Rattle.wsn_rules.proofs.LawfulLists.{law_at_split, lawful_front}
 use Rattle.wsn_rules.proofs.MessageText.{text_of_push, reason_is_text}
 use Rattle.wsn_print.specs.declared.shown.ShownEvent.{ShownEvent}
 use Rattle.wsn_print.specs.declared.shown.HeldBytes.{HeldBytes}
-use Rattle.wsn_print.proofs.HeldParts.{first_held}
+use Rattle.wsn_print.proofs.HeldParts.{first_held, first_held_in}
 use Rattle.wsn_print.specs.ShownParts.{HoldsFirst, IsFrontOf, IsEndOf, event_of, Represents, HasTextReason}
 use Rattle.wsn_show.specs.declared.first_bytes.FirstBytes.{FirstBytes}
 use Rattle.wsn_show.specs.declared.last_bytes.LastBytes.{LastBytes}
@@ -27,18 +27,18 @@ use Rattle.wsn_show.specs.StreamParts.{BeginsIfText, KeepsMessage, HasJoined}
 
 -- ---- bytes
 
--- The first bytes of `all` among the first 4,096 bytes of `all` and of more.
-pub front_held : (n count : ℕ) (all more held : List ℕ) → n ≤ 4096 → held ≡ take 4096 (all ++ more) → count ≡ length all → HoldsFirst n all (take (min count (length held)) held)
-front_held n count all more held few is counts =
-    let size : length held ≡ min 4096 (length (all ++ more)) = ap (λ (bs : List ℕ). length bs) is ∙ length-take 4096 (all ++ more) in
+-- The first bytes of `all` among the first bytes of `all` and of more.
+pub front_held : (n room count : ℕ) (all more held : List ℕ) → n ≤ room → held ≡ take room (all ++ more) → count ≡ length all → HoldsFirst n all (take (min count (length held)) held)
+front_held n room count all more held few is counts =
+    let size : length held ≡ min room (length (all ++ more)) = ap (λ (bs : List ℕ). length bs) is ∙ length-take room (all ++ more) in
     let both : length (all ++ more) ≡ length all + length more = length-append all more in
     let k = min count (length held) in
     let own : length (take k held) ≡ k = length-take-le k held (omega arith) in
     let front : take k held ≡ take k all =
-    ap (λ (bs : List ℕ). take k bs) is ∙ take-take k 4096 (all ++ more) (omega (arith, size)) ∙ take-append-le k all more (omega (arith, counts)) in
+    ap (λ (bs : List ℕ). take k bs) is ∙ take-take k room (all ++ more) (omega (arith, size)) ∙ take-append-le k all more (omega (arith, counts)) in
     (front ∙ ap (λ (m : ℕ). take m all) (sym own), enough (length (take k held)) (omega (arith, own, counts)) size both)
   where
-    enough : (a : ℕ) → a ≡ min (length all) (length held) → length held ≡ min 4096 (length (all ++ more)) → length (all ++ more) ≡ length all + length more → (n ≤ a) ⊎ (a ≡ length all)
+    enough : (a : ℕ) → a ≡ min (length all) (length held) → length held ≡ min room (length (all ++ more)) → length (all ++ more) ≡ length all + length more → (n ≤ a) ⊎ (a ≡ length all)
     enough a is_min size both =
         elim (cases_lt (length held) (length all)) [
           | inl less ↦ inl (omega (arith, is_min, size, both, less, few))
@@ -120,22 +120,22 @@ pub group_some : (fs : List Frame) → 0 < length (unfinished fs) → unfinished
 group_some fs some none = let size : length (unfinished fs) ≡ 0 = ap (λ (gs : List Frame). length gs) none in omega (arith, some, size)
 
 -- The complete frames of the open message.
-pub represents_open : (role : Role) (limits : Limits) (n : ℕ) (shown : ShownEvent) (message : MessageSoFar) (fs : List Frame) (part : List ℕ) → n ≤ 4096 → IsLawful role limits fs → 0 < length (unfinished fs) → KeepsMessage message fs part
+pub represents_open : (role : Role) (limits : Limits) (n : ℕ) (shown : ShownEvent) (message : MessageSoFar) (fs : List Frame) (part : List ℕ) → IsLawful role limits fs → 0 < length (unfinished fs) → KeepsMessage n message fs part
     → shown.op ≡ message.op → shown.bytes ≡ message.bytes → shown.held.now ≡ take (min message.bytes (length message.payload.held)) message.payload.held
     → Represents n shown (Message (kind_of (unfinished fs)) (payload_of (unfinished fs)))
-represents_open role limits n shown message fs part few lawful some kept op bytes held =
+represents_open role limits n shown message fs part lawful some kept op bytes held =
     let unended = group_some fs some in
     represents_message n shown (unfinished fs) (payload_of (unfinished fs)) ((group_of_lawful role limits fs lawful).kind unended) (op ∙ kept.op unended) (bytes ∙ kept.bytes)
-    (subst (HoldsFirst n (payload_of (unfinished fs))) (sym held) (front_held n message.bytes (payload_of (unfinished fs)) part message.payload.held few kept.payload.held kept.bytes))
+    (subst (HoldsFirst n (payload_of (unfinished fs))) (sym held) (front_held n message.payload.size message.bytes (payload_of (unfinished fs)) part message.payload.held kept.payload.enough kept.payload.held kept.bytes))
 
 -- The message to which the data frame f belongs.
-pub represents_joined : (n : ℕ) (shown : ShownEvent) (message : MessageSoFar) (fs : List Frame) (f : Frame) → n ≤ 4096 → (first_op (unfinished fs ++ f ∷ []) ≡ Text) ⊎ (first_op (unfinished fs ++ f ∷ []) ≡ Binary)
-    → KeepsMessage message fs f.payload → HasJoined message fs f → shown.op ≡ message.op → shown.bytes ≡ message.payload.count → shown.held.now ≡ message.payload.held
+pub represents_joined : (n : ℕ) (shown : ShownEvent) (message : MessageSoFar) (fs : List Frame) (f : Frame) → (first_op (unfinished fs ++ f ∷ []) ≡ Text) ⊎ (first_op (unfinished fs ++ f ∷ []) ≡ Binary)
+    → KeepsMessage n message fs f.payload → HasJoined message fs f → shown.op ≡ message.op → shown.bytes ≡ message.payload.count → shown.held.now ≡ message.payload.held
     → Represents n shown (Message (kind_of (unfinished fs ++ f ∷ [])) (payload_of (unfinished fs ++ f ∷ [])))
-represents_joined n shown message fs f few kind kept joined op bytes held =
+represents_joined n shown message fs f kind kept joined op bytes held =
     let text : payload_of (unfinished fs ++ f ∷ []) ≡ payload_of (unfinished fs) ++ f.payload = text_of_push (unfinished fs) f in
     represents_message n shown (unfinished fs ++ f ∷ []) (payload_of (unfinished fs ++ f ∷ [])) kind (op ∙ joined.op) (bytes ∙ kept.payload.count ∙ ap (λ (bs : List ℕ). length bs) (sym text))
-    (first_held n (payload_of (unfinished fs ++ f ∷ [])) shown.held.now few (held ∙ kept.payload.held ∙ ap (λ (bs : List ℕ). take 4096 bs) (sym text)))
+    (first_held_in n message.payload.size (payload_of (unfinished fs ++ f ∷ [])) shown.held.now kept.payload.enough (held ∙ kept.payload.held ∙ ap (λ (bs : List ℕ). take message.payload.size bs) (sym text)))
 
 -- ---- complete events
 

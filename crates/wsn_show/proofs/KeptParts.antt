@@ -30,16 +30,16 @@ no_part head =
 pub with_message : (parts : StreamParts) (message : MessageSoFar) (fs : List Frame) (at : Position) (rest : List ℕ) → KeepsFrame parts fs at rest → KeepsFrame (record parts { message = message }) fs at rest
 with_message parts message fs at rest kept = record { offset = kept.offset; size = kept.size; head = kept.head; begun = kept.begun; last = kept.last }
 
-module _ (parts : StreamParts) (fs : List Frame) (head : HeadInfo) where
+module _ (n : ℕ) (parts : StreamParts) (fs : List Frame) (head : HeadInfo) where
   -- A head.
-  pub begins : (rest : List ℕ) → KeepsMessage parts.message fs [] → (is_control head.op ≡ false → HasJoined parts.message fs (frame_so_far head [])) → KeepsFrame parts fs (InFrame head []) rest → KeepsStream parts fs (InFrame head []) rest
-  begins rest kept joined frame = record { message = subst (KeepsMessage parts.message fs) (sym (no_part head)) kept; joined = joined; frame = frame }
+  pub begins : (rest : List ℕ) → KeepsMessage n parts.message fs [] → (is_control head.op ≡ false → HasJoined parts.message fs (frame_so_far head [])) → KeepsFrame parts fs (InFrame head []) rest → KeepsStream n parts fs (InFrame head []) rest
+  begins rest kept joined frame = record { message = subst (KeepsMessage n parts.message fs) (sym (no_part head)) kept; joined = joined; frame = frame }
 
   -- More payload of a data frame.
-  pub adds_data : (message : MessageSoFar) (part more rest now : List ℕ) → is_control head.op ≡ false → KeepsMessage parts.message fs (part ++ more) → HasJoined message fs (frame_so_far head part) → parts.message.op ≡ message.op
-      → parts.message.offset ≡ message.offset → KeepsFrame parts fs (InFrame head (part ++ more)) now → KeepsStream parts fs (InFrame head (part ++ more)) now
+  pub adds_data : (message : MessageSoFar) (part more rest now : List ℕ) → is_control head.op ≡ false → KeepsMessage n parts.message fs (part ++ more) → HasJoined message fs (frame_so_far head part) → parts.message.op ≡ message.op
+      → parts.message.offset ≡ message.offset → KeepsFrame parts fs (InFrame head (part ++ more)) now → KeepsStream n parts fs (InFrame head (part ++ more)) now
   adds_data message part more rest now other kept joined op offset frame = record {
-    message = subst (KeepsMessage parts.message fs) (sym (part_of_data head (part ++ more) other)) kept;
+    message = subst (KeepsMessage n parts.message fs) (sym (part_of_data head (part ++ more) other)) kept;
     joined = λ again. record {
       op = op ∙ joined.op ∙ first_alike (unfinished fs) (frame_so_far head part) (frame_so_far head (part ++ more)) refl;
       offset = offset ∙ joined.offset;
@@ -48,9 +48,9 @@ module _ (parts : StreamParts) (fs : List Frame) (head : HeadInfo) where
   }
 
   -- More payload of a control.
-  pub adds_to_control : (part more now : List ℕ) → is_control head.op ≡ true → KeepsMessage parts.message fs (data_part (InFrame head part)) → KeepsFrame parts fs (InFrame head (part ++ more)) now → KeepsStream parts fs (InFrame head (part ++ more)) now
+  pub adds_to_control : (part more now : List ℕ) → is_control head.op ≡ true → KeepsMessage n parts.message fs (data_part (InFrame head part)) → KeepsFrame parts fs (InFrame head (part ++ more)) now → KeepsStream n parts fs (InFrame head (part ++ more)) now
   adds_to_control part more now control kept frame = record {
-    message = subst (KeepsMessage parts.message fs) (part_of_control head part control ∙ sym (part_of_control head (part ++ more) control)) kept;
+    message = subst (KeepsMessage n parts.message fs) (part_of_control head part control ∙ sym (part_of_control head (part ++ more) control)) kept;
     joined = λ other. let both : true ≡ false = sym control ∙ other in absurd cc;
     frame = frame;
   }

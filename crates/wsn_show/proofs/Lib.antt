@@ -4,6 +4,7 @@ pub mod OpenMessages
 pub mod KeptParts
 pub mod TextsSoFar
 pub mod PrintedItems
+pub mod ItemViews
 pub mod HeldItems
 pub mod PrintedParts
 pub mod FramesSoFar

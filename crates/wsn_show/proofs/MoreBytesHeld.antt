@@ -8,19 +8,23 @@ use Rattle.std.proofs.Math.Seq.{take-append-add, drop-append-add}
 pub counted : (count number sum : ℕ) (came more : List ℕ) → count ≡ length came → number ≡ length more → length came + length more < 2 ^ 64 → sum ≡ min (count + number) (2 ^ 64 - 1) → sum ≡ length (came ++ more)
 counted count number sum came more is also small saturated = omega (arith, is, also, small, saturated, length-append came more)
 
-pub first_more : (held came more : List ℕ) (room n : ℕ) → held ≡ take 4096 came → room + length held ≡ 4096 → n ≡ min room (length more) → held ++ take n more ≡ take 4096 (came ++ more)
-first_more held came more room n is fits few =
-    let size : length held ≡ min 4096 (length came) = ap (λ (bs : List ℕ). length bs) is ∙ length-take 4096 came in
+-- As many of the first bytes as fit into a room.
+pub first_more_in : (size : ℕ) (held came more : List ℕ) (room n : ℕ) → held ≡ take size came → room + length held ≡ size → n ≡ min room (length more) → held ++ take n more ≡ take size (came ++ more)
+first_more_in size held came more room n is fits few =
+    let own : length held ≡ min size (length came) = ap (λ (bs : List ℕ). length bs) is ∙ length-take size came in
     let front : take n more ≡ take room more = ap (λ (m : ℕ). take m more) few ∙ take_min room more in
-    elim (cases_lt (length came) 4096) [
+    elim (cases_lt (length came) size) [
       | inl less ↦
-          let all : held ≡ came = is ∙ take_all 4096 came (omega arith) in
-          let left : 4096 ≡ length came + room = omega (arith, size) in
+          let all : held ≡ came = is ∙ take_all size came (omega (arith, less)) in
+          let left : size ≡ length came + room = omega (arith, own, less, fits) in
           ap (λ (bs : List ℕ). bs ++ take n more) all ∙ ap (λ (bs : List ℕ). came ++ bs) front ∙ sym (ap (λ (m : ℕ). take m (came ++ more)) left ∙ take-append-add came more room)
       | inr full ↦
-          let none : room ≡ 0 = omega (arith, size) in
-          ap (λ (bs : List ℕ). held ++ bs) (front ∙ ap (λ (m : ℕ). take m more) none) ∙ append-nil held ∙ is ∙ sym (take-append-le 4096 came more full)
+          let none : room ≡ 0 = omega (arith, own, full, fits) in
+          ap (λ (bs : List ℕ). held ++ bs) (front ∙ ap (λ (m : ℕ). take m more) none) ∙ append-nil held ∙ is ∙ sym (take-append-le size came more full)
     ]
+
+pub first_more : (held came more : List ℕ) (room n : ℕ) → held ≡ take 4096 came → room + length held ≡ 4096 → n ≡ min room (length more) → held ++ take n more ≡ take 4096 (came ++ more)
+first_more held came more room n is fits few = first_more_in 4096 held came more room n is fits few
 
 pub last_more : (held came more : List ℕ) → held ≡ drop (length came - 2048) came → drop (length held + length (drop (length more - 2048) more) - 2048) held ++ drop (length more - 2048) more ≡ drop (length (came ++ more) - 2048) (came ++ more)
 last_more held came more is =

@@ -4,7 +4,6 @@ use Rattle.std.proofs.Math.Seq.{take-add}
 use Rattle.std.proofs.lemmas.List.{drop_all, length-take-le}
 use Rattle.wsn_io.specs.Transfer.{Outgoing}
 use Rattle.wsn_wire.specs.declared.endpoint.Role.{Role}
-use Rattle.wsn_rules.specs.declared.detail.Detail.{Detail}
 use Rattle.wsn_rules.specs.declared.verdict.Refusal.{Refusal}
 use Rattle.wsn_rules.specs.Limits.{Limits}
 use Rattle.wsn_rules.specs.ShownStream.{Shown}
@@ -12,6 +11,7 @@ use Rattle.wsn_scan.specs.declared.scan.Scan.{Scan}
 use Rattle.wsn_scan.specs.Positions.{Position, BetweenFrames, InFrame}
 use Rattle.wsn_scan.specs.Scans.{HasScanned, refusal_in}
 use Rattle.wsn_scan.proofs.Unrefused.{unrefused_first}
+use Rattle.wsn_print.specs.declared.style.Style.{Style}
 use Rattle.wsn_show.specs.declared.entry_context.EntryContext.{EntryContext}
 use Rattle.wsn_show.specs.declared.stream_parts.StreamParts.{StreamParts}
 use Rattle.wsn_show.specs.declared.first_bytes.FirstBytes.{FirstBytes}
@@ -25,8 +25,8 @@ use Rattle.wsn_show.proofs.FramesSoFar.{items_in-append, nothing_so_far}
 
 -- ---- no bytes
 
-pub nothing_shown : (detail : Detail) (role : Role) (limits : Limits) (scan : Scan) (parts : StreamParts) → HasScanned role limits scan [] [] [] BetweenFrames → KeepsStream parts [] BetweenFrames [] → HasShown detail role limits scan parts [] []
-nothing_shown detail role limits scan parts scanned keeps =
+pub nothing_shown : (style : Style) (role : Role) (limits : Limits) (scan : Scan) (parts : StreamParts) → HasScanned role limits scan [] [] [] BetweenFrames → KeepsStream style.view parts [] BetweenFrames [] → HasShown style role limits scan parts [] []
+nothing_shown style role limits scan parts scanned keeps =
     let none = unrefused_first role limits scan [] (record { frames = []; since = []; position = BetweenFrames; has_scanned = scanned; heads_are = refl }) in
     inl (record {
       done = [];
@@ -34,7 +34,7 @@ nothing_shown detail role limits scan parts scanned keeps =
       rest = [];
       followed = record { has_scanned = scanned; unrefused = none };
       keeps = keeps;
-      is = nothing_so_far detail;
+      is = nothing_so_far style.detail;
     })
 
 -- ---- calls one after another
@@ -50,12 +50,12 @@ module _ (role : Role) (limits : Limits) (scan : Scan) (parts : StreamParts) (co
   pub frames_more : ShowsFrames role limits scan parts context old new came shown → ShowsMore role limits scan parts context old new came shown
   frames_more more = record { extra = more.extra; has = inl more.frames; printed = more.printed }
 
-  pub same_frames_shown : HasShownFrames context.style.detail role limits scan parts came shown → ShowsFrames role limits scan parts context old old came shown
-  same_frames_shown frames = record { extra = []; frames = subst (HasShownFrames context.style.detail role limits scan parts came) (sym (append-nil shown)) frames; printed = prints_nothing context old }
+  pub same_frames_shown : HasShownFrames context.style role limits scan parts came shown → ShowsFrames role limits scan parts context old old came shown
+  same_frames_shown frames = record { extra = []; frames = subst (HasShownFrames context.style role limits scan parts came) (sym (append-nil shown)) frames; printed = prints_nothing context old }
 
 pub goes_on : (role : Role) (limits : Limits) (mid new : Scan) (mid_parts new_parts : StreamParts) (context : EntryContext) (before between after : Outgoing) (came chunk share : List ℕ) (at n : ℕ) (shown : List Shown) → share ≡ drop at chunk
     → ShowsFrames role limits mid mid_parts context before between (came ++ take at chunk) shown
-    → ((so_far : List Shown) → HasShownFrames context.style.detail role limits mid mid_parts (came ++ take at chunk) so_far → ShowsMore role limits new new_parts context between after ((came ++ take at chunk) ++ take n share) so_far)
+    → ((so_far : List Shown) → HasShownFrames context.style role limits mid mid_parts (came ++ take at chunk) so_far → ShowsMore role limits new new_parts context between after ((came ++ take at chunk) ++ take n share) so_far)
     → ShowsMore role limits new new_parts context before after (came ++ take (at + n) chunk) shown
 goes_on role limits mid new mid_parts new_parts context before between after came chunk share at n shown is first step =
     let more = step (shown ++ first.extra) first.frames in
@@ -65,7 +65,7 @@ goes_on role limits mid new mid_parts new_parts context before between after cam
     subst (λ (bs : List ℕ). ShowsMore role limits new new_parts context before after bs shown) joined
     (let both : ShowsMore role limits new new_parts context before after ((came ++ take at chunk) ++ take n share) shown = record {
       extra = first.extra ++ more.extra;
-      has = subst (HasShown context.style.detail role limits new new_parts ((came ++ take at chunk) ++ take n share)) all more.has;
+      has = subst (HasShown context.style role limits new new_parts ((came ++ take at chunk) ++ take n share)) all more.has;
       printed = subst (Prints context before after) (sym (items_in-append first.extra more.extra)) (prints_both context before between after (items_in first.extra) (items_in more.extra) first.printed more.printed);
     } in both)
 
@@ -79,8 +79,8 @@ with_first parts first = record parts { rest = first }
 abbrev pub AddsTo : FirstBytes → FirstBytes → List ℕ → Type 0
 AddsTo old new more = (all : List ℕ) → length all + length more < 2 ^ 64 → HasFirst old all → HasFirst new (all ++ more)
 
-module _ (detail : Detail) (role : Role) (limits : Limits) (scan : Scan) (parts : StreamParts) (first : FirstBytes) (came more : List ℕ) (shown : List Shown) (adds : AddsTo parts.rest first more) (small : length came + length more < 2 ^ 64) where
-  pub refused_longer : HasShownRefusal detail role limits scan parts came shown → HasShownRefusal detail role limits scan (with_first parts first) (came ++ more) shown
+module _ (style : Style) (role : Role) (limits : Limits) (scan : Scan) (parts : StreamParts) (first : FirstBytes) (came more : List ℕ) (shown : List Shown) (adds : AddsTo parts.rest first more) (small : length came + length more < 2 ^ 64) where
+  pub refused_longer : HasShownRefusal style.detail role limits scan parts came shown → HasShownRefusal style.detail role limits scan (with_first parts first) (came ++ more) shown
   refused_longer r =
       let size : length came ≡ length r.read + length r.unread = ap (λ (bs : List ℕ). length bs) r.whole ∙ length-append r.read r.unread in
       record {
@@ -102,11 +102,11 @@ module _ (detail : Detail) (role : Role) (limits : Limits) (scan : Scan) (parts 
         is = r.is;
       }
 
-  same_shown : more ≡ [] → HasShownFrames detail role limits scan parts came shown → HasShown detail role limits scan (with_first parts first) (came ++ more) shown
+  same_shown : more ≡ [] → HasShownFrames style role limits scan parts came shown → HasShown style role limits scan (with_first parts first) (came ++ more) shown
   same_shown none frames =
       let own = frames.keeps.frame in
       let held = rest_at frames.at frames.rest in
-      let there : HasShownFrames detail role limits scan (with_first parts first) came shown = record {
+      let there : HasShownFrames style role limits scan (with_first parts first) came shown = record {
         done = frames.done;
         at = frames.at;
         rest = frames.rest;
@@ -124,7 +124,7 @@ module _ (detail : Detail) (role : Role) (limits : Limits) (scan : Scan) (parts 
         };
         is = frames.is;
       } in
-      subst (λ (bs : List ℕ). HasShown detail role limits scan (with_first parts first) bs shown) (sym (ap (λ (bs : List ℕ). came ++ bs) none ∙ append-nil came)) (inl there)
+      subst (λ (bs : List ℕ). HasShown style role limits scan (with_first parts first) bs shown) (sym (ap (λ (bs : List ℕ). came ++ bs) none ∙ append-nil came)) (inl there)
     where
       few_held : (p : Position) → length (rest_at p frames.rest) + length more < 2 ^ 64
       few_held BetweenFrames =
@@ -133,17 +133,17 @@ module _ (detail : Detail) (role : Role) (limits : Limits) (scan : Scan) (parts 
           omega (arith, size, most, small, ap (λ (bs : List ℕ). length bs) none)
       few_held (InFrame info payload) = omega (arith, small)
 
-  pub all_longer : (refusal_in scan ≡ None → more ≡ []) → HasShown detail role limits scan parts came shown → HasShown detail role limits scan (with_first parts first) (came ++ more) shown
+  pub all_longer : (refusal_in scan ≡ None → more ≡ []) → HasShown style role limits scan parts came shown → HasShown style role limits scan (with_first parts first) (came ++ more) shown
   all_longer none (inl frames) = same_shown (none frames.followed.unrefused) frames
   all_longer none (inr refusal) = inr (refused_longer refusal)
 
 -- After a refusal nothing is shown of more bytes.
 pub shows_none : (role : Role) (limits : Limits) (scan : Scan) (parts : StreamParts) (first : FirstBytes) (context : EntryContext) (old : Outgoing) (came more : List ℕ) (shown : List Shown) (refusal : Refusal) → AddsTo parts.rest first more
-    → length came + length more < 2 ^ 64 → refusal_in scan ≡ Some refusal → HasShown context.style.detail role limits scan parts came shown → ShowsMore role limits scan (with_first parts first) context old old (came ++ more) shown
+    → length came + length more < 2 ^ 64 → refusal_in scan ≡ Some refusal → HasShown context.style role limits scan parts came shown → ShowsMore role limits scan (with_first parts first) context old old (came ++ more) shown
 shows_none role limits scan parts first context old came more shown refusal adds small is has = record {
   extra = [];
-  has = subst (HasShown context.style.detail role limits scan (with_first parts first) (came ++ more)) (sym (append-nil shown))
-      (all_longer context.style.detail role limits scan parts first came more shown adds small (λ none. let both : Some refusal ≡ None = sym is ∙ none in cc) has);
+  has = subst (HasShown context.style role limits scan (with_first parts first) (came ++ more)) (sym (append-nil shown))
+      (all_longer context.style role limits scan parts first came more shown adds small (λ none. let both : Some refusal ≡ None = sym is ∙ none in cc) has);
   printed = prints_nothing context old;
 }
 
@@ -158,11 +158,11 @@ shows_rest role limits scan parts first context old new came chunk left read sho
     let few : length (came ++ take read chunk) + length left < 2 ^ 64 = omega (arith, size, length-take-le read chunk within, ap (λ (bs : List ℕ). length bs) is, length-drop read chunk, small, within) in
     record {
       extra = s.extra;
-      has = subst (λ (bs : List ℕ). HasShown context.style.detail role limits scan (with_first parts first) bs (shown ++ s.extra)) whole
-          (all_longer context.style.detail role limits scan parts first (came ++ take read chunk) left (shown ++ s.extra) adds few none s.has);
+      has = subst (λ (bs : List ℕ). HasShown context.style role limits scan (with_first parts first) bs (shown ++ s.extra)) whole
+          (all_longer context.style role limits scan parts first (came ++ take read chunk) left (shown ++ s.extra) adds few none s.has);
       printed = s.printed;
     }
 
-pub frames_of : (detail : Detail) (role : Role) (limits : Limits) (scan : Scan) (parts : StreamParts) (came : List ℕ) (shown : List Shown) → refusal_in scan ≡ None → HasShown detail role limits scan parts came shown → HasShownFrames detail role limits scan parts came shown
-frames_of detail role limits scan parts came shown none (inl frames) = frames
-frames_of detail role limits scan parts came shown none (inr refusal) = let both : Some refusal.refusal ≡ None = sym refusal.reported ∙ none in absurd cc
+pub frames_of : (style : Style) (role : Role) (limits : Limits) (scan : Scan) (parts : StreamParts) (came : List ℕ) (shown : List Shown) → refusal_in scan ≡ None → HasShown style role limits scan parts came shown → HasShownFrames style role limits scan parts came shown
+frames_of style role limits scan parts came shown none (inl frames) = frames
+frames_of style role limits scan parts came shown none (inr refusal) = let both : Some refusal.refusal ≡ None = sym refusal.reported ∙ none in absurd cc

@@ -46,7 +46,7 @@ use Rattle.wsn_scan.proofs.FollowedScans.{wire_payload_is, few, few_open, rest_f
 use Rattle.wsn_show.proofs.FramesSoFar.{items_after, are_so_far}
 
 module _ (role : Role) (limits : Limits) (old new : Scan) (chunk after : List ℕ) (n : ℕ) (part : Part) (came : List ℕ) (shown : List Shown) (parts parts_after : StreamParts) (context : EntryContext) (out out_after : Outgoing)
-    (frames : HasShownFrames context.style.detail role limits old parts came shown) where
+    (frames : HasShownFrames context.style role limits old parts came shown) where
   abbrev share : List ℕ
   share = take n chunk
 
@@ -65,35 +65,35 @@ module _ (role : Role) (limits : Limits) (old new : Scan) (chunk after : List �
     all = reached role limits old new chunk after n found part came done frames.at frames.rest frames.followed call
 
     quiet : (found ≡ taken.Refused → ⊥) → all.0.frames ≡ done → all.0.position ≡ frames.at → 0 < n
-        → ((rest : List ℕ) → length rest + n < 2 ^ 64 → KeepsStream parts done BetweenFrames rest → KeepsStream parts_after done BetweenFrames (rest ++ share)) → ShowsMore role limits new parts_after context out out (came ++ share) shown
+        → ((rest : List ℕ) → length rest + n < 2 ^ 64 → KeepsStream context.style.view parts done BetweenFrames rest → KeepsStream context.style.view parts_after done BetweenFrames (rest ++ share)) → ShowsMore role limits new parts_after context out out (came ++ share) shown
     quiet other same there some adds =
         let g = same_follows role limits old new chunk after n found part came done frames.at frames.rest frames.followed call same there other in
         let between = is_between role limits old new chunk after n found part came done frames.at frames.rest frames.followed call same there other some in
         let small = few_more role limits old new chunk after n found part came done frames.at frames.rest frames.followed call in
-        let keeps = adds frames.rest small (subst (λ (p : Position). KeepsStream parts done p frames.rest) between frames.keeps) in
-        let now : HasShownFrames detail role limits new parts_after (came ++ share) shown = record {
+        let keeps = adds frames.rest small (subst (λ (p : Position). KeepsStream context.style.view parts done p frames.rest) between frames.keeps) in
+        let now : HasShownFrames context.style role limits new parts_after (came ++ share) shown = record {
           done = done;
           at = frames.at;
           rest = longer;
           followed = g;
-          keeps = subst (λ (p : Position). KeepsStream parts_after done p longer) (sym between) keeps;
+          keeps = subst (λ (p : Position). KeepsStream context.style.view parts_after done p longer) (sym between) keeps;
           is = frames.is;
         } in
         record {
           extra = [];
-          has = inl (subst (HasShownFrames detail role limits new parts_after (came ++ share)) (sym (append-nil shown)) now);
+          has = inl (subst (HasShownFrames context.style role limits new parts_after (came ++ share)) (sym (append-nil shown)) now);
           printed = prints_nothing context out;
         }
 
   pub more_step : IsCall old new chunk after n taken.More part → 0 < length chunk
-      → ((rest : List ℕ) → length rest + n < 2 ^ 64 → KeepsStream parts done BetweenFrames rest → KeepsStream parts_after done BetweenFrames (rest ++ share)) → ShowsMore role limits new parts_after context out out (came ++ share) shown
+      → ((rest : List ℕ) → length rest + n < 2 ^ 64 → KeepsStream context.style.view parts done BetweenFrames rest → KeepsStream context.style.view parts_after done BetweenFrames (rest ++ share)) → ShowsMore role limits new parts_after context out out (came ++ share) shown
   more_step call some adds =
       let r = reached role limits old new chunk after n taken.More part came done frames.at frames.rest frames.followed call in
       let size = r.1 in
       quiet taken.More call (λ same. cc) r.0.found.0 r.0.found.1 (omega (arith, size, some)) adds
 
   pub closed_step : IsCall old new chunk after n taken.Closed part → 0 < length chunk
-      → ((rest : List ℕ) → length rest + n < 2 ^ 64 → KeepsStream parts done BetweenFrames rest → KeepsStream parts_after done BetweenFrames (rest ++ share)) → ShowsMore role limits new parts_after context out out (came ++ share) shown
+      → ((rest : List ℕ) → length rest + n < 2 ^ 64 → KeepsStream context.style.view parts done BetweenFrames rest → KeepsStream context.style.view parts_after done BetweenFrames (rest ++ share)) → ShowsMore role limits new parts_after context out out (came ++ share) shown
   closed_step call some adds =
       let r = reached role limits old new chunk after n taken.Closed part came done frames.at frames.rest frames.followed call in
       let size = r.1 in
@@ -103,12 +103,12 @@ module _ (role : Role) (limits : Limits) (old new : Scan) (chunk after : List �
 
   pub part_step : IsCall old new chunk after n taken.Part part
       → ((ended : List Frame) (to : Position) (before since : List ℕ) → IsPartAt frames.at part before → IsTaken role limits done frames.rest before part (take (length (take n after) - part.start) (drop part.start (take n after))) share ended to since
-      → KeepsStream parts done frames.at frames.rest → ShowsPart done frames.at ended to since parts_after context out out_after)
+      → KeepsStream context.style.view parts done frames.at frames.rest → ShowsPart done frames.at ended to since parts_after context out out_after)
       → ShowsMore role limits new parts_after context out out_after (came ++ share) shown
   part_step call takes =
       let r = reach role limits old new chunk after n part came done frames.at frames.rest frames.followed call in
       let s = takes r.frames r.position r.found.before r.since r.found.is_at (part_taken role limits old new chunk after n part came done frames.at frames.rest frames.followed call) frames.keeps in
-      let now : HasShownFrames detail role limits new parts_after (came ++ share) (shown ++ s.extra) = record {
+      let now : HasShownFrames context.style role limits new parts_after (came ++ share) (shown ++ s.extra) = record {
         done = r.frames;
         at = r.position;
         rest = r.since;

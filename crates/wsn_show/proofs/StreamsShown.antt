@@ -40,6 +40,7 @@ use Rattle.wsn_scan.specs.Positions.{Position, BetweenFrames, InFrame}
 use Rattle.wsn_scan.specs.Scans.{HasScanned, refusal_in, refusal_judged}
 use Rattle.wsn_scan.proofs.FrameEnds.{close_of-push, unfinished_few}
 use Rattle.wsn_rules.proofs.HeadsGoOn.{begins_two}
+use Rattle.wsn_print.specs.declared.style.Style.{Style}
 use Rattle.wsn_show.specs.declared.stream_parts.StreamParts.{StreamParts}
 use Rattle.wsn_show.specs.HeldParts.{HasFirst}
 use Rattle.wsn_show.specs.StreamParts.{HasKind, IsSoundPart, rest_at, items_left}
@@ -108,10 +109,13 @@ begun_kind role limits fs rest info payload lawful b other = by (unfinished fs) 
         let kind = (group_of_lawful role limits fs lawful).kind (λ none. let both : g ∷ group ≡ [] = sym some ∙ none in cc) in
         subst (λ (gs : List Frame). HasKind (first_op (gs ++ frame_so_far info payload ∷ []))) (sym some) (subst (λ (gs : List Frame). HasKind (first_op gs)) some kind)
 
-module _ (detail : Detail) (role : Role) (limits : Limits) (scan : Scan) (parts : StreamParts) (came : List ℕ) (shown : List Shown) where
+module _ (style : Style) (role : Role) (limits : Limits) (scan : Scan) (parts : StreamParts) (came : List ℕ) (shown : List Shown) where
+  abbrev detail : Detail
+  detail = style.detail
+
   -- ---- all that is shown
 
-  module _ (frames : HasShownFrames detail role limits scan parts came shown) where
+  module _ (frames : HasShownFrames style role limits scan parts came shown) where
     abbrev done : List Frame
     done = frames.done
 
@@ -164,7 +168,7 @@ module _ (detail : Detail) (role : Role) (limits : Limits) (scan : Scan) (parts 
         all = r.is;
       }
 
-  pub all_shown : HasShown detail role limits scan parts came shown → IsShownStream detail role limits came shown
+  pub all_shown : HasShown style role limits scan parts came shown → IsShownStream detail role limits came shown
   all_shown (inl frames) = frames_shown frames
   all_shown (inr refusal) = refusal_shown refusal
 
@@ -176,7 +180,7 @@ module _ (detail : Detail) (role : Role) (limits : Limits) (scan : Scan) (parts 
   verdict_on read unread fs (Refused own) refusal is judged = stays_refused role limits fs read unread own.offset own.reason judged
 
   pub judged : (verdict : Verdict) → ((bytes rest : List ℕ) (fs : List Frame) (at : Position) → HasScanned role limits scan bytes fs rest at → IsVerdict role limits bytes fs verdict) → refusal_judged verdict ≡ refusal_in scan
-      → HasShown detail role limits scan parts came shown → (fs : List Frame) × IsVerdict role limits came fs verdict
+      → HasShown style role limits scan parts came shown → (fs : List Frame) × IsVerdict role limits came fs verdict
   judged verdict judges reported (inl frames) = let h = frames.followed in (frames.done, judges came frames.rest frames.done frames.at h.has_scanned)
   judged verdict judges reported (inr r) =
       let s = r.scanned in (
@@ -193,7 +197,7 @@ module _ (detail : Detail) (role : Role) (limits : Limits) (scan : Scan) (parts 
     pub small : offset + 1 < 2 ^ 64
     pub left_over : IsLeftOver role limits came (items_of_bytes Unread (offset + 1) unread)
 
-  pub leaves_unread : (refusal : Refusal) → refusal_in scan ≡ Some refusal → HasShown detail role limits scan parts came shown → LeavesUnread refusal.offset
+  pub leaves_unread : (refusal : Refusal) → refusal_in scan ≡ Some refusal → HasShown style role limits scan parts came shown → LeavesUnread refusal.offset
   leaves_unread refusal is (inl frames) = let both : Some refusal ≡ None = sym is ∙ frames.followed.unrefused in absurd cc
   leaves_unread refusal is (inr r) =
       let same : r.refusal ≡ refusal = let both : Some r.refusal ≡ Some refusal = sym r.reported ∙ is in cc in
@@ -214,7 +218,7 @@ module _ (detail : Detail) (role : Role) (limits : Limits) (scan : Scan) (parts 
 
   -- ---- the tail, or what isn't complete
 
-  module _ (frames : HasShownFrames detail role limits scan parts came shown) where
+  module _ (frames : HasShownFrames style role limits scan parts came shown) where
     abbrev fs : List Frame
     fs = frames.done
 

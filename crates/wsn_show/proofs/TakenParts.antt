@@ -1,7 +1,6 @@
 -- What a part of a frame prints, what is kept after it, and what it adds to what was shown.
-use Rattle.std.proofs.Common.{◌≡◌, ℕ, ◌+◌, ◌≤◌, ◌<◌, ◌^◌, true, false, not, List, [], ◌∷◌, ◌++◌, length, take, inl, inr, refl, sym, ap, ◌∙◌, subst, append_assoc, append-nil, arith, length-append}
+use Rattle.std.proofs.Common.{◌≡◌, ℕ, ◌+◌, ◌<◌, ◌^◌, true, false, not, List, [], ◌∷◌, ◌++◌, length, inl, inr, refl, sym, ap, ◌∙◌, subst, append_assoc, append-nil, arith, length-append}
 use Rattle.std.proofs.lemmas.Bool.{cases_Bool, cond-true, cond-false}
-use Rattle.std.proofs.lemmas.List.{take_all}
 use Rattle.wsn_io.specs.Transfer.{Outgoing}
 use Rattle.wsn_wire.specs.declared.endpoint.Role.{Role}
 use Rattle.wsn_wire.specs.Frame.{Frame, is_control, stream}
@@ -17,7 +16,7 @@ use Rattle.wsn_rules.proofs.MessageText.{text_of_push}
 use Rattle.wsn_rules.proofs.OpenOffsets.{offset_of_none, none_open}
 use Rattle.wsn_rules.proofs.Prefixes.{append_cancel}
 use Rattle.wsn_print.specs.declared.shown.ShownEvent.{ShownEvent}
-use Rattle.wsn_print.proofs.HeldParts.{first_held}
+use Rattle.wsn_print.proofs.HeldParts.{whole_held}
 use Rattle.wsn_scan.specs.declared.part.Part.{Part}
 use Rattle.wsn_scan.specs.Positions.{Position, BetweenFrames, InFrame}
 use Rattle.wsn_show.specs.declared.entry_context.EntryContext.{EntryContext}
@@ -29,7 +28,7 @@ use Rattle.wsn_show.specs.StreamParts.{KeepsMessage, KeepsStream}
 use Rattle.wsn_scan.specs.FollowedScans.{IsTaken}
 use Rattle.wsn_show.specs.TakenParts.{IsAlone, ShowsPart}
 use Rattle.wsn_show.proofs.FramesSoFar.{items_in-append, shown_begun, shown_ended, begun_items, ended_items, unended_items, same_so_far, begun_so_far, ended_so_far}
-use Rattle.wsn_show.proofs.HeldItems.{represents_message, represents_control, kind_of_data, control_short}
+use Rattle.wsn_show.proofs.HeldItems.{represents_message, represents_control, kind_of_data}
 use Rattle.wsn_show.proofs.OpenMessages.{kept_after_control, kept_after_whole}
 use Rattle.wsn_show.proofs.PrintedItems.{prints_nothing, prints_both}
 use Rattle.wsn_show.proofs.PrintedParts.{control_event, message_event}
@@ -58,34 +57,33 @@ module _ (role : Role) (limits : Limits) (fs : List Frame) (f : Frame) (head : H
   alone_final message (inl control) = ((law_at_split role limits fs f [] w.lawful).frame.encoded.control (ap is_control op_is ∙ control)).final
   alone_final message (inr (final, none)) = fin_is ∙ final
 
-  alone_none : (message : MessageSoFar) → IsAlone message head → KeepsMessage message fs [] → is_control f.op ≡ false → unfinished fs ≡ []
-  alone_none message (inl control) kept other = let both : true ≡ false = sym (ap is_control op_is ∙ control) ∙ other in absurd cc
-  alone_none message (inr (final, none)) kept other = none_open fs message.frames kept.frames none
+  alone_none : (n : ℕ) (message : MessageSoFar) → IsAlone message head → KeepsMessage n message fs [] → is_control f.op ≡ false → unfinished fs ≡ []
+  alone_none n message (inl control) kept other = let both : true ≡ false = sym (ap is_control op_is ∙ control) ∙ other in absurd cc
+  alone_none n message (inr (final, none)) kept other = none_open fs message.frames kept.frames none
 
   -- It leaves no message open, or that which was.
-  pub alone_kept : (message : MessageSoFar) → IsAlone message head → KeepsMessage message fs [] → KeepsMessage message (fs ++ f ∷ []) []
-  alone_kept message alone kept =
+  pub alone_kept : (n : ℕ) (message : MessageSoFar) → IsAlone message head → KeepsMessage n message fs [] → KeepsMessage n message (fs ++ f ∷ []) []
+  alone_kept n message alone kept =
       elim (cases_Bool (is_control f.op)) [
-        | inl control ↦ kept_after_control message fs f (ap not control) kept
-        | inr other ↦ kept_after_whole message fs f (ap not other) (alone_final message alone) (alone_none message alone kept other) kept
+        | inl control ↦ kept_after_control n message fs f (ap not control) kept
+        | inr other ↦ kept_after_whole n message fs f (ap not other) (alone_final message alone) (alone_none n message alone kept other) kept
       ]
 
   -- The event that it is, which this represents.
-  pub alone_event : (message : MessageSoFar) → IsAlone message head → KeepsMessage message fs [] → (n : ℕ) (shown : ShownEvent) → n ≤ 4096 → shown.op ≡ head.op → shown.bytes ≡ length payload → shown.held.now ≡ take 4096 payload → shown.frames ≡ 1
+  pub alone_event : (n : ℕ) (message : MessageSoFar) → IsAlone message head → KeepsMessage n message fs [] → (shown : ShownEvent) → shown.op ≡ head.op → shown.bytes ≡ length payload → shown.held.now ≡ payload → shown.frames ≡ 1
       → IsEventOf n fs f head.offset shown
-  alone_event message alone kept n shown few op bytes held frames =
+  alone_event n message alone kept shown op bytes held frames =
       elim (cases_Bool (is_control f.op)) [
         | inl control ↦
-            let short = control_short role limits fs f w.lawful control in
-            let represents = represents_control n shown f.op f.payload control own_op size (own_held ∙ take_all 4096 f.payload (omega (arith, short))) in
+            let represents = represents_control n shown f.op f.payload control own_op size own_held in
             control_event role limits fs f w.lawful n head.offset shown control own_op represents frames offset_is
         | inr other ↦
-            let none = alone_none message alone kept other in
+            let none = alone_none n message alone kept other in
             let group = unfinished fs ++ f ∷ [] in
             let payload_is : payload_of group ≡ f.payload = text_of_push (unfinished fs) f ∙ ap (λ (gs : List Frame). payload_of gs ++ f.payload) none in
             let begins : shown.op ≡ first_op group = own_op ∙ sym (ap (λ (gs : List Frame). first_op (gs ++ f ∷ [])) none) in
             let represents = represents_message n shown group (payload_of group) (kind_of_data role limits fs f w.lawful other) begins (size ∙ ap (λ (bs : List ℕ). length bs) (sym payload_is))
-            (first_held n (payload_of group) shown.held.now few (own_held ∙ ap (λ (bs : List ℕ). take 4096 bs) (sym payload_is))) in
+            (whole_held n (payload_of group) shown.held.now (own_held ∙ sym payload_is)) in
             message_event role limits fs f w.lawful n head.offset shown other begins represents (frames ∙ sym (ap (λ (gs : List Frame). length (gs ++ f ∷ [])) none)) (offset_is ∙ sym (offset_of_none fs none))
       ]
     where
@@ -95,8 +93,8 @@ module _ (role : Role) (limits : Limits) (fs : List Frame) (f : Frame) (head : H
       size : shown.bytes ≡ length f.payload
       size = bytes ∙ ap (λ (bs : List ℕ). length bs) w.payload_is
 
-      own_held : shown.held.now ≡ take 4096 f.payload
-      own_held = held ∙ ap (λ (bs : List ℕ). take 4096 bs) w.payload_is
+      own_held : shown.held.now ≡ f.payload
+      own_held = held ∙ w.payload_is
 
 pub end_is : (detail : Detail) (fs : List Frame) (f : Frame) → f.fin ≡ true → items_of_end detail fs f ≡ items_of_ended detail fs f
 end_is detail fs f final = cond-true f.fin (items_of_ended detail fs f) [] final
@@ -132,7 +130,7 @@ module _ (role : Role) (limits : Limits) (fs : List Frame) (rest before : List �
     pub position_is : InFrame part.head (before ++ payload) ≡ InFrame (info_of (length (stream fs)) frame) frame.payload
     pub size : length (stream (fs ++ frame ∷ [])) ≡ length (stream fs) + (length rest + length share)
     pub small : length (stream (fs ++ frame ∷ [])) < 2 ^ 64
-    pub shows : (parts : StreamParts) (context : EntryContext) (old new : Outgoing) → KeepsStream parts (fs ++ frame ∷ []) BetweenFrames [] → Prints context old new (items_of_end context.style.detail fs frame)
+    pub shows : (parts : StreamParts) (context : EntryContext) (old new : Outgoing) → KeepsStream context.style.view parts (fs ++ frame ∷ []) BetweenFrames [] → Prints context old new (items_of_end context.style.detail fs frame)
         → ShowsPart fs at frames position since parts context old new
 
   pub ends : part.ends ≡ true → Ends
@@ -159,13 +157,13 @@ module _ (role : Role) (limits : Limits) (fs : List Frame) (rest before : List �
                   ap (λ (ss : List Shown). ss ++ shown_ended detail fs f) (same_so_far detail fs at (InFrame (info_of (length (stream fs)) f) f.payload) (ap (λ (h : HeadInfo). h ∷ []) g.1))
                   ∙ ended_so_far detail fs f ∙ (λ i. shown_so_far detail (sym frames_is i) (sym g.4 i));
               printed = subst (Prints context old new) (sym (end_items detail fs f)) printed;
-              keeps = subst (λ (bs : List ℕ). KeepsStream parts frames position bs) (sym none)
-                  (subst (λ (p : Position). KeepsStream parts frames p []) (sym g.4) (subst (λ (gs : List Frame). KeepsStream parts gs BetweenFrames []) (sym frames_is) keeps));
+              keeps = subst (λ (bs : List ℕ). KeepsStream context.style.view parts frames position bs) (sym none)
+                  (subst (λ (p : Position). KeepsStream context.style.view parts frames p []) (sym g.4) (subst (λ (gs : List Frame). KeepsStream context.style.view parts gs BetweenFrames []) (sym frames_is) keeps));
             };
       }
 
   -- It doesn't.
-  pub within : part.ends ≡ false → (parts : StreamParts) (context : EntryContext) (out : Outgoing) → KeepsStream parts fs (InFrame part.head (before ++ payload)) (rest ++ share)
+  pub within : part.ends ≡ false → (parts : StreamParts) (context : EntryContext) (out : Outgoing) → KeepsStream context.style.view parts fs (InFrame part.head (before ++ payload)) (rest ++ share)
       → ShowsPart fs at frames position since parts context out out
   within is parts context out keeps =
       let g = t.goes_on.within is in
@@ -175,8 +173,8 @@ module _ (role : Role) (limits : Limits) (fs : List Frame) (rest before : List �
         extra = [];
         is = append-nil (shown_so_far detail fs at) ∙ same_so_far detail fs at (InFrame part.head (before ++ payload)) refl ∙ (λ i. shown_so_far detail (sym g.0 i) (sym g.1 i));
         printed = prints_nothing context out;
-        keeps = subst (λ (bs : List ℕ). KeepsStream parts frames position bs) (sym since_is)
-            (subst (λ (p : Position). KeepsStream parts frames p (rest ++ share)) (sym g.1) (subst (λ (gs : List Frame). KeepsStream parts gs (InFrame part.head (before ++ payload)) (rest ++ share)) (sym g.0) keeps));
+        keeps = subst (λ (bs : List ℕ). KeepsStream context.style.view parts frames position bs) (sym since_is)
+            (subst (λ (p : Position). KeepsStream context.style.view parts frames p (rest ++ share)) (sym g.1) (subst (λ (gs : List Frame). KeepsStream context.style.view parts gs (InFrame part.head (before ++ payload)) (rest ++ share)) (sym g.0) keeps));
       }
 
 -- The head is shown first.

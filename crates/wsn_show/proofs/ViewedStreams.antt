@@ -21,16 +21,16 @@ use Rattle.wsn_show.proofs.StreamsShown.{all_shown}
 
 module _ (role : Role) (limits : Limits) (style : Style) (viewed : Viewed) (came : List ℕ) (has : HasViewed role limits style viewed came) where
   -- The same in the view's own style.
-  pub own_shown : HasShown viewed.style.detail role limits viewed.scan viewed.parts came has.shown
-  own_shown = subst (λ (s : Style). HasShown s.detail role limits viewed.scan viewed.parts came has.shown) (sym has.in_style) has.has
+  pub own_shown : HasShown viewed.style role limits viewed.scan viewed.parts came has.shown
+  own_shown = subst (λ (s : Style). HasShown s role limits viewed.scan viewed.parts came has.shown) (sym has.in_style) has.has
 
-  pub own_showing : refusal_in viewed.scan ≡ None → IsShowing viewed.style.detail viewed.scan viewed.parts
+  pub own_showing : refusal_in viewed.scan ≡ None → IsShowing viewed.style viewed.scan viewed.parts
   own_showing none = record {
     role = role;
     limits = limits;
     came = came;
     shown = has.shown;
-    frames = frames_of viewed.style.detail role limits viewed.scan viewed.parts came has.shown none own_shown;
+    frames = frames_of viewed.style role limits viewed.scan viewed.parts came has.shown none own_shown;
   }
 
   -- The lines were written with the view's own role and style.
@@ -54,8 +54,8 @@ module _ (role : Role) (limits : Limits) (style : Style) (viewed : Viewed) (came
     small = let room = has.room in let input = has.in_range.input in omega (arith, room, input, fits)
 
     module _ (scan : Scan) (parts : StreamParts) (context : EntryContext) (own_style : context.style ≡ viewed.style) (old new : Outgoing) (s : ShowsMore role limits scan parts context old new (came ++ bytes) has.shown) where
-      in_style : HasShown style.detail role limits scan parts (came ++ bytes) (has.shown ++ s.extra)
-      in_style = subst (λ (t : Style). HasShown t.detail role limits scan parts (came ++ bytes) (has.shown ++ s.extra)) (own_style ∙ has.in_style) s.has
+      in_style : HasShown style role limits scan parts (came ++ bytes) (has.shown ++ s.extra)
+      in_style = subst (λ (t : Style). HasShown t role limits scan parts (came ++ bytes) (has.shown ++ s.extra)) (own_style ∙ has.in_style) s.has
 
       pub viewed_more : HasViewed role limits style (record viewed { room = viewed.room - length bytes; scan = scan; parts = parts }) (came ++ bytes)
       viewed_more = record {
@@ -72,8 +72,8 @@ module _ (role : Role) (limits : Limits) (style : Style) (viewed : Viewed) (came
           → (shown : List Shown) × IsShownStream style.detail role limits (came ++ bytes) shown × IsWrittenUpToFailure old new (styled_items style role (position_in context) (beyond (length came) shown))
       shows_more own_role unfailed =
           let longer = has.shown ++ s.extra in
-          let before = all_shown style.detail role limits viewed.scan viewed.parts came has.shown has.has in
-          let now = all_shown style.detail role limits scan parts (came ++ bytes) longer in_style in
+          let before = all_shown style role limits viewed.scan viewed.parts came has.shown has.has in
+          let now = all_shown style role limits scan parts (came ++ bytes) longer in_style in
           let on = shown_goes_on role limits style.detail came bytes has.shown longer before now in
           let same : s.extra ≡ on.0 = append_cancel has.shown s.extra on.0 on.1 in
           let items : items_in s.extra ≡ beyond (length came) longer = ap items_in same ∙ sym on.4 in (

@@ -1,5 +1,6 @@
 -- Definitions of what `show` does: first of one stream, then of a capture.
 pub mod Styles
+pub mod PayloadsSoFar
 pub mod HeldParts
 pub mod LastPayloads
 pub mod StreamParts

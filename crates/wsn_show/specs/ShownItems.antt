@@ -1,5 +1,5 @@
 -- What it means that items were printed.
-use Rattle.std.specs.Prelude.{◌≡◌, ℕ, List, [], ◌∷◌, if◌then◌else◌}
+use Rattle.std.specs.Prelude.{◌≡◌, ℕ, min, List, [], ◌∷◌, if◌then◌else◌}
 use Rattle.wsn_io.specs.Transfer.{Outgoing}
 use Rattle.wsn_wire.specs.Frame.{Frame}
 use Rattle.wsn_rules.specs.declared.detail.Detail.{Detail, TheVariants.{Events, Frames}}
@@ -10,6 +10,8 @@ use Rattle.wsn_rules.specs.ShownStream.{Item, event_offset, event_frames, items_
 use Rattle.wsn_rules.specs.ShownStream.Item.{Head}
 use Rattle.wsn_print.specs.declared.shown.ShownEvent.{ShownEvent}
 use Rattle.wsn_print.specs.ShownParts.{EntryPosition, position_of, Represents, HasText}
+use Rattle.wsn_shown_text.specs.declared.items.ShownItem.{ShownItem}
+use Rattle.wsn_shown_text.specs.declared.items.ShownItem.TheVariants as shown
 use Rattle.wsn_show.specs.Styles.{styled_items}
 use Rattle.wsn_show.specs.declared.entry_context.EntryContext.{EntryContext}
 use Rattle.wsn_list.specs.Listing.{PrintsMore}
@@ -17,6 +19,12 @@ use Rattle.wsn_list.specs.Listing.{PrintsMore}
 -- Where each entry is.
 abbrev pub position_in : EntryContext → EntryPosition
 position_in context = position_of context.origin
+
+-- With views of n bytes, the view of an item that is held.
+abbrev pub held_view : ℕ → ShownItem → ℕ
+held_view n (shown.Refused refusal evidence character) = min n 4096
+held_view n (shown.Remainder which bytes) = min n 4096
+held_view n item = n
 
 -- These items were printed after what was printed before, up to a failed write.
 abbrev pub Prints : EntryContext → Outgoing → Outgoing → List Item → Type 0

@@ -33,14 +33,14 @@ shown_so_far Events done at = shown_of [] done
 shown_so_far Frames done at = map shown_head (heads_of done ++ begun_at at)
 
 -- The bytes that came aren't refused, and this was shown of what was taken of their frames.
-pub record HasShownFrames (detail : Detail) (role : Role) (limits : Limits) (scan : Scan) (parts : StreamParts)
+pub record HasShownFrames (style : Style) (role : Role) (limits : Limits) (scan : Scan) (parts : StreamParts)
     (came : List ℕ) (shown : List Shown) : Type 0 where
   pub done : List Frame
   pub at : Position
   pub rest : List ℕ
   pub followed : HasFollowed role limits scan came done at rest
-  pub keeps : KeepsStream parts done at rest
-  pub is : shown ≡ shown_so_far detail done at
+  pub keeps : KeepsStream style.view parts done at rest
+  pub is : shown ≡ shown_so_far style.detail done at
 
 -- The bytes up to `read` are refused at the last one, whatever follows; this was shown of them and the refusal. The
 -- bytes `unread` came after them.
@@ -64,30 +64,31 @@ pub record HasShownRefusal (detail : Detail) (role : Role) (limits : Limits) (sc
   pub is : shown ≡ of_frames ++ of_refusal
 
 -- This was shown of the bytes that came.
-abbrev pub HasShown : Detail → Role → Limits → Scan → StreamParts → List ℕ → List Shown → Type 0
-HasShown detail role limits scan parts came shown =
-    HasShownFrames detail role limits scan parts came shown ⊎ HasShownRefusal detail role limits scan parts came shown
+abbrev pub HasShown : Style → Role → Limits → Scan → StreamParts → List ℕ → List Shown → Type 0
+HasShown style role limits scan parts came shown =
+    HasShownFrames style role limits scan parts came shown
+    ⊎ HasShownRefusal style.detail role limits scan parts came shown
 
 -- More bytes came, and more items were shown and printed.
 pub record ShowsMore (role : Role) (limits : Limits) (scan : Scan) (parts : StreamParts) (context : EntryContext)
     (old new : Outgoing) (came : List ℕ) (shown : List Shown) : Type 0 where
   pub extra : List Shown
-  pub has : HasShown context.style.detail role limits scan parts came (shown ++ extra)
+  pub has : HasShown context.style role limits scan parts came (shown ++ extra)
   pub printed : Prints context old new (items_in extra)
 
 -- The scan has consumed some bytes, or none, and hasn't refused them.
-pub record IsShowing (detail : Detail) (scan : Scan) (parts : StreamParts) : Type 0 where
+pub record IsShowing (style : Style) (scan : Scan) (parts : StreamParts) : Type 0 where
   pub role : Role
   pub limits : Limits
   pub came : List ℕ
   pub shown : List Shown
-  pub frames : HasShownFrames detail role limits scan parts came shown
+  pub frames : HasShownFrames style role limits scan parts came shown
 
 -- The bytes that came aren't refused, and more items were shown, and printed.
 pub record ShowsFrames (role : Role) (limits : Limits) (scan : Scan) (parts : StreamParts) (context : EntryContext)
     (old new : Outgoing) (came : List ℕ) (shown : List Shown) : Type 0 where
   pub extra : List Shown
-  pub frames : HasShownFrames context.style.detail role limits scan parts came (shown ++ extra)
+  pub frames : HasShownFrames context.style role limits scan parts came (shown ++ extra)
   pub printed : Prints context old new (items_in extra)
 
 -- What a contract sees of a view: the endpoint, the style, the input limit, how many bytes may still come, and what was
@@ -108,7 +109,7 @@ pub record HasViewed (role : Role) (limits : Limits) (style : Style) (viewed : V
   pub input : viewed.input ≡ limits.input
   pub room : viewed.room + length came ≡ limits.input
   pub shown : List Shown
-  pub has : HasShown style.detail role limits viewed.scan viewed.parts came shown
+  pub has : HasShown style role limits viewed.scan viewed.parts came shown
 
 -- Some bytes came, or none.
 pub record IsViewing (viewed : Viewed) : Type 0 where

@@ -10,17 +10,19 @@ use Rattle.wsn_rules.specs.ShownStream.{Item, open_offset, frame_so_far, items_o
 use Rattle.wsn_scan.specs.Positions.{Position, BetweenFrames, InFrame}
 use Rattle.wsn_show.specs.declared.message_so_far.MessageSoFar.{MessageSoFar}
 use Rattle.wsn_show.specs.declared.stream_parts.StreamParts.{StreamParts}
+use Rattle.wsn_show.specs.PayloadsSoFar.{HasPayload}
 use Rattle.wsn_show.specs.HeldParts.{HasFirst, HasLast, HasEarlier}
 use Rattle.wsn_show.specs.LastPayloads.{HasLastPayload}
 
 -- ---- the open message
 
--- After the frames fs, this is kept of the open message: the number of its frames and of their payload bytes, the end of
--- these, the first bytes of their payload and of `part`, and if there is one its first frame's opcode and offset.
-pub record KeepsMessage (message : MessageSoFar) (fs : List Frame) (part : List ℕ) : Type 0 where
+-- After the frames fs, this is kept of the open message for views of n bytes: the number of its frames and of their payload
+-- bytes, the end of these, the first bytes of their payload and of `part`, and if there is one its first frame's opcode
+-- and offset.
+pub record KeepsMessage (n : ℕ) (message : MessageSoFar) (fs : List Frame) (part : List ℕ) : Type 0 where
   pub frames : message.frames ≡ length (unfinished fs)
   pub bytes : message.bytes ≡ length (payload_of (unfinished fs))
-  pub payload : HasFirst message.payload (payload_of (unfinished fs) ++ part)
+  pub payload : HasPayload n message.payload (payload_of (unfinished fs) ++ part)
   pub earlier : HasEarlier message.earlier (payload_of (unfinished fs))
   pub last : HasLastPayload message.last (open_payload fs)
   pub op : unfinished fs ≢ [] → message.op ≡ first_op (unfinished fs)
@@ -67,9 +69,10 @@ pub record KeepsFrame (parts : StreamParts) (fs : List Frame) (at : Position) (r
   pub begun : HasFirst parts.rest (rest_at at rest)
   pub last : HasLast parts.last (held_at at rest)
 
--- After the frames fs, at this position in the next frame, whose bytes so far are `rest`.
-pub record KeepsStream (parts : StreamParts) (fs : List Frame) (at : Position) (rest : List ℕ) : Type 0 where
-  pub message : KeepsMessage parts.message fs (data_part at)
+-- After the frames fs, at this position in the next frame, whose bytes so far are `rest`, this is kept for views of n
+-- bytes.
+pub record KeepsStream (n : ℕ) (parts : StreamParts) (fs : List Frame) (at : Position) (rest : List ℕ) : Type 0 where
+  pub message : KeepsMessage n parts.message fs (data_part at)
   pub joined : HasJoinedAt parts.message fs at
   pub frame : KeepsFrame parts fs at rest
 

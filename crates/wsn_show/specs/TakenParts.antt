@@ -22,4 +22,4 @@ pub record ShowsPart (fs : List Frame) (at : Position) (frames : List Frame) (po
   pub extra : List Shown
   pub is : shown_so_far context.style.detail fs at ++ extra ≡ shown_so_far context.style.detail frames position
   pub printed : Prints context old new (items_in extra)
-  pub keeps : KeepsStream parts frames position since
+  pub keeps : KeepsStream context.style.view parts frames position since

@@ -26,16 +26,16 @@ use wsn_wire::Role;
 
 /// Shows the lines of a capture one by one: prints what each completes. It keeps none of the lines.
 #[derive(Drop)]
-pub struct CaptureView {
+pub struct CaptureView<'a> {
     lines: CaptureLines,
-    client: StreamView,
-    server: StreamView,
+    client: StreamView<'a>,
+    server: StreamView<'a>,
     time: CurrentTime,
     last_times: LastTimes,
     ends: EndNotes,
 }
 
-impl CaptureView {
+impl<'a> CaptureView<'a> {
     ghost use Rattle.std.specs.Prelude.{◌≡◌, ◌≤◌, ◌+◌, ℕ, List, [], ◌∷◌, ◌++◌, length, false, OnOk, IfErr};
     ghost use Rattle.wsn_rules.specs.Limits.{Limits};
     ghost use Rattle.wsn_rules.specs.Entries.{Entry, GivesEntry, IsHex, bytes_prefix, end_mark};
@@ -48,15 +48,23 @@ impl CaptureView {
     ghost use Rattle.wsn_print.specs.declared.style.Style.{Style};
     ghost use Rattle.wsn_show.specs.CaptureViews.{HasShownLines, IsShowingLines, AreViewed, CanShow, Shows, ShowsLine, LeavesAtEnd, SaysWhoEnded, Finishes};
 
-    /// A view that has shown no line. The limits apply to each endpoint's stream separately.
-    pub fn new(limits: Limits, style: Style) -> CaptureView
+    /// A view that has shown no line. The limits apply to each endpoint's stream separately. The payload of a message is
+    /// held in `client` or `server`, memory with at least as many bytes as are shown of it.
+    pub fn new(
+        limits: Limits,
+        style: Style,
+        client: &'a mut [u8],
+        server: &'a mut [u8],
+    ) -> CaptureView<'a>
+        requires client { style.view ≤ length client.old }
+        requires server { style.view ≤ length server.old }
         ensures { HasShownLines limits style result [] [] }
     {
         let of_client = style;
         CaptureView {
             lines: CaptureLines::new(limits),
-            client: StreamView::new(Role::Client, limits, of_client),
-            server: StreamView::new(Role::Server, limits, style),
+            client: StreamView::new(Role::Client, limits, of_client, client),
+            server: StreamView::new(Role::Server, limits, style, server),
             time: CurrentTime::new(),
             last_times: LastTimes::new(),
             ends: EndNotes::new(),
@@ -263,7 +271,12 @@ fn origin_of<'a>(lines: &CaptureLines, time: &'a CurrentTime) -> Origin<'a>
 }
 
 /// Prints what a stream leaves over, and its end.
-fn put_end_of<W: Write>(role: Role, stream: &StreamView, origin: Origin<'_>, output: &mut Output<W>)
+fn put_end_of<W: Write>(
+    role: Role,
+    stream: &StreamView<'_>,
+    origin: Origin<'_>,
+    output: &mut Output<W>,
+)
     requires writable { output.old.failed ≡ false }
     ensures { (limits : Limits) (style : Style) (given : List Entry) →
         HasViewed role limits style stream.now (sent role given) →

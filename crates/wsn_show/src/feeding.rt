@@ -18,17 +18,17 @@ use wsn_scan::{Part, Scan, Taken};
 /// Lets the scan consume the chunk, and prints what it completes. Bytes after a refusal are kept, but not read.
 pub fn feed<W: Write>(
     scan: &mut Scan,
-    parts: &mut StreamParts,
+    parts: &mut StreamParts<'_>,
     chunk: &mut [u8],
     output: &mut Output<W>,
     context: &EntryContext<'_>,
 )
     requires begun { refusal_in scan.old ≡ None →
-        IsShowing context.now.style.detail scan.old parts.old }
+        IsShowing context.now.style scan.old parts.old }
     requires fits { refusal_in scan.old ≡ None → length chunk.old ≤ room_of scan.old }
     ensures { (role : Role) (limits : Limits) (came : List ℕ) (shown : List Shown) →
         length came + length chunk.old < 2 ^ 64 →
-        HasShown context.now.style.detail role limits scan.old parts.old came shown →
+        HasShown context.now.style role limits scan.old parts.old came shown →
         ShowsMore role limits scan.new parts.new context.now output.old output.new
         (came ++ chunk.old) shown }
 {
@@ -45,17 +45,17 @@ pub fn feed<W: Write>(
 /// number of bytes that it consumed.
 fn feed_unrefused<W: Write>(
     scan: &mut Scan,
-    parts: &mut StreamParts,
+    parts: &mut StreamParts<'_>,
     chunk: &mut [u8],
     output: &mut Output<W>,
     context: &EntryContext<'_>,
 ) -> usize
-    requires begun { IsShowing context.now.style.detail scan.old parts.old }
+    requires begun { IsShowing context.now.style scan.old parts.old }
     requires fits { length chunk.old ≤ room_of scan.old }
     ensures within { result ≤ length chunk.old }
     ensures kept { drop result chunk.new ≡ drop result chunk.old }
     ensures shows { (role : Role) (limits : Limits) (came : List ℕ) (shown : List Shown) →
-        HasShownFrames context.now.style.detail role limits scan.old parts.old came shown →
+        HasShownFrames context.now.style role limits scan.old parts.old came shown →
         ShowsMore role limits scan.new parts.new context.now output.old output.new
         (came ++ take result chunk.old) shown }
     ensures all { refusal_in scan.new ≡ None → result ≡ length chunk.old }
@@ -73,7 +73,7 @@ fn feed_unrefused<W: Write>(
 /// Calls the scan once, and prints what it completes. Returns the number of bytes that it consumed.
 fn step<W: Write>(
     scan: &mut Scan,
-    parts: &mut StreamParts,
+    parts: &mut StreamParts<'_>,
     chunk: &mut [u8],
     output: &mut Output<W>,
     context: &EntryContext<'_>,
@@ -84,10 +84,10 @@ fn step<W: Write>(
     ensures kept { drop result chunk.new ≡ drop result chunk.old }
     ensures room { room_of scan.new + result ≡ room_of scan.old }
     ensures shows { (role : Role) (limits : Limits) (came : List ℕ) (shown : List Shown) →
-        HasShownFrames context.now.style.detail role limits scan.old parts.old came shown →
+        HasShownFrames context.now.style role limits scan.old parts.old came shown →
         ShowsMore role limits scan.new parts.new context.now output.old output.new
         (came ++ take result chunk.old) shown }
-    ensures progress { IsShowing context.now.style.detail scan.old parts.old →
+    ensures progress { IsShowing context.now.style scan.old parts.old →
         refusal_in scan.new ≡ None → 0 < result }
 {
     let mut part = Part::new();

@@ -3,7 +3,7 @@ ghost use Rattle.std.specs.Prelude.{◌≡◌};
 use wsn_print::{HeldBytes, KeptBytes};
 
 /// The most bytes that a [`FirstBytes`] holds.
-pub(crate) const FIRST_MAX: usize = 4_096;
+const FIRST_MAX: usize = 4_096;
 
 /// The number of the bytes that came, and the first 4,096 of them.
 #[derive(Drop)]

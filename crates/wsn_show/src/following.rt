@@ -1,9 +1,8 @@
 //! Following a scan part by part.
 
-ghost use Rattle.std.specs.Prelude.{◌≡◌, length, take};
+ghost use Rattle.std.specs.Prelude.{◌≡◌, length};
 
 use crate::entry_context::EntryContext;
-use crate::first_bytes::FIRST_MAX;
 use crate::last_payload::{HeldCharacter, shown_in};
 use crate::shown_item::{ShownItem, put_begun, put_item};
 use crate::stream_parts::StreamParts;
@@ -14,7 +13,7 @@ use wsn_rules::{HeadInfo, Refusal};
 use wsn_scan::Part;
 use wsn_wire::{Op, Reason};
 
-impl StreamParts {
+impl StreamParts<'_> {
     ghost use Rattle.std.specs.Prelude.{◌≡◌, ℕ, ◌+◌, ◌<◌, ◌^◌, List, [], ◌∷◌, ◌++◌, true, length};
     ghost use Rattle.wsn_wire.specs.Frame.{Frame, stream};
     ghost use Rattle.wsn_wire.specs.declared.endpoint.Role.{Role};
@@ -46,7 +45,7 @@ impl StreamParts {
         ensures { (role : Role) (limits : Limits) (fs frames : List Frame) (at position : Position)
             (rest before share since : List ℕ) → length share ≡ size → IsPartAt at part.now before →
             IsTaken role limits fs rest before part.now payload.now share frames position since →
-            KeepsStream self.old fs at rest →
+            KeepsStream context.now.style.view self.old fs at rest →
             ShowsPart fs at frames position since self.new context.now output.old output.new }
     {
         if part.begins {
@@ -70,7 +69,7 @@ impl StreamParts {
         ensures { (role : Role) (limits : Limits) (fs frames : List Frame) (position : Position)
             (rest share since : List ℕ) → length share ≡ size →
             IsTaken role limits fs rest [] part.now payload.now share frames position since →
-            KeepsStream self.old fs BetweenFrames rest →
+            KeepsStream context.now.style.view self.old fs BetweenFrames rest →
             ShowsPart fs BetweenFrames frames position since self.new context.now output.old output.new }
     {
         put_begun(output, context, &part.head);
@@ -97,7 +96,7 @@ impl StreamParts {
         ensures { (role : Role) (limits : Limits) (fs frames : List Frame) (position : Position)
             (rest before share since : List ℕ) → length share ≡ size →
             IsTaken role limits fs rest before part.now payload.now share frames position since →
-            KeepsStream self.old fs (InFrame part.now.head before) rest →
+            KeepsStream context.now.style.view self.old fs (InFrame part.now.head before) rest →
             ShowsPart fs (InFrame part.now.head before) frames position since self.new context.now output.old
             output.new }
     {
@@ -130,7 +129,8 @@ impl StreamParts {
     )
         ensures printed { (role : Role) (limits : Limits) (fs : List Frame) (at : Position) (rest : List ℕ) →
             IsLawful role limits fs → length (held_at at rest) + length bytes.now < 2 ^ 64 →
-            GoesWrongAt refusal.now.reason fs at rest bytes.now → KeepsStream self.old fs at rest →
+            GoesWrongAt refusal.now.reason fs at rest bytes.now →
+            KeepsStream context.now.style.view self.old fs at rest →
             Prints context.now output.old output.new (interrupted context.now.style.detail fs
             ++ RefusedFrame (length (stream fs)) refusal.now (held_at at rest ++ bytes.now)
             (character_at refusal.now.reason fs at bytes.now) ∷ []) }
@@ -147,8 +147,8 @@ impl StreamParts {
     /// The bad character, if a frame's text is refused for one at the last of these bytes.
     #[tactic(none)]
     fn bad_character(&mut self, reason: Reason, bytes: &[u8]) -> Option<HeldCharacter>
-        ensures character { (fs : List Frame) (at : Position) (rest : List ℕ) →
-            GoesWrongAt reason fs at rest bytes.now → KeepsStream self.old fs at rest →
+        ensures character { (n : ℕ) (fs : List Frame) (at : Position) (rest : List ℕ) →
+            GoesWrongAt reason fs at rest bytes.now → KeepsStream n self.old fs at rest →
             character_held_in result ≡ character_at reason fs at bytes.now }
         ensures others { self.new ≡ record self.old { message = self.new.message } }
     {
@@ -161,8 +161,8 @@ impl StreamParts {
     /// The bad character, if a frame has begun, whose text goes wrong with the last of these bytes.
     #[tactic(none)]
     fn character_in_frame(&mut self, bytes: &[u8]) -> Option<HeldCharacter>
-        ensures character { (fs : List Frame) (at : Position) (rest : List ℕ) →
-            GoesWrongAt TextBad fs at rest bytes.now → KeepsStream self.old fs at rest →
+        ensures character { (n : ℕ) (fs : List Frame) (at : Position) (rest : List ℕ) →
+            GoesWrongAt TextBad fs at rest bytes.now → KeepsStream n self.old fs at rest →
             character_held_in result ≡ character_at TextBad fs at bytes.now }
         ensures others { self.new ≡ record self.old { message = self.new.message } }
     {
@@ -184,12 +184,12 @@ fn whole_event(op: Op, payload: &[u8]) -> ShownEvent<'_>
     ensures op { result.op ≡ op }
     ensures bytes { result.bytes ≡ length payload.now }
     ensures frames { result.frames ≡ 1 }
-    ensures held { result.held.now ≡ take 4096 payload.now }
+    ensures held { result.held.now ≡ payload.now }
 {
     ShownEvent {
         op,
         bytes: payload.len() as u64,
         frames: 1,
-        held: &payload[..payload.len().min(FIRST_MAX)],
+        held: payload,
     }
 }

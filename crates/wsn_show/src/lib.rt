@@ -5,8 +5,8 @@
 //! [`show`] reads a capture and prints what each of its lines completes, and then the report. A [`CaptureView`] does so
 //! line by line. [`show_stream`] shows the stream of one endpoint, a [`StreamView`] its bytes as they come. A [`Style`]
 //! says whether events or frames are shown, and how much of a payload. Nothing is allocated: at most one line is held,
-//! and of each stream the first bytes of its open message, the last bytes of the frame that has begun, and the end of the
-//! message's payload in complete frames, where a bad character may begin.
+//! and of each stream the first bytes of its open message, in memory that the caller lends, the last bytes of the frame
+//! that has begun, and the end of the message's payload in complete frames, where a bad character may begin.
 //!
 //! `wsn_rules/specs/ShownStream.antt` defines what is shown of a stream and what is left over, `ShownCapture.antt` what
 //! is shown of a capture, and `wsn_shown_text/specs/ShownText.antt` how it is printed. Here, `specs/Showing.antt` defines
@@ -29,6 +29,7 @@ mod last_payload;
 mod last_times;
 pub mod laws;
 mod message_so_far;
+mod payload_bytes;
 mod showing;
 mod shown_item;
 mod stream_items;

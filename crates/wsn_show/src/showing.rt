@@ -30,7 +30,8 @@ pub enum ShowStop {
 /// Shows the capture on the input: prints what each line completes as soon as the line is whole, then what is left over
 /// of both streams, who ended the connection if a stream ended without a Close, and the report. It returns the report,
 /// how many bytes each endpoint sent after its Close, and the lines with offending bytes. It reads chunks of at most
-/// [`CHUNK`] bytes. The limits apply to each endpoint's stream separately.
+/// [`CHUNK`] bytes. The limits apply to each endpoint's stream separately. The payload of an open message is held in
+/// `client` or `server`, memory with at least as many bytes as are shown of it.
 ///
 /// The error `Line` is the first line that isn't accepted; what the lines before it show is printed. It is returned once
 /// the line has ended or is too long whatever follows, with at most 4,095 bytes read after that byte. `Read` is a read
@@ -42,12 +43,16 @@ pub fn show<R: Read, W: Write>(
     output: &mut Output<W>,
     limits: Limits,
     style: Style,
+    client: &mut [u8],
+    server: &mut [u8],
 ) -> Result<CaptureReport, ShowStop>
     requires readable { input.old.failed ≡ false }
     requires writable { output.old.failed ≡ false }
+    requires client { style.view ≤ length client.old }
+    requires server { style.view ≤ length server.old }
     ensures { IsShown limits style input.old input.new output.old output.new result }
 {
-    let mut capture = CaptureView::new(limits, style);
+    let mut capture = CaptureView::new(limits, style, client, server);
     let mut lines = Lines::new();
     let mut bytes = [0; BYTES_MAX];
     let mut chunk = [0; CHUNK];
@@ -70,7 +75,7 @@ pub fn show<R: Read, W: Write>(
 
 /// Shows the next line. The contents of `bytes` are then unspecified.
 fn show_line<W: Write>(
-    view: &mut CaptureView,
+    view: &mut CaptureView<'_>,
     line: &[u8],
     bytes: &mut [u8; BYTES_MAX],
     output: &mut Output<W>,
@@ -102,7 +107,7 @@ fn show_line<W: Write>(
 /// Shows the lines that a chunk of the text ends. The error `Line` is returned at the first byte at which a line isn't
 /// accepted, whatever follows. The contents of `bytes` are then unspecified.
 fn show_lines<W: Write>(
-    view: &mut CaptureView,
+    view: &mut CaptureView<'_>,
     lines: &mut Lines,
     chunk: &[u8],
     bytes: &mut [u8; BYTES_MAX],
@@ -138,7 +143,7 @@ fn show_lines<W: Write>(
 
 /// Shows the last line, unless it is empty, and then the end of the capture. The contents of `bytes` are then unspecified.
 fn end<W: Write>(
-    view: &mut CaptureView,
+    view: &mut CaptureView<'_>,
     last: &[u8],
     bytes: &mut [u8; BYTES_MAX],
     output: &mut Output<W>,
@@ -159,7 +164,7 @@ fn end<W: Write>(
 
 /// Prints what is left over at the end of the capture, who ended the connection, and the report.
 fn put_end_of_capture<W: Write>(
-    view: &CaptureView,
+    view: &CaptureView<'_>,
     output: &mut Output<W>,
 ) -> Result<CaptureReport, ShowStop>
     requires writable { output.old.failed ≡ false }

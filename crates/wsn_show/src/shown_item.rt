@@ -1,12 +1,13 @@
-ghost use Rattle.std.specs.Prelude.{[], ◌∷◌};
+ghost use Rattle.std.specs.Prelude.{◌≡◌, [], ◌∷◌};
 ghost use Rattle.wsn_rules.specs.ShownStream.{Item};
 ghost use Rattle.wsn_shown_text.specs.ShownItems.{IsItem};
-ghost use Rattle.wsn_show.specs.ShownItems.{Prints, items_of_begun};
+ghost use Rattle.wsn_show.specs.ShownItems.{Prints, held_view, items_of_begun};
+ghost use Rattle.wsn_show.specs.Styles.{item_view};
 
 use crate::entry_context::EntryContext;
 use std::io::Write;
 use wsn_io::Output;
-use wsn_print::{EntryFront, Format};
+use wsn_print::{EntryFront, Format, ViewLimit};
 use wsn_rules::{Detail, HeadInfo};
 pub use wsn_shown_text::ShownItem;
 use wsn_shown_text::put_entry;
@@ -19,7 +20,7 @@ pub fn put_item<W: Write>(
     offset: u64,
     item: &ShownItem<'_>,
 )
-    ensures { (shown : Item) → IsItem context.now.style.view offset item.now shown →
+    ensures { (shown : Item) → IsItem (item_view context.now.style.view shown) offset item.now shown →
         Prints context.now output.old output.new (shown ∷ []) }
 {
     if output.failed() {
@@ -30,13 +31,27 @@ pub fn put_item<W: Write>(
         origin: context.origin,
         offset,
     };
-    let view = context.style.view;
+    let view = view_of_item(context.style.view, item);
     // Each format has a call of its own, so that the compiler makes code for it alone.
     let _stop = match context.style.format {
         Format::Text => put_entry(output, Format::Text, view, &front, item),
         Format::People => put_entry(output, Format::People, view, &front, item),
         Format::Json => put_entry(output, Format::Json, view, &front, item),
     };
+}
+
+/// The limit with which an item is shown: of an event the limit on payloads; of anything else at most 4,096 bytes.
+#[inline(always)]
+fn view_of_item(view: ViewLimit, item: &ShownItem<'_>) -> ViewLimit
+    ensures { result ≡ held_view view item.now }
+{
+    match item {
+        ShownItem::Event(_)
+        | ShownItem::Frame(_)
+        | ShownItem::Unfinished(_, _)
+        | ShownItem::UnfinishedHead => view,
+        ShownItem::Refused(_, _, _) | ShownItem::Remainder(_, _) => view.short(),
+    }
 }
 
 /// Prints the frame with this head, which is complete, if frames are shown by their heads.

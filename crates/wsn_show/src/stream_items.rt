@@ -10,7 +10,7 @@ use wsn_print::{Remainder, ShownEvent};
 use wsn_rules::{Detail, HeadInfo};
 use wsn_wire::Op;
 
-impl StreamParts {
+impl StreamParts<'_> {
     ghost use Rattle.std.specs.Prelude.{◌≡◌, ℕ, ◌+◌, ◌<◌, ◌^◌, List, [], ◌∷◌, ◌++◌, length, Some, if◌then◌else◌};
     ghost use Rattle.wsn_wire.specs.Frame.{Frame, stream};
     ghost use Rattle.wsn_wire.specs.declared.endpoint.Role.{Role};
@@ -36,7 +36,7 @@ impl StreamParts {
         lacks: Option<u64>,
     )
         ensures { (role : Role) (limits : Limits) (fs : List Frame) (part : List ℕ) → IsLawful role limits fs →
-            KeepsMessage self.now.message fs part →
+            KeepsMessage context.now.style.view self.now.message fs part →
             Prints context.now output.old output.new (open_items fs lacks) }
     {
         if self.message.frames > 0 {
@@ -49,7 +49,7 @@ impl StreamParts {
     #[tactic(none)]
     fn put_before_close<W: Write>(&self, output: &mut Output<W>, context: &EntryContext<'_>, op: Op)
         ensures { (role : Role) (limits : Limits) (fs : List Frame) (part : List ℕ) → IsLawful role limits fs →
-            KeepsMessage self.now.message fs part →
+            KeepsMessage context.now.style.view self.now.message fs part →
             Prints context.now output.old output.new (if is_close op then open_items fs (Some 0) else []) }
     {
         match op {
@@ -69,7 +69,7 @@ impl StreamParts {
         event: &ShownEvent<'_>,
     )
         ensures { (role : Role) (limits : Limits) (fs : List Frame) (f : Frame) (part : List ℕ) →
-            IsLawful role limits fs → KeepsMessage self.now.message fs part →
+            IsLawful role limits fs → KeepsMessage context.now.style.view self.now.message fs part →
             IsEventOf context.now.style.view fs f offset event.now →
             Prints context.now output.old output.new (items_of_ended context.now.style.detail fs f) }
     {
@@ -93,7 +93,7 @@ impl StreamParts {
         ensures { (role : Role) (limits : Limits) (fs : List Frame) (f : Frame) (rest : List ℕ) →
             IsLawful role limits (fs ++ f ∷ []) → head.now ≡ info_of (length (stream fs)) f →
             length (unfinished fs) + 1 < 2 ^ 64 →
-            KeepsStream self.now fs (InFrame (info_of (length (stream fs)) f) f.payload) rest →
+            KeepsStream context.now.style.view self.now fs (InFrame (info_of (length (stream fs)) f) f.payload) rest →
             Prints context.now output.old output.new (items_of_end context.now.style.detail fs f) }
     {
         if !head.fin {
@@ -111,7 +111,7 @@ impl StreamParts {
     #[tactic(none)]
     pub fn put_interrupted<W: Write>(&self, output: &mut Output<W>, context: &EntryContext<'_>)
         ensures { (role : Role) (limits : Limits) (fs : List Frame) (part : List ℕ) → IsLawful role limits fs →
-            KeepsMessage self.now.message fs part →
+            KeepsMessage context.now.style.view self.now.message fs part →
             Prints context.now output.old output.new (interrupted context.now.style.detail fs) }
     {
         match context.style.detail {
@@ -125,7 +125,8 @@ impl StreamParts {
     pub fn put_left<W: Write>(&self, output: &mut Output<W>, context: &EntryContext<'_>)
         ensures { (role : Role) (limits : Limits) (fs : List Frame) (at : Position) (rest : List ℕ) →
             IsLawful role limits fs → length (unfinished fs) + 1 < 2 ^ 64 → IsSoundPart fs at →
-            KeepsStream self.now fs at rest → Prints context.now output.old output.new (items_left fs at rest) }
+            KeepsStream context.now.style.view self.now fs at rest →
+            Prints context.now output.old output.new (items_left fs at rest) }
     {
         match &self.head {
             Some(head) => self.put_part(output, context, head),
@@ -143,7 +144,7 @@ impl StreamParts {
     )
         ensures { (role : Role) (limits : Limits) (fs : List Frame) (part rest : List ℕ) → IsLawful role limits fs →
             length (unfinished fs) + 1 < 2 ^ 64 → IsSoundPart fs (InFrame head.now part) →
-            KeepsStream self.now fs (InFrame head.now part) rest →
+            KeepsStream context.now.style.view self.now fs (InFrame head.now part) rest →
             Prints context.now output.old output.new (items_left fs (InFrame head.now part) rest) }
     {
         let lacks = Some(head.len.saturating_sub(self.last.end().bytes));
@@ -161,7 +162,7 @@ impl StreamParts {
     #[tactic(none)]
     fn put_head<W: Write>(&self, output: &mut Output<W>, context: &EntryContext<'_>)
         ensures { (role : Role) (limits : Limits) (fs : List Frame) (rest : List ℕ) → IsLawful role limits fs →
-            KeepsStream self.now fs BetweenFrames rest →
+            KeepsStream context.now.style.view self.now fs BetweenFrames rest →
             Prints context.now output.old output.new (items_left fs BetweenFrames rest) }
     {
         if self.size == 0 {

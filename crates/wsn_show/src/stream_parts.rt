@@ -10,8 +10,8 @@ use wsn_wire::Op;
 /// What is kept of a stream, to show what comes next: the open message, and the frame that has begun or comes next (RFC
 /// 6455 sections 5.2 and 5.4).
 #[derive(Drop)]
-pub struct StreamParts {
-    pub message: MessageSoFar,
+pub struct StreamParts<'a> {
+    pub message: MessageSoFar<'a>,
     /// The offset of the frame's first byte.
     pub offset: u64,
     /// The number of its bytes so far.
@@ -25,20 +25,20 @@ pub struct StreamParts {
     pub last: LastBytes,
 }
 
-impl StreamParts {
-    ghost use Rattle.std.specs.Prelude.{ℕ, ◌+◌, ◌<◌, ◌^◌, List, [], ◌∷◌, ◌++◌, length};
+impl<'a> StreamParts<'a> {
+    ghost use Rattle.std.specs.Prelude.{ℕ, ◌+◌, ◌<◌, ◌≤◌, ◌^◌, List, [], ◌∷◌, ◌++◌, length};
     ghost use Rattle.wsn_wire.specs.Frame.{Frame, stream};
     ghost use Rattle.wsn_rules.specs.Group.{unfinished, payload_of};
     ghost use Rattle.wsn_rules.specs.Heads.{info_of};
     ghost use Rattle.wsn_scan.specs.Positions.{Position, BetweenFrames, InFrame};
     ghost use Rattle.wsn_show.specs.StreamParts.{KeepsMessage, KeepsFrame, KeepsStream};
 
-    /// No byte has come.
-    pub fn new() -> StreamParts
-        ensures { KeepsStream result [] BetweenFrames [] }
+    /// No byte has come. The payload of a message is held in this memory.
+    pub fn new(memory: &'a mut [u8]) -> StreamParts<'a>
+        ensures { (n : ℕ) → n ≤ length memory.old → KeepsStream n result [] BetweenFrames [] }
     {
         StreamParts {
-            message: MessageSoFar::new(),
+            message: MessageSoFar::new(memory),
             offset: 0,
             size: 0,
             head: None,
@@ -49,8 +49,8 @@ impl StreamParts {
 
     /// More bytes come between frames.
     pub fn add_bytes(&mut self, bytes: &[u8])
-        ensures { (fs : List Frame) (rest : List ℕ) → length rest + length bytes.now < 2 ^ 64 →
-            KeepsStream self.old fs BetweenFrames rest → KeepsStream self.new fs BetweenFrames (rest ++ bytes.now) }
+        ensures { (n : ℕ) (fs : List Frame) (rest : List ℕ) → length rest + length bytes.now < 2 ^ 64 →
+            KeepsStream n self.old fs BetweenFrames rest → KeepsStream n self.new fs BetweenFrames (rest ++ bytes.now) }
     {
         self.size = self.size.saturating_add(bytes.len() as u64);
         self.rest.add(bytes);
@@ -60,8 +60,8 @@ impl StreamParts {
     /// The frame's head is complete.
     #[tactic(none)]
     pub fn begin(&mut self, head: HeadInfo)
-        ensures { (fs : List Frame) (rest : List ℕ) → KeepsStream self.old fs BetweenFrames rest →
-            KeepsStream self.new fs (InFrame head []) rest }
+        ensures { (n : ℕ) (fs : List Frame) (rest : List ℕ) → KeepsStream n self.old fs BetweenFrames rest →
+            KeepsStream n self.new fs (InFrame head []) rest }
     {
         self.head = Some(head);
         self.rest.clear();
@@ -74,10 +74,10 @@ impl StreamParts {
     /// More of the payload of the frame with this head comes, unmasked, with `size` more bytes.
     #[tactic(none)]
     pub fn add_payload(&mut self, head: &HeadInfo, payload: &[u8], size: usize)
-        ensures { (fs : List Frame) (part rest share : List ℕ) → length share ≡ size → length rest + size < 2 ^ 64 →
-            length (payload_of (unfinished fs)) + length part + length payload.now < 2 ^ 64 →
-            KeepsStream self.old fs (InFrame head.now part) rest →
-            KeepsStream self.new fs (InFrame head.now (part ++ payload.now)) (rest ++ share) }
+        ensures { (n : ℕ) (fs : List Frame) (part rest share : List ℕ) → length share ≡ size →
+            length rest + size < 2 ^ 64 → length (payload_of (unfinished fs)) + length part + length payload.now < 2 ^ 64 →
+            KeepsStream n self.old fs (InFrame head.now part) rest →
+            KeepsStream n self.new fs (InFrame head.now (part ++ payload.now)) (rest ++ share) }
     {
         self.size = self.size.saturating_add(size as u64);
         self.last.add(payload);
@@ -113,11 +113,11 @@ impl StreamParts {
     /// The frame with this head ends.
     #[tactic(none)]
     pub fn end(&mut self, head: &HeadInfo)
-        ensures { (fs : List Frame) (f : Frame) (rest : List ℕ) → head.now ≡ info_of (length (stream fs)) f →
+        ensures { (n : ℕ) (fs : List Frame) (f : Frame) (rest : List ℕ) → head.now ≡ info_of (length (stream fs)) f →
             length (stream (fs ++ f ∷ [])) ≡ length (stream fs) + length rest →
             length (stream (fs ++ f ∷ [])) < 2 ^ 64 → length (unfinished fs) + 1 < 2 ^ 64 →
-            KeepsStream self.old fs (InFrame (info_of (length (stream fs)) f) f.payload) rest →
-            KeepsStream self.new (fs ++ f ∷ []) BetweenFrames [] }
+            KeepsStream n self.old fs (InFrame (info_of (length (stream fs)) f) f.payload) rest →
+            KeepsStream n self.new (fs ++ f ∷ []) BetweenFrames [] }
     {
         if head.op.is_control() {
             self.next(0);
@@ -130,10 +130,10 @@ impl StreamParts {
 
     /// The frame ends with `size` more bytes, and another one comes next.
     pub fn next(&mut self, size: usize)
-        ensures { (fs gs : List Frame) (at : Position) (rest : List ℕ) →
+        ensures { (n : ℕ) (fs gs : List Frame) (at : Position) (rest : List ℕ) →
             length (stream gs) ≡ length (stream fs) + (length rest + size) → length (stream gs) < 2 ^ 64 →
-            KeepsFrame self.old fs at rest → KeepsMessage self.old.message gs [] →
-            KeepsStream self.new gs BetweenFrames [] }
+            KeepsFrame self.old fs at rest → KeepsMessage n self.old.message gs [] →
+            KeepsStream n self.new gs BetweenFrames [] }
     {
         self.offset = self
             .offset

@@ -1,4 +1,4 @@
-ghost use Rattle.std.specs.Prelude.{◌≡◌, ℕ, List, false};
+ghost use Rattle.std.specs.Prelude.{◌≡◌, ◌≤◌, ℕ, List, false, length};
 ghost use Rattle.wsn_io.specs.Transfer.{Outgoing, IsWritten};
 ghost use Rattle.wsn_wire.specs.declared.endpoint.Role.{Role};
 ghost use Rattle.wsn_rules.specs.Limits.{Limits};
@@ -18,7 +18,8 @@ use wsn_wire::Role;
 
 /// Shows the stream on the input, which one endpoint sent: prints each event with its last byte, or each frame with its
 /// head's, then what is left over, and the verdict, which it returns (RFC 6455 sections 5 and 7). It reads
-/// as [`wsn_scan::judge`] does: to the end, or up to a refusal.
+/// as [`wsn_scan::judge`] does: to the end, or up to a refusal. The payload of an open message is held in `memory`, which
+/// has at least as many bytes as are shown of it.
 ///
 /// Errors: `Read` if a read fails, and `InputLimit` if a byte past the input limit comes. With either, what is shown of
 /// the bytes that came within the limit is printed, and no verdict. `Write` if the writer fails: a prefix of the lines is
@@ -30,12 +31,14 @@ pub fn show_stream<R: Read, W: Write>(
     role: Role,
     limits: Limits,
     style: Style,
+    memory: &mut [u8],
 ) -> Result<Verdict, Stop>
     requires readable { input.old.failed ≡ false }
     requires writable { output.old.failed ≡ false }
+    requires memory { style.view ≤ length memory.old }
     ensures { IsStreamShown role limits style input.old input.new output.old output.new result }
 {
-    let mut stream = StreamView::new(role, limits, style);
+    let mut stream = StreamView::new(role, limits, style, memory);
     let mut chunks = ChunkReader::new(limits);
     let mut buffer = [0; CHUNK];
     while let Some(len) = chunks.next(input, &mut buffer)? {
@@ -54,7 +57,7 @@ pub fn show_stream<R: Read, W: Write>(
 /// Prints what is left over where the stream ends, and the verdict, which it returns. `Write` if the
 /// writer fails: a prefix of these lines is written.
 #[tactic(none)]
-fn end<W: Write>(stream: &StreamView, output: &mut Output<W>) -> Result<Verdict, Stop>
+fn end<W: Write>(stream: &StreamView<'_>, output: &mut Output<W>) -> Result<Verdict, Stop>
     requires { output.old.failed ≡ false }
     ensures { (role : Role) (limits : Limits) (style : Style) (came : List ℕ) (first : Outgoing) (text : List ℕ) →
         HasViewed role limits style stream.now came → IsUnrefused role limits came → IsItemText role limits style came text →

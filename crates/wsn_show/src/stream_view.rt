@@ -11,18 +11,18 @@ use wsn_wire::Role;
 
 /// Shows the stream that one endpoint sent, as its bytes come (RFC 6455 sections 5 and 7): prints each event with its
 /// last byte, or each frame with its head's last byte, and a refusal with the offending byte. It keeps the first bytes of
-/// the open message and of the frame that has begun, and allocates nothing.
+/// the open message in memory that a caller lends, and those of the frame that has begun. It allocates nothing.
 #[derive(Drop)]
-pub struct StreamView {
+pub struct StreamView<'a> {
     role: Role,
     style: Style,
     input: u64,
     room: u64,
     scan: Scan,
-    parts: StreamParts,
+    parts: StreamParts<'a>,
 }
 
-impl Model for StreamView {
+impl<'a> Model for StreamView<'a> {
     ghost use Rattle.wsn_show.specs.ShownSoFar.{Viewed, IsViewing};
 
     ghost Value = { Viewed };
@@ -46,7 +46,7 @@ impl Model for StreamView {
     }) };
 }
 
-impl StreamView {
+impl<'a> StreamView<'a> {
     ghost use Rattle.std.specs.Prelude.{◌≡◌, ℕ, ◌+◌, ◌≤◌, List, [], ◌++◌, length, false};
     ghost use Rattle.wsn_io.specs.Transfer.{Outgoing, IsWrittenUpToFailure};
     ghost use Rattle.wsn_wire.specs.Frame.{Frame};
@@ -60,8 +60,10 @@ impl StreamView {
     ghost use Rattle.wsn_show.specs.Styles.{styled_items};
     ghost use Rattle.wsn_show.specs.ShownSoFar.{HasViewed};
 
-    /// A view of a stream of no bytes. `role` is the endpoint that sent the stream.
-    pub fn new(role: Role, limits: Limits, style: Style) -> StreamView
+    /// A view of a stream of no bytes. `role` is the endpoint that sent the stream. The payload of a message is held in
+    /// `memory`, which has at least as many bytes as are shown of it.
+    pub fn new(role: Role, limits: Limits, style: Style, memory: &'a mut [u8]) -> StreamView<'a>
+        requires { style.view ≤ length memory.old }
         ensures { HasViewed role limits style result [] }
     {
         StreamView {
@@ -70,7 +72,7 @@ impl StreamView {
             input: limits.input(),
             room: limits.input(),
             scan: Scan::new(role, limits),
-            parts: StreamParts::new(),
+            parts: StreamParts::new(memory),
         }
     }
 

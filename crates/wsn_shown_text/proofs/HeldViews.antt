@@ -35,6 +35,11 @@ drop_held n all held (last, inr whole) =
     let same : held ≡ all = last ∙ ap (λ (k : ℕ). drop k all) none in
     ap (λ (bytes : List ℕ). drop (length bytes - n) bytes) same
 
+-- What is enough for a view is enough for a shorter one.
+pub holds_fewer : (m n : ℕ) (all held : List ℕ) → m ≤ n → HoldsLast n all held → HoldsLast m all held
+holds_fewer m n all held less (last, inl enough) = (last, inl (omega (arith, less, enough)))
+holds_fewer m n all held less (last, inr whole) = (last, inr whole)
+
 -- The characters of a text that are shown.
 pub shown_part : (n : ℕ) (all held : List ℕ) → HoldsFirst n all held → take (utf8_valid_len (take n held)) (take n held) ≡ take (text_part n all) all
 shown_part n all held holds =

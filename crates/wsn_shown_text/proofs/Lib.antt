@@ -1,5 +1,6 @@
 pub mod CharacterPieces
 pub mod HeldViews
+pub mod WholeViews
 pub mod JsonTexts
 pub mod VisibleTexts
 pub mod TextFronts

@@ -1,6 +1,6 @@
 -- How a bad character of a text is shown: with a line of its own after that of the refusal, or as a member of the
 -- refusal's object.
-use Rattle.std.specs.Prelude.{ℕ, ◌-◌, ◌/◌, ◌==◌, ◌||◌, nat_lt, Bool, if◌then◌else◌, Option, None, Some, List, [], ◌∷◌, ◌++◌, length, take, drop, flat_map, codes, decimal}
+use Rattle.std.specs.Prelude.{ℕ, ◌-◌, ◌/◌, ◌==◌, ◌||◌, min, nat_lt, Bool, if◌then◌else◌, Option, None, Some, List, [], ◌∷◌, ◌++◌, length, take, drop, flat_map, codes, decimal}
 use Rattle.std.specs.Str.{chars}
 use Rattle.std.specs.Str.Lossy.{utf8_valid_len}
 use Rattle.hex.specs.Hex.{encode_lower}
@@ -23,15 +23,15 @@ from_character (b ∷ bytes) = if is_continuation b then from_character bytes el
 abbrev pub whole_characters : List ℕ → List ℕ
 whole_characters bytes = take (utf8_valid_len bytes) bytes
 
--- The last n/2 bytes.
+-- The last n/2 bytes, at most 2,048.
 abbrev pub end_part : ℕ → List ℕ → List ℕ
-end_part n bytes = drop (length bytes - n / 2) bytes
+end_part n bytes = drop (length bytes - min n 4096 / 2) bytes
 
 -- The end of the message up to the offending byte: what is known of it in earlier frames, and then the evidence.
 abbrev pub known_text : List ℕ → BadCharacter → List ℕ
 known_text evidence character = character.earlier ++ evidence
 
--- The last n/2 bytes of this text, without those of the bad character at its end.
+-- The last n/2 bytes of this text, at most 2,048, without those of the bad character at its end.
 abbrev pub bytes_before : ℕ → List ℕ → BadCharacter → List ℕ
 bytes_before n evidence character =
     take (length (end_part n (known_text evidence character)) - length character.bytes)

@@ -23,7 +23,7 @@ const PLACE_MAX: usize = 57;
 /// The most bytes of a byte that is escaped: `\x` and two digits.
 const BYTE_MAX: usize = 4;
 
-/// The most bytes that are shown up to the offending one, half of the longest view.
+/// The most bytes that are shown up to the offending one, half of 4,096.
 const TEXT_MAX: usize = 2_048;
 
 /// The space for the first members of the object in bytes, with two numbers of twenty digits.
@@ -120,6 +120,7 @@ pub(crate) fn end_of_text(
     ensures { (all : List ℕ) → IsEndOf (view / 2) all evidence.now →
         result ≡ end_part view (known_text all (character_of character.now)) }
 {
+    let view = view.short();
     let most = view.bytes() / 2;
     let last = end_of(evidence.held, most);
     let earlier = end_of(character.earlier, most - last.len());

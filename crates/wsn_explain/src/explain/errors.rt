@@ -51,13 +51,14 @@ begins with a message can be judged alone; 'wsn frames' prints the offsets.
         words: &["out of memory"],
         text: "\
 out of memory: the system refused to give wsn memory.
-judge, frames, show and closing need little, always. normal and same hold
-one message, at most --limit bytes. plan holds a step for each frame; recut
-holds the whole meaning of the stream, and its plan.
+judge, frames, closing and show need little, always; but show --view all takes
+four times --limit. normal and same hold one message, at most --limit bytes.
+plan holds a step for each frame; recut holds the whole meaning of the stream,
+and its plan.
 Usual causes: a limit on the process (ulimit -v, a container's); a recut of a
 very large stream.
-Next: raise the limit, or lower --limit for normal and same. For recut, cut the
-stream between two messages, where 'wsn frames' prints offsets.
+Next: raise the limit, or lower --limit for show, normal and same. For recut,
+cut the stream between two messages, where 'wsn frames' prints offsets.
 ",
     },
     Entry {

@@ -42,7 +42,7 @@ OFFSET -l 64 FILE shows the frame; a client's payload is masked.
 binary: a binary frame (opcode 2), the first or only frame of a binary message.
 RFC 6455, 5.6: its bytes mean what both applications agree on.
 In 'wsn show': binary BYTES FRAMES HEX, a whole message, unmasked.
-Next: 'wsn show --view 4096 CAPTURE' prints its first 2048 bytes. If a receiver
+Next: 'wsn show --view all CAPTURE' prints all its bytes. If a receiver
 answers a binary message with 1003, it takes text alone.
 ",
     },

@@ -40,6 +40,8 @@ completes, as the lines come; then closing's report:
     VIEW    the first bytes of the payload: a quoted text, or hexadecimal
             digits; of a Close its code and reason; - if there is nothing;
             then .. if bytes are left out
+With --view all each payload is printed whole, with memory for one of each side;
+SEEN, HEX and TEXT are as with --view 4096.
 With --wire it prints frames, after SIDE and TIME as frames lists them, in place
 of events. With --role the input is one stream, without TIME; the verdict's line
 is last, and a refusal ends the reading.

@@ -63,7 +63,11 @@ impl Scan {
         if !self.is_idle() {
             return 0;
         }
-        let context = self.idle_context();
+        // The compiler knows of this copy that no message is open.
+        let context = FrameContext {
+            message: None,
+            ..self.context
+        };
         let mut counts = self.counts;
         let mut at = 0;
         while let Some(frame) = take_event(&context, &mut chunk[at..]) {
@@ -126,7 +130,11 @@ impl Scan {
         if !self.is_idle() {
             return None;
         }
-        let context = self.idle_context();
+        // The compiler knows of this copy that no message is open.
+        let context = FrameContext {
+            message: None,
+            ..self.context
+        };
         let frame = take_event_after(byte, &context, chunk)?;
         let head = frame.info(self.used);
         self.counts = self.counts.with(true, frame.op);
@@ -141,17 +149,6 @@ impl Scan {
         ensures { IsTrue result → IsIdle self.now }
     {
         matches!((&self.stage, &self.context.message), (Stage::Between, None))
-    }
-
-    /// A copy of its context, of which the compiler knows that no message is open.
-    #[inline(always)]
-    fn idle_context(&self) -> FrameContext
-        ensures { result ≡ record self.now.context { message = None } }
-    {
-        FrameContext {
-            message: None,
-            ..self.context
-        }
     }
 }
 

@@ -37,14 +37,14 @@ returns-in-Recut g c = record { done = search rules; status = search rules; read
 pub returns-in-Closing : goal.returns-in-Closing
 returns-in-Closing g c = record { done = search rules; status = search rules; read = search rules; write = search rules }
 
-pub show-requires : goal.show-requires
-show-requires g c = record { readable = search rules; writable = search rules }
+pub show_capture-requires : goal.show_capture-requires
+show_capture-requires g c = record { readable = search rules; writable = search rules }
 
 pub returns-in-Show : goal.returns-in-Show
 returns-in-Show g c = record { done = search rules; status = search rules; read = search rules; write = search rules }
 
-pub show_stream-requires : goal.show_stream-requires
-show_stream-requires g c = record { readable = search rules; writable = search rules }
+pub show_one_stream-requires : goal.show_one_stream-requires
+show_one_stream-requires g c = record { readable = search rules; writable = search rules }
 
 pub returns-in-ShowStream : goal.returns-in-ShowStream
 returns-in-ShowStream g c = record { done = search rules; status = search rules; read = search rules; write = search rules }

@@ -6,7 +6,7 @@ pub returns-in-Some : goal.returns-in-Some
 returns-in-Some g c = record {
   done = side_run_to_line c.args.job.now c.args.side.now c.work-done.new.input c.args.output.now c.work-done.new.output
       c.args.errors.now c.diagnose.new.errors c.work-done.result c.status.result c.in-Some.line.number
-      c.in-Some.line.fault c.requires.may_run c.work-done.ensures.done c.in-Some.ensures
+      c.in-Some.line.fault c.requires.may_run c.requires.readable c.work-done.ensures.done c.in-Some.ensures
       c.diagnose.ensures c.status.ensures;
   status = rw c.status.ensures c.work-done.ensures.status;
   read = rw c.status.ensures c.work-done.ensures.read;

@@ -8,4 +8,4 @@ use Rattle.wsn_print_laws.proofs.printed_captures.of_objects.Goals as goal
 
 pub returns : goal.returns
 unfolding digits encode_with utf8_valid_len is_utf8 chars encode_utf8
-returns c few = refl
+returns c = refl

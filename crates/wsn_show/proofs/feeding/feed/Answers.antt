@@ -14,4 +14,4 @@ returns-in-None g c role limits came shown small has =
     let left = rest_is read there ∙ c.feed_unrefused-read.ensures.kept in
     shows_rest role limits c.feed_unrefused-read.new.scan c.feed_unrefused-read.new.parts c.add-in-None.new.self c.args.context.now c.args.output.now c.feed_unrefused-read.new.output came c.args.chunk.now (take (length there - read) (drop read there)) read shown
     c.add-in-None.ensures left c.feed_unrefused-read.ensures.all c.feed_unrefused-read.ensures.within small
-    (c.feed_unrefused-read.ensures.shows role limits came shown (frames_of c.args.context.now.style.detail role limits c.args.scan.now c.args.parts.now came shown (sym c.refusal.ensures ∙ c.in-None.is) has))
+    (c.feed_unrefused-read.ensures.shows role limits came shown (frames_of c.args.context.now.style role limits c.args.scan.now c.args.parts.now came shown (sym c.refusal.ensures ∙ c.in-None.is) has))

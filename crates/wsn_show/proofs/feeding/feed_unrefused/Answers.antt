@@ -14,7 +14,7 @@ loop-at-init g c = record {
   room = omega arith;
   shows = λ role limits came shown frames.
       same_frames_shown role limits c.args.scan.now c.args.parts.now c.args.context.now c.args.output.now c.args.output.now (came ++ []) shown
-      (subst (λ (bs : List ℕ). HasShownFrames c.args.context.now.style.detail role limits c.args.scan.now c.args.parts.now bs shown) (sym (append-nil came)) frames);
+      (subst (λ (bs : List ℕ). HasShownFrames c.args.context.now.style role limits c.args.scan.now c.args.parts.now bs shown) (sym (append-nil came)) frames);
 }
 
 pub returns-in-Some-clause-kept : goal.returns-in-Some-clause-kept

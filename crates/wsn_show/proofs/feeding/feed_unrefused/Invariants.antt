@@ -13,7 +13,7 @@ invariant-loop-at g l = record {
   size : length l.chunk ≡ length l.fn.chunk;
   kept : drop l.at l.chunk ≡ drop l.at l.fn.chunk;
   room : room_of l.scan + l.at ≡ room_of l.fn.scan;
-  shows : (role : Role) (limits : Limits) (came : List ℕ) (shown : List Shown) → HasShownFrames l.fn.context.style.detail role limits l.fn.scan l.fn.parts came shown →
+  shows : (role : Role) (limits : Limits) (came : List ℕ) (shown : List Shown) → HasShownFrames l.fn.context.style role limits l.fn.scan l.fn.parts came shown →
       ShowsFrames role limits l.scan l.parts l.fn.context l.fn.output l.output (came ++ take l.at l.fn.chunk) shown;
 }
 

@@ -23,8 +23,8 @@ returns-in-More-clause-shows g c role limits came shown frames =
     let size = ap (λ (bs : List ℕ). length bs) same in
     more_step role limits old new chunk after n part came shown c.args.parts.now c.add_bytes.new.self context c.args.output.now c.args.output.now frames call c.requires.some
     (λ rest small kept.
-    subst (λ (bs : List ℕ). KeepsStream c.add_bytes.new.self frames.done BetweenFrames (rest ++ bs)) same
-    (c.add_bytes.ensures frames.done rest (omega (arith, small, size, length-take-le n chunk call.within)) kept))
+    subst (λ (bs : List ℕ). KeepsStream c.args.context.now.style.view c.add_bytes.new.self frames.done BetweenFrames (rest ++ bs)) same
+    (c.add_bytes.ensures context.style.view frames.done rest (omega (arith, small, size, length-take-le n chunk call.within)) kept))
 
 pub returns-in-More-clause-progress : goal.returns-in-More-clause-progress
 returns-in-More-clause-progress g c showing none =
@@ -45,8 +45,8 @@ returns-in-Closed-clause-shows g c role limits came shown frames =
     let size = ap (λ (bs : List ℕ). length bs) same in
     closed_step role limits old new chunk after n part came shown c.args.parts.now c.add_bytes-in-Closed.new.self context c.args.output.now c.args.output.now frames call c.requires.some
     (λ rest small kept.
-    subst (λ (bs : List ℕ). KeepsStream c.add_bytes-in-Closed.new.self frames.done BetweenFrames (rest ++ bs)) same
-    (c.add_bytes-in-Closed.ensures frames.done rest (omega (arith, small, size, length-take-le n chunk call.within)) kept))
+    subst (λ (bs : List ℕ). KeepsStream c.args.context.now.style.view c.add_bytes-in-Closed.new.self frames.done BetweenFrames (rest ++ bs)) same
+    (c.add_bytes-in-Closed.ensures context.style.view frames.done rest (omega (arith, small, size, length-take-le n chunk call.within)) kept))
 
 pub returns-in-Closed-clause-progress : goal.returns-in-Closed-clause-progress
 returns-in-Closed-clause-progress g c showing none =

@@ -10,6 +10,12 @@ use Rattle.wsn_capture.proofs.AcceptedLines.{accepted_count}
 use Rattle.wsn_show.proofs.ShownInputs.{begins, stopped, ended, goes_on, stops_here}
 use Rattle.wsn_show.proofs.showing.show.Goals as goal
 
+pub new-capture-requires-clause-client : goal.new-capture-requires-clause-client
+new-capture-requires-clause-client g c = c.requires.client
+
+pub new-capture-requires-clause-server : goal.new-capture-requires-clause-server
+new-capture-requires-clause-server g c = c.requires.server
+
 pub loop-count-init : goal.loop-count-init
 loop-count-init g c = record {
   read = begins c.args.limits c.args.style c.args.input.now c.args.output.now c.new-capture.result c.new-lines.result c.new-lines.ensures

@@ -9,6 +9,9 @@ use Rattle.wsn_show.specs.StreamShows.{IsStreamShown}
 use Rattle.wsn_show.proofs.ShownStreamInputs.{begins, stopped, ended, write_failed, refuses, goes_on}
 use Rattle.wsn_show.proofs.stream_showing.show_stream.Goals as goal
 
+pub new-stream-requires : goal.new-stream-requires
+new-stream-requires g c = c.requires.memory
+
 pub loop-len-init : goal.loop-len-init
 loop-len-init g c = record {
   read = ([], begins c.args.role c.args.limits c.args.style c.args.input.now c.new-chunks.result c.args.output.now c.new-stream.result (c.new-chunks.ensures c.args.input.now c.requires.readable) c.new-stream.ensures c.requires.writable);

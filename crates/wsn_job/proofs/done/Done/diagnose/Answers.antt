@@ -19,5 +19,8 @@ returns-in-Judge g c = search rules
 pub returns-in-Payload : goal.returns-in-Payload
 returns-in-Payload g c = search rules
 
+pub returns-in-Memory : goal.returns-in-Memory
+returns-in-Memory g c = search rules
+
 pub returns-in-RedactCapture : goal.returns-in-RedactCapture
 returns-in-RedactCapture g c = search rules

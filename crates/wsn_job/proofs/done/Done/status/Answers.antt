@@ -19,5 +19,8 @@ returns-in-Payload g c = search rules
 pub returns-in-Redact : goal.returns-in-Redact
 returns-in-Redact g c = search rules
 
+pub returns-in-Memory : goal.returns-in-Memory
+returns-in-Memory g c = search rules
+
 pub returns-in-RedactCapture : goal.returns-in-RedactCapture
 returns-in-RedactCapture g c = search rules

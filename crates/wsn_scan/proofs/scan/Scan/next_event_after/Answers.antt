@@ -1,12 +1,11 @@
 use Rattle.std.proofs.Common.{ℕ, ◌-◌, [], ◌∷◌, true, refl, sym, ap, ◌∙◌, subst, arith, rules}
-use Rattle.wsn_wire.specs.Frame.{IsBytes, first_byte}
+use Rattle.wsn_wire.specs.Frame.{first_byte}
 use Rattle.wsn_wire.specs.declared.opcode.Op.{Op}
 use Rattle.wsn_scan.specs.declared.part.Taken.TheVariants as taken
 use Rattle.wsn_scan.specs.Scans.{AdvancesFrom}
 use Rattle.wsn_scan.proofs.EventParts.{event_part}
 use Rattle.wsn_rules.specs.declared.head_info.HeadInfo.{HeadInfo}
-use Rattle.wsn_frame.specs.declared.fragment_law.FrameContext.{FrameContext}
-use Rattle.wsn_scan.specs.EventFrames.{IsEventFrame, info_found, whole_part}
+use Rattle.wsn_scan.specs.EventFrames.{info_found, whole_part}
 use Rattle.wsn_scan.specs.Feeding.{ConsumesPrefix}
 use Rattle.wsn_scan.proofs.EventHeads.{event_head}
 use Rattle.wsn_scan.proofs.EventRuns.{IsPastEvent, after_frames, takes_event}
@@ -19,8 +18,6 @@ returns-clause-taken c in_chunk =
     let frame = c.in_ok-frame.frame in
     let found = c.in_ok-frame.ensures in
     let idle = c.is_idle.ensures c.if-not-is_idle.false in
-    let is_event : IsBytes chunk → IsEventFrame self.context.role self.context.limits chunk c.take_event_after.new.chunk frame =
-    λ in_bytes. subst (λ (k : FrameContext). IsEventFrame k.role k.limits chunk c.take_event_after.new.chunk frame) c.idle_context-context.ensures (found.taken in_bytes) in
     let next = after_frames self frame.size c.with-self.result in
     let past : IsPastEvent self next frame = record {
       idle = idle;
@@ -30,7 +27,7 @@ returns-clause-taken c in_chunk =
       used = refl;
       counts = c.with-self.ensures;
     } in
-    let takes = takes_event self next chunk c.take_event_after.new.chunk frame idle past found.within.1 in_chunk (is_event in_chunk) in
+    let takes = takes_event self next chunk c.take_event_after.new.chunk frame idle past found.within.1 in_chunk (found.taken in_chunk) in
     subst (λ (head : HeadInfo). ConsumesPrefix self (record self { room = self.room - frame.size; used = c.taken-self.result; counts = c.with-self.result }) chunk frame.size (head ∷ [])) (sym c.info-head.ensures)
     (subst (λ (used : ℕ). ConsumesPrefix self (record self { room = self.room - frame.size; used = used; counts = c.with-self.result }) chunk frame.size (info_found self.used frame ∷ [])) (sym c.taken-self.ensures)
     (event_head self next chunk c.take_event_after.new.chunk frame idle takes))
@@ -43,8 +40,6 @@ returns-clause-part c =
     let frame = c.in_ok-frame.frame in
     let found = c.in_ok-frame.ensures in
     let idle = c.is_idle.ensures c.if-not-is_idle.false in
-    let is_event : IsBytes chunk → IsEventFrame self.context.role self.context.limits chunk c.take_event_after.new.chunk frame =
-    λ in_bytes. subst (λ (k : FrameContext). IsEventFrame k.role k.limits chunk c.take_event_after.new.chunk frame) c.idle_context-context.ensures (found.taken in_bytes) in
     let next = after_frames self frame.size c.with-self.result in
     let past : IsPastEvent self next frame = record {
       idle = idle;
@@ -56,7 +51,7 @@ returns-clause-part c =
     } in
     subst (λ (head : HeadInfo). AdvancesFrom self.stage self (record self { room = self.room - frame.size; used = c.taken-self.result; counts = c.with-self.result }) chunk after frame.size taken.Part (whole_part head frame.size)) (sym c.info-head.ensures)
     (subst (λ (used : ℕ). AdvancesFrom self.stage self (record self { room = self.room - frame.size; used = used; counts = c.with-self.result }) chunk after frame.size taken.Part (whole_part (info_found self.used frame) frame.size)) (sym c.taken-self.ensures)
-    (event_part self next chunk after frame idle (λ in_chunk. takes_event self next chunk after frame idle past found.within.1 in_chunk (is_event in_chunk)) found.within.0 (omega (arith, found.within, c.take_event_after.auto.chunk))))
+    (event_part self next chunk after frame idle (λ in_chunk. takes_event self next chunk after frame idle past found.within.1 in_chunk (found.taken in_chunk)) found.within.0 (omega (arith, found.within, c.take_event_after.auto.chunk))))
 
 pub returns-clause-first : goal.returns-clause-first
 returns-clause-first c = (
@@ -110,7 +105,7 @@ pub returns-then-not-is_idle-clause-none : goal.returns-then-not-is_idle-clause-
 returns-then-not-is_idle-clause-none c = search rules
 
 pub take_event_after-requires-clause-none_open : goal.take_event_after-requires-clause-none_open
-take_event_after-requires-clause-none_open c = ap (λ (k : FrameContext). k.message) c.idle_context-context.ensures
+take_event_after-requires-clause-none_open c = search rules
 
 pub returns-in_err-frame-clause-taken : goal.returns-in_err-frame-clause-taken
 returns-in_err-frame-clause-taken c = search rules

@@ -1,8 +1,7 @@
 use Rattle.std.proofs.Common.{◌≡◌, ◌+◌, ◌-◌, ◌≤◌, List, ℕ, length, drop, refl, sym, ap, ◌∙◌, subst, arith, length-drop, rules}
 use borrow.Rule.Slice.PartMut.{mid_of, put_mid, put_same, same_len_mid}
 use Rattle.wsn_wire.specs.Frame.{IsBytes}
-use Rattle.wsn_frame.specs.declared.fragment_law.FrameContext.{FrameContext}
-use Rattle.wsn_scan.specs.EventFrames.{IsEventFrame, TakesEvents}
+use Rattle.wsn_scan.specs.EventFrames.{TakesEvents}
 use Rattle.wsn_scan.proofs.EventRuns.{IsPastEvent, after_frames, begins, takes_event, goes_on, taken_with}
 use Rattle.wsn_scan.proofs.FedChunks.{bytes_below, bytes_after, share_is, kept_after, same_further}
 use Rattle.wsn_scan.proofs.scan.Scan.take_events.Goals as goal
@@ -44,8 +43,7 @@ loop-frame-preserved c =
       used = refl;
       counts = c.with-counts.ensures;
     } in
-    let is_event = subst (λ (k : FrameContext). IsEventFrame k.role k.limits share c.take_event.new.chunk frame) c.idle_context-context.ensures (found.taken in_share) in
-    let takes = takes_event before after share c.take_event.new.chunk frame known.idle past found.within.1 in_share is_event in
+    let takes = takes_event before after share c.take_event.new.chunk frame known.idle past found.within.1 in_share (found.taken in_share) in
     record {
       in_bytes = known.in_bytes;
       idle = known.idle;
@@ -117,7 +115,7 @@ pub slice_bounds-take_event-end : goal.slice_bounds-take_event-end
 slice_bounds-take_event-end c = search rules
 
 pub take_event-requires : goal.take_event-requires
-take_event-requires c = ap (λ (k : FrameContext). k.message) c.idle_context-context.ensures
+take_event-requires c = search rules
 
 pub overflow_add-at : goal.overflow_add-at
 overflow_add-at c = search rules

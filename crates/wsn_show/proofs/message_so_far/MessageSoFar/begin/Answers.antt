@@ -4,5 +4,5 @@ use Rattle.wsn_show.proofs.OpenMessages.{joined_first}
 use Rattle.wsn_show.proofs.message_so_far.MessageSoFar.begin.Goals as goal
 
 pub returns-then-self-eq0-clause-joined : goal.returns-then-self-eq0-clause-joined
-returns-then-self-eq0-clause-joined c fs f op offset kept =
+returns-then-self-eq0-clause-joined c n fs f op offset kept =
     joined_first (record c.args.self.now { op = c.args.op; offset = c.args.offset }) fs f (none_open fs c.args.self.now.frames kept.frames c.if-self-eq0.true) (sym op) offset

@@ -2,7 +2,7 @@ use Rattle.std.proofs.Common.{arith, length-append}
 use Rattle.wsn_show.proofs.stream_parts.StreamParts.add_bytes.Goals as goal
 
 pub returns : goal.returns
-returns c fs rest small kept =
+returns c n fs rest small kept =
     let own = kept.frame in
     record {
       message = kept.message;

@@ -17,9 +17,9 @@ none_and_some : {A X : Type 0} (head : Option X) (result : Bool) → head ≡ No
 none_and_some head result none is not_none = let both : false ≡ true = sym (ap is_some none) ∙ is ∙ ap not not_none in absurd cc
 
 pub returns-clause-character : goal.returns-clause-character
-returns-clause-character c fs at rest wrong keeps = by at wrong keeps
+returns-clause-character c n fs at rest wrong keeps = by at wrong keeps
   where
-    by : (at : Position) → GoesWrongAt TextBad fs at rest c.args.bytes.now → KeepsStream c.args.self.now fs at rest → Some (character_held c.bad_character.result) ≡ character_at TextBad fs at c.args.bytes.now
+    by : (at : Position) → GoesWrongAt TextBad fs at rest c.args.bytes.now → KeepsStream n c.args.self.now fs at rest → Some (character_held c.bad_character.result) ≡ character_at TextBad fs at c.args.bytes.now
     by BetweenFrames wrong keeps = none_and_some c.args.self.now.head c.is_none.result keeps.frame.head c.is_none.ensures c.if-is_none.false
     by (InFrame head payload) wrong keeps =
         let bytes = c.args.bytes.now in

@@ -38,11 +38,11 @@ returns-else-is_control g c role limits fs f rest lawful is small kept =
     let op : c.args.head.now.op ≡ f.op = ap (λ (h : HeadInfo). h.op) is in
     let final : f.fin ≡ true = sym (ap (λ (h : HeadInfo). h.fin) is) ∙ c.if-not-head.false in
     let other : is_control f.op ≡ false = sym (ap is_control op) ∙ sym c.is_control.ensures ∙ c.if-is_control.false in
-    let keeps = subst (KeepsMessage message fs) (part_of_data (info_of (length (stream fs)) f) f.payload other) kept.message in
+    let keeps = subst (KeepsMessage context.style.view message fs) (part_of_data (info_of (length (stream fs)) f) f.payload other) kept.message in
     let joined = kept.joined other in
     let shown = c.all_parts-event.result in
     let said = c.all_parts-event.ensures in
-    let represents = represents_joined context.style.view shown message fs f context.style.in_range (kind_of_data role limits fs f lawful other) keeps joined said.op said.bytes said.held in
+    let represents = represents_joined context.style.view shown message fs f (kind_of_data role limits fs f lawful other) keeps joined said.op said.bytes said.held in
     let frames = keeps.frames in
     let count : shown.frames ≡ length (unfinished fs ++ f ∷ []) = let own = said.frames (omega (arith, frames, small)) in omega (arith, own, frames, length-append (unfinished fs) (f ∷ [])) in
     let event = message_event role limits fs f lawful context.style.view message.offset shown other (said.op ∙ joined.op) represents count joined.offset in

@@ -14,8 +14,7 @@ pub returns-then-self-gt0 : goal.returns-then-self-gt0
 returns-then-self-gt0 g c role limits fs part lawful kept =
     let some : 0 < length (unfinished fs) = let frames = kept.frames in let more = c.if-self-gt0.true in omega (arith, frames, more) in
     let message = c.args.self.now.message in
-    let few = c.args.context.now.style.in_range in
-    let represents = represents_open role limits c.args.context.now.style.view c.complete_part.result message fs part few lawful some kept c.complete_part.ensures.op c.complete_part.ensures.bytes c.complete_part.ensures.held in
+    let represents = represents_open role limits c.args.context.now.style.view c.complete_part.result message fs part lawful some kept c.complete_part.ensures.op c.complete_part.ensures.bytes c.complete_part.ensures.held in
     let text = text_payload (unfinished fs) (group_of_lawful role limits fs lawful).begins in
     let is : open_item fs (unfinished fs) c.args.lacks ≡ Unfinished message.offset (Message (kind_of (unfinished fs)) (payload_of (unfinished fs))) c.complete_part.result.frames c.args.lacks =
     ap (λ (m : ℕ). Unfinished m (Message (kind_of (unfinished fs)) (payload_of (unfinished fs))) (length (unfinished fs)) c.args.lacks) (sym (kept.offset (group_some fs some)))

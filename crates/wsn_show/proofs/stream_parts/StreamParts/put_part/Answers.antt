@@ -41,10 +41,9 @@ returns-else-is_control g c role limits fs part rest lawful small sound kept =
     let f = frame_so_far head part in
     let group = unfinished fs ++ f ∷ [] in
     let event = Message (kind_of group) (payload_of group) in
-    let few = context.style.in_range in
-    let keeps = subst (KeepsMessage message fs) (part_of_data head part other) kept.message in
+    let keeps = subst (KeepsMessage context.style.view message fs) (part_of_data head part other) kept.message in
     let joined = kept.joined other in
-    let represents = represents_joined context.style.view c.all_parts.result message fs f few (sound.2 other) keeps joined c.all_parts.ensures.op c.all_parts.ensures.bytes c.all_parts.ensures.held in
+    let represents = represents_joined context.style.view c.all_parts.result message fs f (sound.2 other) keeps joined c.all_parts.ensures.op c.all_parts.ensures.bytes c.all_parts.ensures.held in
     let frames = keeps.frames in
     let count : length group ≡ c.all_parts.result.frames = let own = c.all_parts.ensures.frames (omega (arith, frames, small)) in omega (arith, own, frames, length-append (unfinished fs) (f ∷ [])) in
     let lacks : head.len - length part ≡ c.saturating_sub.result = ap (λ (m : ℕ). head.len - m) (sym (c.end.ensures.bytes ∙ kept.frame.last.count)) ∙ sym c.saturating_sub.ensures in

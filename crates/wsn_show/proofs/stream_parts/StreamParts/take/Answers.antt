@@ -13,10 +13,10 @@ returns-then-part g c role limits fs frames at position rest before share since 
     subst (λ (p : Position). ShowsPart fs p frames position since c.take_first.new.self c.args.context.now c.args.output.now c.take_first.new.output) (sym there.0)
     (c.take_first.ensures role limits fs frames position rest share since size
     (subst (λ (bs : List ℕ). IsTaken role limits fs rest bs part c.args.payload.now share frames position since) there.1 t)
-    (subst (λ (p : Position). KeepsStream c.args.self.now fs p rest) there.0 kept))
+    (subst (λ (p : Position). KeepsStream c.args.context.now.style.view c.args.self.now fs p rest) there.0 kept))
 
 pub returns-else-part : goal.returns-else-part
 returns-else-part g c role limits fs frames at position rest before share since size is_at t kept =
     let there = goes_on_at at c.args.part.now before is_at c.if-part.false in
     subst (λ (p : Position). ShowsPart fs p frames position since c.take_more.new.self c.args.context.now c.args.output.now c.take_more.new.output) (sym there)
-    (c.take_more.ensures role limits fs frames position rest before share since size t (subst (λ (p : Position). KeepsStream c.args.self.now fs p rest) there kept))
+    (c.take_more.ensures role limits fs frames position rest before share since size t (subst (λ (p : Position). KeepsStream c.args.context.now.style.view c.args.self.now fs p rest) there kept))

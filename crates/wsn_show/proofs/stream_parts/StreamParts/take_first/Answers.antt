@@ -17,14 +17,14 @@ returns-then-is_event g c role limits fs frames position rest share since size t
     let f = e.frame in
     let alone = c.is_event.ensures c.if-is_event.true in
     let said = c.whole_event-event.ensures in
-    let shown = alone_event role limits fs f part.head payload e.is message alone kept.message context.style.view c.whole_event-event.result context.style.in_range said.op said.bytes said.held said.frames in
+    let shown = alone_event role limits fs f part.head payload e.is context.style.view message alone kept.message c.whole_event-event.result said.op said.bytes said.held said.frames in
     let event = c.put_event.ensures role limits fs f [] (lawful_front role limits fs (f ∷ []) e.is.lawful) kept.message shown in
     let whole = e.size in
-    let keeps = c.next.ensures fs (fs ++ f ∷ []) BetweenFrames rest (omega (arith, whole, size)) e.small kept.frame (alone_kept role limits fs f part.head payload e.is message alone kept.message) in
+    let keeps = c.next.ensures context.style.view fs (fs ++ f ∷ []) BetweenFrames rest (omega (arith, whole, size)) e.small kept.frame (alone_kept role limits fs f part.head payload e.is context.style.view message alone kept.message) in
     shows_first fs part.head frames position since c.next.new.self context c.args.output.now mid new c.put_begun.ensures
     (e.shows c.next.new.self context mid new keeps (subst (Prints context mid new) (sym (end_is context.style.detail fs f (alone_final role limits fs f part.head payload e.is message alone))) event))
 
 pub returns-else-part : goal.returns-else-part
 returns-else-part g c role limits fs frames position rest share since size t kept =
     shows_first fs c.args.part.now.head frames position since c.take_more.new.self c.args.context.now c.args.output.now c.put_begun.new.output c.take_more.new.output c.put_begun.ensures
-    (c.take_more.ensures role limits fs frames position rest [] share since size t (c.begin.ensures fs rest kept))
+    (c.take_more.ensures role limits fs frames position rest [] share since size t (c.begin.ensures c.args.context.now.style.view fs rest kept))

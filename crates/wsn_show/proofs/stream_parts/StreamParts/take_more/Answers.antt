@@ -8,16 +8,16 @@ pub returns-then-part : goal.returns-then-part
 returns-then-part g c role limits fs frames position rest before share since size t kept =
     let part = c.args.part.now in
     let small = t.small in
-    let in_all = c.add_payload.ensures fs before rest share size (omega (arith, small, size)) t.few_bytes kept in
+    let in_all = c.add_payload.ensures c.args.context.now.style.view fs before rest share size (omega (arith, small, size)) t.few_bytes kept in
     let e = ends role limits fs rest before part c.args.payload.now share frames position since t c.if-part.true in
-    let there = subst (λ (p : Position). KeepsStream c.add_payload.new.self fs p (rest ++ share)) e.position_is in_all in
+    let there = subst (λ (p : Position). KeepsStream c.args.context.now.style.view c.add_payload.new.self fs p (rest ++ share)) e.position_is in_all in
     let whole = e.size in
     e.shows c.end.new.self c.args.context.now c.args.output.now c.put_end.new.output
-    (c.end.ensures fs e.frame (rest ++ share) e.is.head_is (omega (arith, whole, length-append rest share)) e.small t.few_frames there)
+    (c.end.ensures c.args.context.now.style.view fs e.frame (rest ++ share) e.is.head_is (omega (arith, whole, length-append rest share)) e.small t.few_frames there)
     (c.put_end.ensures role limits fs e.frame (rest ++ share) e.is.lawful e.is.head_is t.few_frames there)
 
 pub returns-else-part : goal.returns-else-part
 returns-else-part g c role limits fs frames position rest before share since size t kept =
     let small = t.small in
     within role limits fs rest before c.args.part.now c.args.payload.now share frames position since t c.if-part.false c.add_payload.new.self c.args.context.now c.args.output.now
-    (c.add_payload.ensures fs before rest share size (omega (arith, small, size)) t.few_bytes kept)
+    (c.add_payload.ensures c.args.context.now.style.view fs before rest share size (omega (arith, small, size)) t.few_bytes kept)

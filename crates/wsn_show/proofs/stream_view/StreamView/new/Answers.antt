@@ -16,7 +16,7 @@ invariant_of-result c = record {
     input = c.input.ensures.value;
     room = let is = c.input-2.ensures.value in omega (arith, is);
     shown = [];
-    has = nothing_shown c.args.style.detail c.args.role c.args.limits c.new.result c.new-2.result c.new.ensures c.new-2.ensures;
+    has = nothing_shown c.args.style c.args.role c.args.limits c.new.result c.new-2.result c.new.ensures (c.new-2.ensures c.args.style.view c.requires);
   };
 }
 
@@ -28,5 +28,5 @@ returns c = record {
   input = c.input.ensures.value;
   room = let is = c.input-2.ensures.value in omega (arith, is);
   shown = [];
-  has = nothing_shown c.args.style.detail c.args.role c.args.limits c.new.result c.new-2.result c.new.ensures c.new-2.ensures;
+  has = nothing_shown c.args.style c.args.role c.args.limits c.new.result c.new-2.result c.new.ensures (c.new-2.ensures c.args.style.view c.requires);
 }
