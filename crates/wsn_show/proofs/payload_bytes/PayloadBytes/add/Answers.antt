@@ -1,4 +1,4 @@
-use Rattle.std.proofs.Common.{◌≡◌, ◌+◌, ◌-◌, ℕ, List, length, take, min, refl, sym, ap, subst, ◌∙◌, arith, length-take-le}
+use Rattle.std.proofs.Common.{◌≡◌, ◌+◌, ◌-◌, ◌++◌, ℕ, List, length, take, min, refl, sym, ap, subst, ◌∙◌, arith, length-take-le}
 use Rattle.wsn_show.specs.PayloadsSoFar.{PayloadSoFar, HasPayload}
 use Rattle.wsn_show.proofs.MoreBytesHeld.{counted, first_more_in}
 use Rattle.wsn_show.proofs.payload_bytes.PayloadBytes.add.Goals as goal
