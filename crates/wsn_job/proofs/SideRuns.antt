@@ -1,5 +1,5 @@
 -- A job on a side whose read failed ended with the stop `Read`.
-use Rattle.std.proofs.Common.{◌≡◌, ℕ, true, false, Result, Ok, Err, List, refl, sym, ap, subst, inl, inr}
+use Rattle.std.proofs.Common.{◌≡◌, ℕ, true, false, Result, Ok, Err, List, refl, sym, ap, subst, inl, inr, ◌∙◌}
 use Rattle.wsn_wire.specs.declared.endpoint.Role.{Role}
 use Rattle.wsn_io.specs.Transfer.{Incoming, Outgoing}
 use Rattle.wsn_io.specs.declared.stop.Stop.{Stop}
