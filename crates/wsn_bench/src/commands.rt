@@ -1,3 +1,4 @@
+ghost use Rattle.std.specs.Prelude.{◌≤◌};
 ghost use Rattle.wsn_command.specs.Jobs.{MayRun};
 ghost use Rattle.wsn_job.specs.Sides.{MayRunOnSide};
 
@@ -28,7 +29,9 @@ pub fn lenient_limits() -> Limits {
 }
 
 /// The view that the program has without options.
-pub fn usual_view() -> ViewLimit {
+pub fn usual_view() -> ViewLimit
+    ensures { result ≤ 4096 }
+{
     ViewLimit::new(48).unwrap()
 }
 
