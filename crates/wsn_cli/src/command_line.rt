@@ -89,7 +89,7 @@ fn reads_captures(words: &[String]) -> bool {
 }
 
 /// The job that a command's name and arguments ask for. The error is `OffsetTooLarge` for an offset of 2^64 or more, and
-/// `ViewTooLarge` for a view over 4,096 bytes.
+/// `BadView` for a view over 4,096 bytes.
 fn job_of(name: &str, matches: &ArgMatches<'_>) -> Result<Job, Mistake>
     ensures may_run { IfOk result MayRun }
     ensures limits { IfOk result (λ job. AreAskedLimits (job_limits job)) }
@@ -109,7 +109,7 @@ fn job_of(name: &str, matches: &ArgMatches<'_>) -> Result<Job, Mistake>
         "plan" => Ok(Job::Plan(role, limits)),
         "closing" => Ok(Job::Closing(limits, format_of(matches))),
         "show" => {
-            let style = style_of(matches, limits).ok_or(Mistake::ViewTooLarge)?;
+            let style = style_of(matches, limits).ok_or(Mistake::BadView)?;
             Ok(show_of(matches, limits, style))
         }
         _ => Err(Mistake::Other),

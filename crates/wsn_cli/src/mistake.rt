@@ -17,8 +17,8 @@ pub enum Mistake {
     NoNumber,
     /// An offset is 2^64 or more.
     OffsetTooLarge,
-    /// A view is over 4,096 bytes.
-    ViewTooLarge,
+    /// A view is neither a number of bytes up to 4,096 nor `all`.
+    BadView,
     /// Two inputs are standard input.
     TwoStandardInputs,
     /// `--capture` for a command that reads captures alone, or without `--role`.
@@ -48,7 +48,7 @@ impl Mistake {
                 "usage: a number is written in digits alone: 5, not +5, 0x5 or 5.0",
             Mistake::OffsetTooLarge =>
                 "usage: --at takes an OFFSET that show prints: a number below 2^64",
-            Mistake::ViewTooLarge => "usage: --view takes a number of bytes, 0 to 4096, or all",
+            Mistake::BadView => "usage: --view takes a number of bytes, 0 to 4096, or all",
             Mistake::TwoStandardInputs =>
                 "usage: two inputs are standard input (-, or no FILE): name a file for one",
             Mistake::CaptureAsItIs =>

@@ -227,6 +227,7 @@ fn check_view(name: &str, matches: &ArgMatches<'_>) -> Result<(), Usage>
 {
     match (name, matches.get_str("view")) {
         ("show", Some("all")) => Ok(()),
+        ("show", _) => check_number(matches, "view").or(Err(Usage::Own(Mistake::BadView))),
         _ => check_number(matches, "view"),
     }
 }
