@@ -64,9 +64,11 @@ enum { WSN_SHORTEST = 0, WSN_ANY = 1 };
 enum { WSN_EVENTS = 0, WSN_FRAMES = 1 };
 
 /*
- * wsn_options.view: in hexadecimal half as many bytes are shown. WSN_VIEW_ALL:
- * of every payload all, with memory for one payload of each endpoint, and of
- * wsn_same_view 4,096 bytes.
+ * wsn_options.view: the maximum number of bytes of a payload that are shown; in
+ * hexadecimal half as many. WSN_VIEW_ALL: payloads are shown whole. Memory is
+ * then allocated, twice `limit` for each side that is shown: by default 64 MiB
+ * in wsn_show, 32 MiB in wsn_show_stream. wsn_same_view shows at most 4,096
+ * bytes of a payload, also where the view is for whole payloads.
  */
 enum { WSN_VIEW_ALL = 65535 };
 

@@ -390,6 +390,14 @@ def _number(name: str, value: int, least: int, most: int) -> int:
     return value
 
 
+def _view(value: Union[int, str]) -> int:
+    if value == "all":
+        return VIEW_ALL
+    if isinstance(value, bool) or not isinstance(value, int) or not 0 <= value <= VIEW_MAX:
+        raise ValueError(f'view is {value!r}; it must be a number from 0 to {VIEW_MAX} or "all"')
+    return value
+
+
 def _word(name: str, value: str, words: Tuple[str, ...]) -> int:
     if value not in words:
         raise ValueError(f"{name} must be one of {', '.join(words)}, not {value!r}")
@@ -416,7 +424,7 @@ def _options(
         without_pings=int("ping" in without),
         without_pongs=int("pong" in without),
         without_closes=int("close" in without),
-        view=VIEW_ALL if view == "all" else _number("view", view, 0, VIEW_MAX),
+        view=_view(view),
         limit=_number("limit", limit, 0, MESSAGE_MAX),
         frames=0 if frames is None else _number("frames", frames, 1, FRAMES_MAX),
     )

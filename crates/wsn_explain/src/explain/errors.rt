@@ -51,14 +51,15 @@ begins with a message can be judged alone; 'wsn frames' prints the offsets.
         words: &["out of memory"],
         text: "\
 out of memory: the system refused to give wsn memory.
-judge, frames, closing and show need little, always; but show --view all takes
-four times --limit. normal and same hold one message, at most --limit bytes.
-plan holds a step for each frame; recut holds the whole meaning of the stream,
-and its plan.
+judge, frames, payload, closing and show need little; but show --view all takes
+twice --limit for each side that is shown: 64 MiB for a capture by default, 32
+MiB with --role. normal and same hold one message, at most --limit bytes; plan a
+step for each frame; recut the whole meaning of the stream, and its plan.
 Usual causes: a limit on the process (ulimit -v, a container's); a recut of a
 very large stream.
-Next: raise the limit, or lower --limit for show, normal and same. For recut,
-cut the stream between two messages, where 'wsn frames' prints offsets.
+Next: for show use --view 4096, and 'wsn payload' for the one payload that is
+needed; else raise the limit. For recut, cut the stream between two messages,
+where 'wsn frames' prints offsets. A lower --limit refuses longer messages.
 ",
     },
     Entry {

@@ -40,8 +40,11 @@ completes, as the lines come; then closing's report:
     VIEW    the first bytes of the payload: a quoted text, or hexadecimal
             digits; of a Close its code and reason; - if there is nothing;
             then .. if bytes are left out
-With --view all each payload is printed whole, with memory for one of each side;
-SEEN, HEX and TEXT are as with --view 4096.
+With --view all each payload is printed whole; of an unfinished text, its whole
+characters. SEEN, HEX and the TEXT of bad-character are as with --view 4096: so
+a text that is refused isn't printed whole, and 'wsn payload --at OFFSET' writes
+it. Memory is allocated before anything is read, twice --limit for each side
+that is shown: 64 MiB for a capture by default, 32 MiB with --role.
 With --wire it prints frames, after SIDE and TIME as frames lists them, in place
 of events. With --role the input is one stream, without TIME; the verdict's line
 is last, and a refusal ends the reading.
