@@ -45,7 +45,6 @@ pub fn read_first_byte(b: u8) -> Result<FirstByte, Reason>
 
 /// Reads a frame's second byte; `f` is the first one (RFC 6455 sections 5.1, 5.2 and 5.5). An error is the first of
 /// `MaskMissing`, `MaskPresent`, `ControlTooLong` and `CloseOneByte` for which the byte is evidence.
-#[inline(always)]
 #[tactic(none)]
 pub fn read_second_byte(f: FirstByte, role: Role, b: u8) -> Result<LenForm, Reason>
     ensures read { IfOk result (IsSecondByteFor role b) }
