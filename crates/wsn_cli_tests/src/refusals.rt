@@ -3,7 +3,7 @@
 use crate::answer_lines::{expect_answer, expect_answers};
 
 /// A missing or unknown word, and a role or number out of its range.
-static WRONG: [&str; 49] = [
+static WRONG: [&str; 48] = [
     "wsn",
     "wsn other",
     "wsn judge",
