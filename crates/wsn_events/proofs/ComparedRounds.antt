@@ -14,7 +14,8 @@ use Rattle.wsn_events.specs.declared.comparing.Round.TheVariants.{Alike, Unlike}
 use Rattle.wsn_events.specs.declared.event_reader.EventReader.{EventReader}
 use Rattle.wsn_events.specs.Turns.{MeantTurn, OfEvent, OfVerdict}
 use Rattle.wsn_events.specs.EventReaders.{HasGiven, answered, events_ahead}
-use Rattle.wsn_events.specs.Comparing.{DifferAt, IsRoundOf}
+use Rattle.wsn_rules.specs.SameMeaning.{DifferAt}
+use Rattle.wsn_events.specs.Comparing.{IsRoundOf}
 use Rattle.wsn_events.proofs.ComparedEvents.{differ_sym, differ_more, differ_next, differ_end, differ_first}
 use Rattle.wsn_events.proofs.ComparedSources.{Gives, HasGivenNext}
 

@@ -15,7 +15,8 @@ use Rattle.wsn_rules.specs.declared.compared.Compared.TheVariants.{Equal, NotAcc
 use Rattle.wsn_events.specs.declared.event_reader.EventReader.{EventReader}
 use Rattle.wsn_events.specs.Turns.{MeantTurn, OfVerdict}
 use Rattle.wsn_events.specs.Sources.{IsLast}
-use Rattle.wsn_events.specs.Comparing.{IsFirstDifference, IsAnAccepted, HasStopped, IsComparisonBy}
+use Rattle.wsn_rules.specs.SameMeaning.{IsFirstDifference, IsAnAccepted}
+use Rattle.wsn_events.specs.Comparing.{HasStopped, IsComparisonBy}
 use Rattle.wsn_events.specs.Excerpts.{IsContrasted}
 use Rattle.wsn_events.proofs.ComparedSources.{HasFollowed, HasGivenNext}
 use Rattle.wsn_events.proofs.ComparedRounds.{IsDifferenceSoFar}

@@ -22,7 +22,8 @@ use Rattle.wsn_events.specs.declared.excerpt.Excerpt.{Excerpt}
 use Rattle.wsn_events.specs.declared.first_difference.FirstDifference.{FirstDifference}
 use Rattle.wsn_events.specs.Turns.{MeantTurn, OfEvent, OfVerdict}
 use Rattle.wsn_events.specs.Sources.{IsLast}
-use Rattle.wsn_events.specs.Comparing.{IsRoundOf, IsAnAccepted, IsComparedBy}
+use Rattle.wsn_rules.specs.SameMeaning.{IsAnAccepted}
+use Rattle.wsn_events.specs.Comparing.{IsRoundOf, IsComparedBy}
 use Rattle.wsn_events.specs.Excerpts.{IsKeptOf, HasKept, KeepsFirst, KeepsOf, index_in, AreExcerptsAt, HasExcerpts, answer_in, IsContrasted}
 use Rattle.wsn_events.specs.PayloadExcerpts.{event_given, ArePayloadsKept}
 use Rattle.wsn_events.proofs.StandingEvents.{StandsAt, Stands, stands_longer, excerpt_at, event_shown}

@@ -8,7 +8,8 @@ use Rattle.wsn_rules.specs.declared.compared.Compared.TheVariants.{Equal, Differ
 use Rattle.wsn_rules.specs.Limits.{Limits}
 use Rattle.wsn_rules.specs.LeftOut.{events_without}
 use Rattle.wsn_rules.specs.Meaning.{MeantEvent, meaning}
-use Rattle.wsn_events.specs.Comparing.{DifferAt, IsComparisonBy, IsComparedBy, IsCompared, IsComparisonOfBy, IsComparisonOf, all_events}
+use Rattle.wsn_rules.specs.SameMeaning.{DifferAt, IsComparisonOfBy, IsComparisonOf, all_events}
+use Rattle.wsn_events.specs.Comparing.{IsComparisonBy, IsComparedBy, IsCompared}
 use Rattle.wsn_events.proofs.LeftOut.{nothing, nothing_left_out}
 
 differ_in_all : (k : ℕ) (events others : List MeantEvent) → DifferAt k (events_without nothing events) (events_without nothing others) → DifferAt k events others

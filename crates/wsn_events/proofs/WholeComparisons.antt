@@ -15,7 +15,8 @@ use Rattle.wsn_scan.proofs.JudgedInputs.{whole_verdict}
 use Rattle.wsn_rules.proofs.OneVerdict.{one_verdict}
 use Rattle.wsn_rules.specs.declared.compared.Compared.{Compared}
 use Rattle.wsn_rules.specs.declared.compared.Compared.TheVariants.{Equal, Different, NotAccepted}
-use Rattle.wsn_events.specs.Comparing.{DifferAt, IsAnAccepted, HasVerdict, IsAcceptedOf, IsComparedBy, IsComparisonOfBy}
+use Rattle.wsn_rules.specs.SameMeaning.{DifferAt, IsAnAccepted, IsComparisonOfBy}
+use Rattle.wsn_events.specs.Comparing.{HasVerdict, IsAcceptedOf, IsComparedBy}
 use Rattle.wsn_events.proofs.ComparedEvents.{differ_not_equal, differ_once}
 use Rattle.wsn_rules.proofs.NormalLaws.{accepted_meaning}
 

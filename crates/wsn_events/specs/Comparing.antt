@@ -1,33 +1,21 @@
--- What comparing two streams of one role answers: whether both are accepted, and whether they mean the same. `part` is
--- the part of a stream's events that is compared.
-use Rattle.std.specs.Prelude.{◌≡◌, ◌≢◌, ℕ, ◌+◌, ◌⊎◌, true, false, Option, None, Some, Result, Ok, Err, List, take, slice_get, ⊤}
+-- What comparing two streams of one role answers as they are read: whether both are accepted, and whether they mean the
+-- same. `part` is the part of a stream's events that is compared.
+use Rattle.std.specs.Prelude.{◌≡◌, ◌≢◌, ℕ, ◌+◌, ◌⊎◌, true, false, Option, Some, Result, Ok, Err, List, ⊤}
 use Rattle.wsn_wire.specs.declared.endpoint.Role.{Role}
 use Rattle.wsn_wire.specs.declared.opcode.Kind.{Kind}
-use Rattle.wsn_wire.specs.Frame.{Frame}
 use Rattle.wsn_io.specs.Transfer.{Incoming, IsReceived}
 use Rattle.wsn_rules.specs.declared.verdict.Summary.{Summary}
 use Rattle.wsn_rules.specs.declared.verdict.Verdict.{Verdict, TheVariants.{Accepted}}
 use Rattle.wsn_io.specs.declared.stop.Stop.{Stop}
 use Rattle.wsn_rules.specs.Limits.{Limits}
-use Rattle.wsn_rules.specs.Accepted.{IsAccepted}
-use Rattle.wsn_rules.specs.Meaning.{MeantEvent, meaning}
-use Rattle.wsn_rules.specs.Verdict.{IsVerdict}
+use Rattle.wsn_rules.specs.Meaning.{MeantEvent}
+use Rattle.wsn_rules.specs.SameMeaning.{DifferAt, IsFirstDifference, IsAnAccepted, all_events}
 use Rattle.wsn_rules.specs.declared.compared.Compared.{Compared, TheVariants.{Equal, Different, NotAccepted}}
 use Rattle.wsn_events.specs.declared.comparing.Round.{Round, TheVariants.{Alike, Unlike, Over}}
 use Rattle.wsn_events.specs.declared.event_reader.EventReader.{EventReader}
 use Rattle.wsn_events.specs.Sources.{IsLast, IsHalted}
 use Rattle.wsn_events.specs.LentMessages.{held_bytes}
 use Rattle.wsn_events.specs.Turns.{MeantTurn, OfEvent, OfVerdict}
-
--- The first k events are the same, and then the lists differ: in the next event, or one list has ended.
-pub record DifferAt (k : ℕ) (events others : List MeantEvent) : Type 0 where
-  pub alike : take k events ≡ take k others
-  pub there : slice_get events k ≢ slice_get others k
-
--- The index at which two lists differ first; none if they are equal.
-abbrev pub IsFirstDifference : Option ℕ → List MeantEvent → List MeantEvent → Type 0
-IsFirstDifference None events others = events ≡ others
-IsFirstDifference (Some k) events others = DifferAt k events others
 
 -- The round that two turns make: the same event, two turns that differ, or both verdicts.
 abbrev pub IsRoundOf : MeantTurn → MeantTurn → Round → Type 0
@@ -45,11 +33,6 @@ pub record AreLentAlike {A : Type 0} (reading : EventReader A) (lent : Option Ki
   pub is : lent ≡ Some kind
   pub other_is : other_lent ≡ Some kind
   pub same : held_bytes reading ≡ held_bytes other
-
--- The verdict is accepted.
-abbrev pub IsAnAccepted : Verdict → Type 0
-IsAnAccepted (Accepted summary) = ⊤
-IsAnAccepted verdict = ⊥
 
 -- The stream was read to its verdict, which accepts the bytes that came, and these are its events.
 abbrev pub IsAcceptedOf : Role → Limits → Incoming → List ℕ → List MeantEvent → Type 0
@@ -104,31 +87,8 @@ pub record IsComparedBy (part : List MeantEvent → List MeantEvent) (role : Rol
   pub other_received : IsReceived (limits.input + 1) other_old other_new other_came
   pub answer : IsComparisonBy part role limits new came other_new other_came result
 
--- The answer is right for two streams with all of these bytes, by these parts of their meanings.
-abbrev pub IsComparisonOfBy : (List MeantEvent → List MeantEvent) → Role → Limits → List ℕ → List ℕ → Compared →
-    Type 0
-IsComparisonOfBy part role limits bytes others Equal =
-    (fs : List Frame) × (gs : List Frame) × IsAccepted role limits bytes fs × IsAccepted role limits others gs
-    × (part (meaning fs) ≡ part (meaning gs))
-IsComparisonOfBy part role limits bytes others (Different k) =
-    (fs : List Frame) × (gs : List Frame) × IsAccepted role limits bytes fs × IsAccepted role limits others gs
-    × DifferAt k (part (meaning fs)) (part (meaning gs))
-IsComparisonOfBy part role limits bytes others (NotAccepted false verdict) =
-    ((fs : List Frame) × IsVerdict role limits bytes fs verdict) × (IsAnAccepted verdict → ⊥)
-IsComparisonOfBy part role limits bytes others (NotAccepted true verdict) =
-    ((fs : List Frame) × IsAccepted role limits bytes fs)
-    × ((gs : List Frame) × IsVerdict role limits others gs verdict) × (IsAnAccepted verdict → ⊥)
-
 -- ---- all events
-
--- all of the events
-abbrev pub all_events : List MeantEvent → List MeantEvent
-all_events events = events
 
 -- The comparison of all events.
 abbrev pub IsCompared : Role → Limits → Incoming → Incoming → Incoming → Incoming → Result Compared Stop → Type 0
 IsCompared = IsComparedBy all_events
-
--- The answer is right for two streams with all of these bytes, by all of their events.
-abbrev pub IsComparisonOf : Role → Limits → List ℕ → List ℕ → Compared → Type 0
-IsComparisonOf = IsComparisonOfBy all_events

@@ -6,7 +6,8 @@ ghost use Rattle.wsn_rules.specs.Meaning.{MeantEvent, Message};
 ghost use Rattle.wsn_events.specs.Sources.{IsLast};
 ghost use Rattle.wsn_rules.specs.LeftOut.{events_without};
 ghost use Rattle.wsn_events.specs.Excerpts.{IsContrasted, KeepsFirst, KeepsOf, index_in};
-ghost use Rattle.wsn_events.specs.Comparing.{IsComparisonOutcome, IsAnAccepted, IsRoundOf, AreLentAlike, IsComparedBy, IsCompared, IsComparisonOfBy, IsComparisonOf};
+ghost use Rattle.wsn_rules.specs.SameMeaning.{IsAnAccepted, IsComparisonOfBy, IsComparisonOf};
+ghost use Rattle.wsn_events.specs.Comparing.{IsComparisonOutcome, IsRoundOf, AreLentAlike, IsComparedBy, IsCompared};
 ghost use Rattle.wsn_events.specs.Turns.{OfEvent, IsLawfulTurn, meant_next, meant_turn};
 ghost use Rattle.wsn_events.specs.LentMessages.{MayLend};
 

@@ -8,7 +8,7 @@ ghost use Rattle.wsn_wire.specs.declared.endpoint.Role.{Role};
 ghost use Rattle.wsn_rules.specs.Limits.{Limits, InRange};
 ghost use Rattle.wsn_rules.specs.Meaning.{MeantEvent};
 ghost use Rattle.wsn_rules.specs.declared.compared.Compared.{Compared};
-ghost use Rattle.wsn_events.specs.Comparing.{DifferAt, IsComparisonOf, IsComparisonOfBy};
+ghost use Rattle.wsn_rules.specs.SameMeaning.{DifferAt, IsComparisonOf, IsComparisonOfBy};
 ghost use Rattle.wsn_io.specs.Transfer.{Outgoing, IsWritten};
 ghost use Rattle.wsn_rules.specs.declared.verdict.Summary.{Summary};
 ghost use Rattle.wsn_rules.specs.declared.verdict.Verdict.{Verdict};

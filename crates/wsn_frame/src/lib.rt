@@ -9,17 +9,17 @@
 #![tactic(auto)]
 
 mod counts;
-mod fragment_law;
 mod heads;
 mod kept_message;
+mod message_law;
 mod parsing;
 mod payload_check;
 mod unmasking;
 
 pub use counts::Counts;
-pub use fragment_law::FrameContext;
 pub use heads::Head;
 pub use kept_message::{OpenMessage, message_after};
+pub use message_law::FrameContext;
 pub use parsing::{HEAD_MAX, Parsed, parse, whole_head, whole_head_after};
 pub use payload_check::{BadByte, CloseBody, PayloadCheck};
 pub use unmasking::unmask;

@@ -8,8 +8,8 @@ ghost use Rattle.wsn_rules.specs.Evidence.{EvidentByFirst};
 ghost use Rattle.wsn_frame.specs.KeptMessages.{IsOpenMessage};
 ghost use Rattle.wsn_frame.specs.PartialHeads.{HasTwoBytes, IsHeadPrefix, IsLengthRead, IsParsed, IsWithin};
 
-use crate::fragment_law::FrameContext;
 use crate::heads::Head;
+use crate::message_law::FrameContext;
 use wsn_wire::{FirstByte, LenForm, Lengths, Reason, Role};
 
 /// The maximum length of a head in bytes (RFC 6455 section 5.2).

@@ -24,7 +24,7 @@ use Rattle.wsn_events.proofs.WholeNormalForms.{of_all}
 use Rattle.wsn_plan.specs.declared.gathering.Gathered.{Gathered}
 use Rattle.wsn_plan.specs.declared.recutting.RecutAnswer.{RecutAnswer}
 use Rattle.wsn_plan.specs.declared.recutting.RecutAnswer.TheVariants.{NotAccepted}
-use Rattle.wsn_events.specs.Comparing.{IsAnAccepted}
+use Rattle.wsn_rules.specs.SameMeaning.{IsAnAccepted}
 use Rattle.wsn_events.proofs.Comparisons.{not_accepted}
 use Rattle.wsn_plan.specs.Recutting.{IsAnswerTo, GoesOut, IsRefragmented, Planner, IsRecutOf, IsRecut, IsRecutWhole}
 

@@ -27,7 +27,7 @@ use Rattle.wsn_plan.specs.declared.planning.PlanAnswer.TheVariants.{Plan}
 use Rattle.wsn_plan.specs.declared.recutting.RecutAnswer.{RecutAnswer}
 use Rattle.wsn_plan.specs.declared.recutting.RecutAnswer.TheVariants.{Done}
 use Rattle.wsn_plan.specs.Planning.{IsPlannedWhole, IsRestored}
-use Rattle.wsn_events.specs.Comparing.{IsAnAccepted}
+use Rattle.wsn_rules.specs.SameMeaning.{IsAnAccepted}
 use Rattle.wsn_plan.specs.Recutting.{IsAnswerTo, GoesOut, IsRecutWhole}
 use Rattle.wsn_plan.proofs.OneRecut.{one_recut_answer}
 

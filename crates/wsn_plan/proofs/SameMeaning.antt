@@ -16,7 +16,7 @@ use Rattle.wsn_rules.specs.Verdict.{IsVerdict}
 use Rattle.wsn_rules.proofs.LawfulMeaning.{lawful_meaning}
 use Rattle.wsn_rules.proofs.PlanTheory.RecutFrames.{recut_is_finished, recut_means, recut_is_accepted}
 use Rattle.wsn_plan.specs.declared.recutting.RecutAnswer.TheVariants.{Done}
-use Rattle.wsn_events.specs.Comparing.{IsAnAccepted}
+use Rattle.wsn_rules.specs.SameMeaning.{IsAnAccepted}
 use Rattle.wsn_plan.specs.Recutting.{IsRecutWhole, Planner}
 
 module _ (role : Role) (limits : Limits) (planned : Planner) (all : List ℕ) (before after : Outgoing) (range : InRange limits) (are_plans : (events : List MeantEvent) → IsPlan (planned events)) where

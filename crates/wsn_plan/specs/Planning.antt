@@ -18,7 +18,7 @@ use Rattle.wsn_scan.specs.Feeding.{HasScannedBytes, HasFed}
 use Rattle.wsn_scan.specs.Judging.{IsReached, IsStopped, IsWithinLimit}
 use Rattle.wsn_scan.specs.Positions.{Position}
 use Rattle.wsn_scan.specs.Scans.{HasScanned}
-use Rattle.wsn_events.specs.Comparing.{IsAnAccepted}
+use Rattle.wsn_rules.specs.SameMeaning.{IsAnAccepted}
 use Rattle.wsn_plan.specs.declared.planning.PlanAnswer.{PlanAnswer, TheVariants.{Plan, NotAccepted, Unfinished}}
 use Rattle.wsn_plan.specs.Gathering.{HasWholeFrame}
 

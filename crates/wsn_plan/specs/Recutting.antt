@@ -14,7 +14,7 @@ use Rattle.wsn_rules.specs.Fault.{IsFault}
 use Rattle.wsn_rules.specs.Recut.{recut_bytes}
 use Rattle.wsn_io.specs.declared.stop.Stop.{Stop}
 use Rattle.wsn_io.specs.declared.stop.Stop.TheVariants as stop
-use Rattle.wsn_events.specs.Comparing.{IsAnAccepted}
+use Rattle.wsn_rules.specs.SameMeaning.{IsAnAccepted}
 use Rattle.wsn_events.specs.Normalised.{IsWithinLimit}
 use Rattle.wsn_events.specs.Sources.{IsLast}
 use Rattle.wsn_plan.specs.declared.recutting.RecutAnswer.{RecutAnswer, TheVariants.{Done, NotAccepted, Fault}}

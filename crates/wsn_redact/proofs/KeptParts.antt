@@ -11,7 +11,7 @@ use Rattle.wsn_rules.specs.AfterClose.{HasNoClose}
 use Rattle.wsn_rules.specs.Group.{is_data, unfinished, first_op, payload_of}
 use Rattle.wsn_rules.proofs.Groups.{unfinished_control, unfinished_final, unfinished_more}
 use Rattle.wsn_rules.proofs.MessageText.{text_of_push}
-use Rattle.wsn_redact.specs.declared.redactor.Redactor.{Redactor}
+use Rattle.wsn_redact.specs.declared.redacted_payload.Redactor.{Redactor}
 use Rattle.wsn_redact.specs.Dues.{due_of}
 use Rattle.wsn_redact.specs.StandIns.{stood, due_after}
 use Rattle.wsn_redact.specs.Redaction.{zeros_for, is_text, is_of_text, redacted_payload}

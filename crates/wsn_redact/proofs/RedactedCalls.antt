@@ -13,7 +13,7 @@ use Rattle.wsn_scan.specs.FollowedScans.{IsCall}
 use Rattle.wsn_scan.specs.Scans.{refusal_in, room_of}
 use Rattle.wsn_scan.proofs.FollowedScans.{reached}
 use Rattle.wsn_scan.proofs.ReaderSteps.{refusal_by}
-use Rattle.wsn_redact.specs.declared.redactor.Redactor.{Redactor}
+use Rattle.wsn_redact.specs.declared.redacted_payload.Redactor.{Redactor}
 use Rattle.wsn_redact.specs.Redaction.{zeros_for}
 use Rattle.wsn_redact.specs.RedactedParts.{Rewrites, IsRedacting, HasRefused, HasRedacted, IsRunningFor}
 use Rattle.wsn_redact.proofs.RedactedSteps.{quiet, closed, part_step}

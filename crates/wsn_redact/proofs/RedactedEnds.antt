@@ -42,7 +42,7 @@ use Rattle.wsn_scan.specs.Parts.{unmasked_at}
 use Rattle.wsn_scan.specs.Positions.{Position, BetweenFrames, InFrame, begun_at}
 use Rattle.wsn_scan.specs.Scans.{HasScanned, IsAt, IsRefusedThere, refusal_in, refusal_at}
 use Rattle.wsn_scan.proofs.FollowedScans.{wire_payload_is, lawful_done, whole_is, unrefused_so_far, in_frame, between, refused_there, refused_begun}
-use Rattle.wsn_redact.specs.declared.redactor.Redactor.{Redactor}
+use Rattle.wsn_redact.specs.declared.redacted_payload.Redactor.{Redactor}
 use Rattle.wsn_redact.specs.Redaction.{zeros_for, is_text, is_of_text, IsRedactedPayload, IsRedactedRest, unjudged, IsRedactionAt, redacted_payload, redacted_frames}
 use Rattle.wsn_redact.specs.RedactedParts.{RefusesPart, KeepsAt, IsRestWritten, IsRedacting, HasRefused, IsBadReason, refused_part}
 use Rattle.wsn_redact.proofs.RedactedPayloads.{HasText, zeros-append, payload_is, are_redacted, length-redacted_payload}

@@ -24,7 +24,7 @@ use Rattle.wsn_scan.proofs.ChunksSoFar.{received, within_limit}
 use Rattle.wsn_scan.proofs.FollowedScans.{judged_so_far}
 use Rattle.wsn_scan.proofs.ReaderCalls.{refused_as}
 use Rattle.wsn_scan.proofs.Unrefused.{unrefused_first}
-use Rattle.wsn_redact.specs.declared.redactor.Redactor.{Redactor}
+use Rattle.wsn_redact.specs.declared.redacted_payload.Redactor.{Redactor}
 use Rattle.wsn_redact.specs.Redaction.{IsRedactionAt, IsRedaction}
 use Rattle.wsn_redact.specs.Redacting.{IsRedactionWith, IsRedactAnswer, IsRedactedInput, IsRedactedWhole}
 use Rattle.wsn_redact.specs.RedactedParts.{KeepsAt, HasRedacted, RedactsOn}

@@ -18,7 +18,7 @@ use Rattle.wsn_capture.specs.LineFaults.{IsAcceptedLine, AreAcceptedAfter}
 use Rattle.wsn_capture.specs.CaptureLines.{HasAccepted}
 use Rattle.wsn_capture.proofs.ClosingLines.{sent-push}
 use Rattle.wsn_capture.proofs.AcceptedLines.{own_bytes, no_bytes_in_nothing, no_bytes_in_mark}
-use Rattle.wsn_redact.specs.declared.redactor.Redactor.{Redactor}
+use Rattle.wsn_redact.specs.declared.redacted_payload.Redactor.{Redactor}
 use Rattle.wsn_redact.specs.declared.capture_redactor.CaptureRedactor.{CaptureRedactor}
 use Rattle.wsn_redact.specs.RedactedParts.{HasRedacted, RedactsOn}
 use Rattle.wsn_redact.specs.RedactedCaptures.{IsRedactedLine, AreRedactedLines, IsRedactedCapture}

@@ -30,7 +30,7 @@ use Rattle.wsn_scan.specs.Parts.{IsPart}
 use Rattle.wsn_scan.specs.Scans.{IsReachedBy}
 use Rattle.wsn_scan.specs.Positions.{Position, BetweenFrames, InFrame}
 use Rattle.wsn_scan.proofs.FollowedScans.{wire_payload_is, lawful_done, rest_few, in_frame, between, size_in_frame, reached, same_follows, is_between, reach, part_taken, part_follows, begins_at, goes_on_at}
-use Rattle.wsn_redact.specs.declared.redactor.Redactor.{Redactor}
+use Rattle.wsn_redact.specs.declared.redacted_payload.Redactor.{Redactor}
 use Rattle.wsn_redact.specs.Dues.{due_of}
 use Rattle.wsn_redact.specs.Redaction.{zeros_for, with_payload, redacted_payload, redacted_frames}
 use Rattle.wsn_redact.specs.RedactedParts.{replaced, TakesPart, KeepsOpen, KeepsIn, KeepsAt, IsRestWritten, IsRedacting}

@@ -19,7 +19,7 @@ use Rattle.wsn_rules.proofs.OneVerdict.{one_verdict}
 use Rattle.wsn_rules.specs.Limits.{Limits}
 use Rattle.wsn_rules.specs.AfterClose.{HasNoClose, EndsWithClose}
 use Rattle.wsn_rules.specs.Accepted.{IsAccepted}
-use Rattle.wsn_rules.specs.FragmentLaw.{GroupLaw}
+use Rattle.wsn_rules.specs.MessageLaw.{GroupLaw}
 use Rattle.wsn_rules.specs.Lawful.{FrameLaw, LawAt, IsLawful}
 use Rattle.wsn_rules.specs.Group.{is_data, unfinished, first_op, payload_of}
 use Rattle.wsn_rules.specs.Heads.{info_of, heads_from}

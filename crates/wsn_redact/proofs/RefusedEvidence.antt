@@ -23,7 +23,7 @@ use Rattle.wsn_rules.specs.Heads.{BeginsWithHead}
 use Rattle.wsn_rules.proofs.BegunHeads.{same_parts, head_came, encodable_begun, begun_is}
 use Rattle.wsn_rules.proofs.HeadsGoOn.{begins_two}
 use Rattle.wsn_rules.proofs.MessageText.{text_from_opcode}
-use Rattle.wsn_redact.specs.declared.redactor.Redactor.{Redactor}
+use Rattle.wsn_redact.specs.declared.redacted_payload.Redactor.{Redactor}
 use Rattle.wsn_redact.specs.Dues.{due_of}
 use Rattle.wsn_redact.specs.StandIns.{single_stand_in, IsRedacted, stood, due_after}
 use Rattle.wsn_redact.specs.Redaction.{is_text, is_of_text, IsRedactedData, IsRedactedPayload, redacted_payload, zeros_for}

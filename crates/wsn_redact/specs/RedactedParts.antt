@@ -20,7 +20,7 @@ use Rattle.wsn_scan.specs.declared.scan.Scan.{Scan}
 use Rattle.wsn_scan.specs.FollowedScans.{HasFollowed}
 use Rattle.wsn_scan.specs.Positions.{Position, BetweenFrames, InFrame}
 use Rattle.wsn_scan.specs.Scans.{HasScanned, refusal_in}
-use Rattle.wsn_redact.specs.declared.redactor.Redactor.{Redactor}
+use Rattle.wsn_redact.specs.declared.redacted_payload.Redactor.{Redactor}
 use Rattle.wsn_redact.specs.Dues.{due_of}
 use Rattle.wsn_redact.specs.StandIns.{single_stand_in, stood, due_after}
 use Rattle.wsn_redact.specs.Redaction.{zeros_for, is_text, is_of_text, redacted_payload, redacted_frames, IsRedactionAt}

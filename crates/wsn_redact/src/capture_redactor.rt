@@ -1,6 +1,6 @@
 use crate::redacted_line::{LINE_ROOM, redact_line};
+use crate::redacted_payload::Redactor;
 use crate::redacting::redact_chunk;
-use crate::redactor::Redactor;
 use wsn_capture::{BYTES_MAX, CaptureLines, LineEntry, LineFault};
 use wsn_rules::Limits;
 use wsn_scan::Scan;

@@ -20,8 +20,8 @@ pub mod examples;
 mod extension_names;
 pub mod laws;
 mod redacted_line;
+mod redacted_payload;
 mod redacting;
-mod redactor;
 mod stand_ins;
 
 pub use capture_redacting::{RedactStop, redact_capture};

@@ -6,7 +6,7 @@ ghost use Rattle.wsn_redact.specs.RedactedParts.{IsRunningFor, RedactsOn, Rewrit
 ghost use Rattle.wsn_redact.specs.Redaction.{zeros_for};
 ghost use Rattle.wsn_redact.specs.Redacting.{IsRedactedInput, IsRedactedWhole};
 
-use crate::redactor::Redactor;
+use crate::redacted_payload::Redactor;
 use std::io::{Read, Write};
 use wsn_io::{Input, Output, Stop, put_line};
 use wsn_rules::{Limits, Refusal, Verdict};

@@ -10,7 +10,7 @@ use Rattle.wsn_wire.specs.Frame.{Frame, is_control}
 use Rattle.wsn_text.specs.Utf8.{BeginsText}
 use Rattle.wsn_rules.specs.Limits.{Limits}
 use Rattle.wsn_rules.specs.Group.{is_data, with_frame, unfinished, first_op, payload_of}
-use Rattle.wsn_rules.specs.FragmentLaw.{GroupLaw}
+use Rattle.wsn_rules.specs.MessageLaw.{GroupLaw}
 use Rattle.wsn_rules.specs.Lawful.{LawAt, IsLawful}
 use Rattle.wsn_rules.specs.Meaning.{event_at, events_after, meaning}
 use Rattle.wsn_rules.proofs.Prefixes.{push-append, nil-push}

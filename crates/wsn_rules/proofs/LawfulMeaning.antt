@@ -10,7 +10,7 @@ use Rattle.wsn_wire.specs.Frame.{Frame, IsBytes, is_control}
 use Rattle.wsn_wire.proofs.FrameLemmas.{IsBytes-append}
 use Rattle.wsn_rules.specs.Limits.{Limits, InRange}
 use Rattle.wsn_rules.specs.Group.{is_data, with_frame, unfinished, first_op, kind_at, kind_of, payload_of}
-use Rattle.wsn_rules.specs.FragmentLaw.{GroupLaw}
+use Rattle.wsn_rules.specs.MessageLaw.{GroupLaw}
 use Rattle.wsn_rules.specs.Lawful.{LawAt, IsLawful, AreLawfulAfter, FrameLaw}
 use Rattle.wsn_rules.specs.Meaning.{MeantEvent, Message, Control, event_at, events_after, meaning}
 use Rattle.wsn_rules.proofs.Prefixes.{push-append}

@@ -18,7 +18,7 @@ use Rattle.wsn_text.proofs.Decide.{text_decided}
 use Rattle.wsn_text.proofs.Prefixes.{begins-nil, begins_or_first_bad}
 use Rattle.wsn_rules.specs.Limits.{Limits, InRange}
 use Rattle.wsn_rules.specs.Group.{is_data, unfinished, first_op, payload_of}
-use Rattle.wsn_rules.specs.FragmentLaw.{GroupLaw}
+use Rattle.wsn_rules.specs.MessageLaw.{GroupLaw}
 use Rattle.wsn_rules.specs.Lawful.{FrameLaw, LawAt}
 use Rattle.wsn_rules.specs.Evidence.{EvidentByPayload, IsOfText, EndsBad, EndsInside}
 use Rattle.wsn_rules.proofs.Groups.{IsGroup}

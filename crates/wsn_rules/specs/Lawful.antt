@@ -5,7 +5,7 @@ use Rattle.wsn_wire.specs.declared.opcode.Op.TheVariants.{Close}
 use Rattle.wsn_wire.specs.Frame.{Frame}
 use Rattle.wsn_rules.specs.Limits.{Limits}
 use Rattle.wsn_rules.specs.Group.{is_data, unfinished}
-use Rattle.wsn_rules.specs.FragmentLaw.{GroupLaw}
+use Rattle.wsn_rules.specs.MessageLaw.{GroupLaw}
 use Rattle.wsn_wire.specs.declared.length_encoding.Lengths.{Lengths}
 use Rattle.wsn_wire.specs.HeadLaw.{IsEncodedFor}
 use Rattle.wsn_text.specs.CloseBody.{IsCloseBody}

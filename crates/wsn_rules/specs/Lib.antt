@@ -3,7 +3,7 @@
 -- a stream that may be sent
 pub mod Limits
 pub mod Group
-pub mod FragmentLaw
+pub mod MessageLaw
 pub mod Lawful
 -- the meaning of a stream
 pub mod Meaning
@@ -16,6 +16,8 @@ pub mod Accepted
 pub mod Evidence
 pub mod Summary
 pub mod Verdict
+-- two streams
+pub mod SameMeaning
 -- the heads that are reported
 pub mod Heads
 -- recuts

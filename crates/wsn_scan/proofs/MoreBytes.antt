@@ -6,7 +6,7 @@ use Rattle.wsn_wire.proofs.FrameLemmas.{IsBytes-append}
 use Rattle.wsn_scan.specs.declared.scan.Scan.{Scan}
 use Rattle.wsn_frame.specs.declared.kept_message.OpenMessage.{OpenMessage}
 use Rattle.wsn_frame.specs.declared.counts.Counts.{Counts}
-use Rattle.wsn_frame.specs.declared.fragment_law.FrameContext.{FrameContext}
+use Rattle.wsn_frame.specs.declared.message_law.FrameContext.{FrameContext}
 use Rattle.wsn_rules.specs.Limits.{Limits}
 use Rattle.wsn_rules.specs.Group.{unfinished}
 use Rattle.wsn_frame.specs.KeptMessages.{IsOpenMessage}

@@ -17,7 +17,7 @@ use Rattle.wsn_rules.specs.declared.step.Step.{Step}
 use Rattle.wsn_rules.specs.declared.step.Step.TheVariants.{Piece}
 use Rattle.wsn_rules.specs.Limits.{Limits}
 use Rattle.wsn_rules.specs.Group.{first_op, payload_of}
-use Rattle.wsn_rules.specs.FragmentLaw.{GroupLaw}
+use Rattle.wsn_rules.specs.MessageLaw.{GroupLaw}
 use Rattle.wsn_rules.specs.Lawful.{FrameLaw}
 use Rattle.wsn_rules.specs.LawfulEvents.{IsLawfulMessage}
 use Rattle.wsn_rules.specs.NormalForm.{op_of}

@@ -14,7 +14,7 @@ use Rattle.wsn_rules.specs.declared.step.Step.{Step}
 use Rattle.wsn_rules.specs.declared.step.Step.TheVariants.{Piece, Last, Control}
 use Rattle.wsn_rules.specs.Limits.{Limits}
 use Rattle.wsn_rules.specs.Group.{unfinished, kind_at, kind_of, payload_of}
-use Rattle.wsn_rules.specs.FragmentLaw.{GroupLaw}
+use Rattle.wsn_rules.specs.MessageLaw.{GroupLaw}
 use Rattle.wsn_rules.specs.Lawful.{FrameLaw, LawAt}
 use Rattle.wsn_rules.specs.Meaning.{MeantEvent, event_at}
 use Rattle.wsn_rules.specs.Meaning as meant

@@ -5,7 +5,8 @@ use Rattle.wsn_rules.specs.Meaning.{Message}
 use Rattle.wsn_events.specs.declared.first_difference.FirstDifference.{FirstDifference}
 use Rattle.wsn_events.specs.declared.comparing.Round.{Round}
 use Rattle.wsn_events.specs.declared.comparing.Round.TheVariants.{Alike, Over}
-use Rattle.wsn_events.specs.Comparing.{IsAnAccepted, IsRoundOf}
+use Rattle.wsn_rules.specs.SameMeaning.{IsAnAccepted}
+use Rattle.wsn_events.specs.Comparing.{IsRoundOf}
 use Rattle.wsn_events.specs.LeavingOut.{ReadsTurn}
 use Rattle.wsn_events.specs.LentMessages.{lent_message}
 use Rattle.wsn_events.specs.Turns.{OfEvent, meant_turn}

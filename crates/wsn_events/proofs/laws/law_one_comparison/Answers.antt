@@ -1,4 +1,4 @@
-use Rattle.wsn_events.specs.Comparing.{all_events}
+use Rattle.wsn_rules.specs.SameMeaning.{all_events}
 use Rattle.wsn_events.proofs.WholeComparisons.{one_answer}
 use Rattle.wsn_events.proofs.laws.law_one_comparison.Goals as goal
 

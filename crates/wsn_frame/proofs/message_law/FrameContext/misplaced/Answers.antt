@@ -4,7 +4,7 @@ use Rattle.std.proofs.lemmas.Bool.{false≢true}
 use Rattle.wsn_wire.specs.Frame.{opcode}
 use Rattle.wsn_frame.specs.KeptMessages.{IsOpenMessage}
 use Rattle.wsn_rules.proofs.FrameBegins.{opcode_of_begins, control_not_data, nothing_to_continue, begins_message, message_is_open, too_many_frames, goes_on, control_between}
-use Rattle.wsn_frame.proofs.fragment_law.FrameContext.misplaced.Goals as goal
+use Rattle.wsn_frame.proofs.message_law.FrameContext.misplaced.Goals as goal
 use Rattle.wsn_rules.proofs.MessageText.{continue_from_opcode}
 
 pub returns-in-Continue : goal.returns-in-Continue

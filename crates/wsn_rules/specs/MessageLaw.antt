@@ -1,4 +1,4 @@
--- The law of a message's fragments: which data frame may follow which, how many, how long, and their text. RFC 6455
+-- The law of a message: which data frame may follow which, how many frames and bytes it may have, and its text. RFC 6455
 -- sections 5.4, 5.6 and 8.1.
 use Rattle.std.specs.Prelude.{◌≡◌, ◌≢◌, ◌≤◌, ◌↔◌, true, List, [], ◌∷◌, ◌++◌, length}
 use Rattle.std.specs.Option.{ForSome}

@@ -8,7 +8,7 @@ use Rattle.wsn_text.specs.Validated.{HasValidated}
 use Rattle.wsn_redact.specs.StandIns.{stood, due_after}
 use Rattle.wsn_redact.specs.Dues.{due_of}
 use Rattle.wsn_redact.proofs.ReplacedParts.{split_at_count, err_or_ok}
-use Rattle.wsn_redact.proofs.redactor.Redactor.replace_body.Goals as goal
+use Rattle.wsn_redact.proofs.redacted_payload.Redactor.replace_body.Goals as goal
 
 pub returns-clause-replaces : goal.returns-clause-replaces
 returns-clause-replaces c =

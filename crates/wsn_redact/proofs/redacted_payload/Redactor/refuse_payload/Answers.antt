@@ -3,7 +3,7 @@ use Rattle.std.proofs.lemmas.Grind.{common_steps}
 use Rattle.wsn_frame.specs.Payloads.{unmasked_by}
 use Rattle.wsn_redact.specs.Dues.{due_of}
 use Rattle.wsn_redact.proofs.ReplacedParts.{refused, last_at}
-use Rattle.wsn_redact.proofs.redactor.Redactor.refuse_payload.Goals as goal
+use Rattle.wsn_redact.proofs.redacted_payload.Redactor.refuse_payload.Goals as goal
 
 pub returns : goal.returns
 returns c = λ front last is.
