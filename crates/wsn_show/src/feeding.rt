@@ -10,6 +10,7 @@ ghost use Rattle.wsn_scan.specs.Scans.{room_of, refusal_in};
 ghost use Rattle.wsn_show.specs.ShownSoFar.{HasShown, HasShownFrames, ShowsMore, IsShowing};
 
 use crate::entry_context::EntryContext;
+use crate::following::TakenPart;
 use crate::stream_parts::StreamParts;
 use std::io::Write;
 use wsn_io::Output;
@@ -97,7 +98,12 @@ fn step<W: Write>(
         Taken::More => parts.add_bytes(bytes),
         Taken::Closed => parts.add_bytes(bytes),
         Taken::Part => {
-            parts.take(&part, &bytes[part.start..], count, output, context);
+            let taken = TakenPart {
+                part: &part,
+                payload: &bytes[part.start..],
+                size: count,
+            };
+            parts.take(&taken, output, context);
         }
         Taken::Refused => {
             if let Some(refusal) = scan.refusal() {

@@ -61,11 +61,4 @@ impl FirstBytes {
             held: self.held.as_slice(),
         }
     }
-
-    /// The first bytes that came.
-    pub fn held(&self) -> &[u8]
-        ensures { result.now ≡ self.now.held }
-    {
-        self.held.as_slice()
-    }
 }

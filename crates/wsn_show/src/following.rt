@@ -13,6 +13,16 @@ use wsn_rules::{HeadInfo, Refusal};
 use wsn_scan::Part;
 use wsn_wire::{Op, Reason};
 
+/// A part of a frame that the scan completed.
+#[derive(Clone, Copy)]
+pub struct TakenPart<'a> {
+    pub part: &'a Part,
+    /// Its payload, unmasked.
+    pub payload: &'a [u8],
+    /// The number of its bytes.
+    pub size: usize,
+}
+
 impl StreamParts<'_> {
     ghost use Rattle.std.specs.Prelude.{◌≡◌, ℕ, ◌+◌, ◌<◌, ◌^◌, List, [], ◌∷◌, ◌++◌, true, length};
     ghost use Rattle.wsn_wire.specs.Frame.{Frame, stream};
@@ -31,27 +41,24 @@ impl StreamParts<'_> {
     ghost use Rattle.wsn_show.specs.ShownItems.{Prints};
     ghost use Rattle.wsn_show.specs.TakenParts.{IsAlone, ShowsPart};
 
-    /// Takes a part of a frame, and prints what it completes. `payload` is its payload, unmasked, and `size` the number
-    /// of its bytes.
+    /// Takes a part of a frame, and prints what it completes.
     #[tactic(none)]
     pub fn take<W: Write>(
         &mut self,
-        part: &Part,
-        payload: &[u8],
-        size: usize,
+        taken: &TakenPart<'_>,
         output: &mut Output<W>,
         context: &EntryContext<'_>,
     )
         ensures { (role : Role) (limits : Limits) (fs frames : List Frame) (at position : Position)
-            (rest before share since : List ℕ) → length share ≡ size → IsPartAt at part.now before →
-            IsTaken role limits fs rest before part.now payload.now share frames position since →
+            (rest before share since : List ℕ) → length share ≡ taken.now.size → IsPartAt at taken.now.part.now before →
+            IsTaken role limits fs rest before taken.now.part.now taken.now.payload.now share frames position since →
             KeepsStream context.now.style.view self.old fs at rest →
             ShowsPart fs at frames position since self.new context.now output.old output.new }
     {
-        if part.begins {
-            self.take_first(part, payload, size, output, context);
+        if taken.part.begins {
+            self.take_first(taken, output, context);
         } else {
-            self.take_more(part, payload, size, output, context);
+            self.take_more(taken, output, context);
         }
     }
 
@@ -60,26 +67,25 @@ impl StreamParts<'_> {
     #[tactic(none)]
     fn take_first<W: Write>(
         &mut self,
-        part: &Part,
-        payload: &[u8],
-        size: usize,
+        taken: &TakenPart<'_>,
         output: &mut Output<W>,
         context: &EntryContext<'_>,
     )
         ensures { (role : Role) (limits : Limits) (fs frames : List Frame) (position : Position)
-            (rest share since : List ℕ) → length share ≡ size →
-            IsTaken role limits fs rest [] part.now payload.now share frames position since →
+            (rest share since : List ℕ) → length share ≡ taken.now.size →
+            IsTaken role limits fs rest [] taken.now.part.now taken.now.payload.now share frames position since →
             KeepsStream context.now.style.view self.old fs BetweenFrames rest →
             ShowsPart fs BetweenFrames frames position since self.new context.now output.old output.new }
     {
+        let part = taken.part;
         put_begun(output, context, &part.head);
         if part.ends && self.is_event(&part.head) {
-            let event = whole_event(part.head.op, payload);
+            let event = whole_event(part.head.op, taken.payload);
             self.put_event(output, context, part.head.offset, &event);
-            self.next(size);
+            self.next(taken.size);
         } else {
             self.begin(part.head);
-            self.take_more(part, payload, size, output, context);
+            self.take_more(taken, output, context);
         }
     }
 
@@ -87,20 +93,19 @@ impl StreamParts<'_> {
     #[tactic(none)]
     fn take_more<W: Write>(
         &mut self,
-        part: &Part,
-        payload: &[u8],
-        size: usize,
+        taken: &TakenPart<'_>,
         output: &mut Output<W>,
         context: &EntryContext<'_>,
     )
         ensures { (role : Role) (limits : Limits) (fs frames : List Frame) (position : Position)
-            (rest before share since : List ℕ) → length share ≡ size →
-            IsTaken role limits fs rest before part.now payload.now share frames position since →
-            KeepsStream context.now.style.view self.old fs (InFrame part.now.head before) rest →
-            ShowsPart fs (InFrame part.now.head before) frames position since self.new context.now output.old
+            (rest before share since : List ℕ) → length share ≡ taken.now.size →
+            IsTaken role limits fs rest before taken.now.part.now taken.now.payload.now share frames position since →
+            KeepsStream context.now.style.view self.old fs (InFrame taken.now.part.now.head before) rest →
+            ShowsPart fs (InFrame taken.now.part.now.head before) frames position since self.new context.now output.old
             output.new }
     {
-        self.add_payload(&part.head, payload, size);
+        let part = taken.part;
+        self.add_payload(&part.head, taken.payload, taken.size);
         if part.ends {
             self.put_end(output, context, &part.head);
             self.end(&part.head);

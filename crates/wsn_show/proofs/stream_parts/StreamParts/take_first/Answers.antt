@@ -8,8 +8,8 @@ use Rattle.wsn_show.proofs.stream_parts.StreamParts.take_first.Goals as goal
 pub returns-then-is_event : goal.returns-then-is_event
 returns-then-is_event g c role limits fs frames position rest share since size t kept =
     let context = c.args.context.now in
-    let part = c.args.part.now in
-    let payload = c.args.payload.now in
+    let part = c.args.taken.now.part.now in
+    let payload = c.args.taken.now.payload.now in
     let message = c.args.self.now.message in
     let mid = c.put_begun.new.output in
     let new = c.put_event.new.output in
@@ -26,5 +26,5 @@ returns-then-is_event g c role limits fs frames position rest share since size t
 
 pub returns-else-part : goal.returns-else-part
 returns-else-part g c role limits fs frames position rest share since size t kept =
-    shows_first fs c.args.part.now.head frames position since c.take_more.new.self c.args.context.now c.args.output.now c.put_begun.new.output c.take_more.new.output c.put_begun.ensures
+    shows_first fs c.args.taken.now.part.now.head frames position since c.take_more.new.self c.args.context.now c.args.output.now c.put_begun.new.output c.take_more.new.output c.put_begun.ensures
     (c.take_more.ensures role limits fs frames position rest [] share since size t (c.begin.ensures c.args.context.now.style.view fs rest kept))
