@@ -1,3 +1,4 @@
+mod after_close;
 mod events;
 mod feeding;
 mod heads;

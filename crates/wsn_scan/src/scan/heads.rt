@@ -113,10 +113,7 @@ impl Scan {
                 let inside = *inside;
                 self.next_payload(inside, chunk, part)
             }
-            Stage::Closed(_) => {
-                self.room -= chunk.len() as u64;
-                (chunk.len(), Taken::Closed)
-            }
+            Stage::Closed(_) => self.count_tail(chunk),
             Stage::Refused(_) => (0, Taken::Refused),
         }
     }

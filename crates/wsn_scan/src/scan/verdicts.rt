@@ -5,7 +5,7 @@ use crate::stage::Stage;
 use wsn_rules::{Summary, Verdict};
 
 impl Scan {
-    ghost use Rattle.std.specs.Prelude.{◌≡◌, ℕ, ◌-◌, ◌++◌, List, Some};
+    ghost use Rattle.std.specs.Prelude.{◌≡◌, ℕ, ◌++◌, List};
     ghost use Rattle.wsn_wire.specs.Frame.{Frame};
     ghost use Rattle.wsn_rules.specs.Heads.{AreHeads, heads_of};
     ghost use Rattle.wsn_scan.specs.Scans.{HasScanned, refusal_in, taken_of, summary_of, verdict_between, refusal_judged};
@@ -31,16 +31,6 @@ impl Scan {
         }
     }
 
-    /// After a Close: the bytes after it are the tail.
-    #[tactic(none)]
-    fn closed(&self, code: Option<u16>) -> Verdict
-        ensures { result ≡ Verdict.Accepted (summary_of self.now self.now.used (taken_of self.now - self.now.used)
-            (Some code)) }
-    {
-        let tail = self.taken().saturating_sub(self.used);
-        Verdict::Accepted(self.summary(self.used, tail, Some(code)))
-    }
-
     /// Between frames: accepted, or cut if a message is unfinished.
     #[tactic(none)]
     fn between(&self) -> Verdict
@@ -60,7 +50,7 @@ impl Scan {
         Verdict::Cut(self.summary(self.taken(), 0, None))
     }
 
-    fn summary(&self, used: u64, tail: u64, close: Option<Option<u16>>) -> Summary
+    pub(super) fn summary(&self, used: u64, tail: u64, close: Option<Option<u16>>) -> Summary
         ensures { result ≡ summary_of self.now used tail close }
     {
         let unfinished = match &self.context.message {

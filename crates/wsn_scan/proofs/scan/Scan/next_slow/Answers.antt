@@ -57,8 +57,8 @@ next_head-requires-in-Head c = search rules
 pub next_payload-requires : goal.next_payload-requires
 next_payload-requires c = search rules
 
-pub overflow_sub-self : goal.overflow_sub-self
-overflow_sub-self c = search rules
+pub count_tail-requires : goal.count_tail-requires
+count_tail-requires c = search rules
 
 pub returns-in-Between-2-clause-untouched : goal.returns-in-Between-2-clause-untouched
 returns-in-Between-2-clause-untouched c = search rules
