@@ -86,7 +86,6 @@ pub fn same_without<A: Allocator + Copy, R: Read, S: Read>(
 ///
 /// Errors: as [`same`].
 #[tactic(none)]
-#[inline(always)]
 pub fn contrast<A: Allocator + Copy, R: Read, S: Read>(
     alloc: A,
     first: &mut Input<R>,

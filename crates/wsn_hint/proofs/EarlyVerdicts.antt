@@ -12,14 +12,14 @@ use Rattle.wsn_rules.specs.Limits.{Limits}
 use Rattle.wsn_rules.specs.Verdict.{IsRefused, IsUnrefused}
 use Rattle.wsn_rules.proofs.OneVerdict.{one_verdict}
 use Rattle.wsn_rules.proofs.StaysRefused.{stays_refused}
-use Rattle.wsn_hint.specs.Hints.{HasVerdict, IsRefusedEarly}
+use Rattle.wsn_hint.specs.Hints.{IsVerdictOnBytes, IsRefusedEarly}
 
-pub accepted_unrefused : (role : Role) (limits : Limits) (bytes : List ℕ) (summary : Summary) → HasVerdict role limits bytes (Accepted summary) → IsUnrefused role limits bytes
+pub accepted_unrefused : (role : Role) (limits : Limits) (bytes : List ℕ) (summary : Summary) → IsVerdictOnBytes role limits bytes (Accepted summary) → IsUnrefused role limits bytes
 accepted_unrefused role limits bytes summary has fs offset reason refused =
     let same : Accepted summary ≡ Refused (record { offset = offset; reason = reason }) = (one_verdict role limits bytes has.0 fs (Accepted summary) (Refused (record { offset = offset; reason = reason })) has.1 refused).1 in
     absurd (cc same)
 
-pub cut_unrefused : (role : Role) (limits : Limits) (bytes : List ℕ) (summary : Summary) → HasVerdict role limits bytes (Cut summary) → IsUnrefused role limits bytes
+pub cut_unrefused : (role : Role) (limits : Limits) (bytes : List ℕ) (summary : Summary) → IsVerdictOnBytes role limits bytes (Cut summary) → IsUnrefused role limits bytes
 cut_unrefused role limits bytes summary has fs offset reason refused =
     let same : Cut summary ≡ Refused (record { offset = offset; reason = reason }) = (one_verdict role limits bytes has.0 fs (Cut summary) (Refused (record { offset = offset; reason = reason })) has.1 refused).1 in
     absurd (cc same)
@@ -29,7 +29,7 @@ within : (role : Role) (limits : Limits) (bytes : List ℕ) (fs : List Frame) (o
 within role limits bytes fs offset reason refused = grind (arith, length-append)
 
 -- What the first two bytes are refused for, every input is refused for that begins with them.
-pub refused_early : (role : Role) (limits : Limits) (first later : List ℕ) (refusal : Refusal) → HasVerdict role limits (take 2 first) (Refused refusal) → IsRefusedEarly role limits (first ++ later)
+pub refused_early : (role : Role) (limits : Limits) (first later : List ℕ) (refusal : Refusal) → IsVerdictOnBytes role limits (take 2 first) (Refused refusal) → IsRefusedEarly role limits (first ++ later)
 refused_early role limits first later refusal has =
     let split : take 2 first ++ (drop 2 first ++ later) ≡ first ++ later = sym (append_assoc (take 2 first) (drop 2 first) later) ∙ ap (λ (bs : List ℕ). bs ++ later) (take-append-drop 2 first) in
     record {
@@ -45,7 +45,7 @@ pub two_at_front : (bytes : List ℕ) → 2 ≤ length bytes → bytes ≡ get_o
 two_at_front bytes fact = grind arith
 
 -- The bytes are refused in one way.
-pub one_refusal : (role : Role) (limits : Limits) (bytes : List ℕ) (one other : Refusal) → HasVerdict role limits bytes (Refused one) → HasVerdict role limits bytes (Refused other) → one ≡ other
+pub one_refusal : (role : Role) (limits : Limits) (bytes : List ℕ) (one other : Refusal) → IsVerdictOnBytes role limits bytes (Refused one) → IsVerdictOnBytes role limits bytes (Refused other) → one ≡ other
 one_refusal role limits bytes one other of_one of_other =
     let same : Refused one ≡ Refused other = (one_verdict role limits bytes of_one.0 of_other.0 (Refused one) (Refused other) of_one.1 of_other.1).1 in
     cc

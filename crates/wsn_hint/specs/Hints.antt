@@ -12,8 +12,8 @@ use Rattle.wsn_rules.specs.Verdict.{IsRefused, IsVerdict, IsUnrefused}
 use Rattle.wsn_hint.specs.declared.hint.Hint.{Hint, TheVariants.{Empty, HttpHead, Capture, CaptureToShow, Hexadecimal, HexDump, OffsetDump, Compressed, Text, Pcap, PcapNg, Gzip, Tls, ByteOrderMark, OtherRole, Stream, Json, SmallLetters, Blanks, OtherText, Binary}}
 
 -- This is the verdict on the bytes.
-abbrev pub HasVerdict : Role → Limits → List ℕ → Verdict → Type 0
-HasVerdict role limits bytes verdict = (fs : List Frame) × IsVerdict role limits bytes fs verdict
+abbrev pub IsVerdictOnBytes : Role → Limits → List ℕ → Verdict → Type 0
+IsVerdictOnBytes role limits bytes verdict = (fs : List Frame) × IsVerdict role limits bytes fs verdict
 
 -- The bytes are refused at offset 0 or 1.
 pub record IsRefusedEarly (role : Role) (limits : Limits) (bytes : List ℕ) : Type 0 where
@@ -75,17 +75,17 @@ abbrev pub IsTextByte : ℕ → Type 0
 IsTextByte byte = (byte ≡ 9) ⊎ (byte ≡ 10) ⊎ (byte ≡ 13) ⊎ ((0x20 ≤ byte) × (byte ≤ 0x7e))
 
 -- The byte is a control character that no text has, not even one with the commands of a terminal or a printer.
-abbrev pub IsControl : ℕ → Type 0
-IsControl byte =
+abbrev pub IsBinaryControl : ℕ → Type 0
+IsBinaryControl byte =
     (byte ≤ 6) ⊎ ((14 ≤ byte) × (byte ≤ 26)) ⊎ ((28 ≤ byte) × (byte ≤ 31)) ⊎ (byte ≡ 127)
 
 -- All the bytes are of a text in ASCII, and they are more than three.
-abbrev pub IsText : List ℕ → Type 0
-IsText bytes = (3 < length bytes) × AllByRecursion IsTextByte bytes
+abbrev pub IsAsciiText : List ℕ → Type 0
+IsAsciiText bytes = (3 < length bytes) × AllByRecursion IsTextByte bytes
 
 -- One of the bytes is such a control character.
-abbrev pub HasControl : List ℕ → Type 0
-HasControl bytes = (byte : ℕ) × Contains bytes byte × IsControl byte
+abbrev pub HasBinaryControl : List ℕ → Type 0
+HasBinaryControl bytes = (byte : ℕ) × Contains bytes byte × IsBinaryControl byte
 
 -- The byte is a hexadecimal digit.
 abbrev pub IsHexDigit : ℕ → Type 0
@@ -214,7 +214,7 @@ HintFits limits bytes (OtherRole other) = IsUnrefused other limits (take 2 bytes
 HintFits limits bytes Stream = MayBeStream bytes
 HintFits limits bytes Compressed = (role : Role) × BeginsCompressed role limits bytes
 HintFits limits bytes Hexadecimal = IsHexText bytes
-HintFits limits bytes Text = IsText bytes
+HintFits limits bytes Text = IsAsciiText bytes
 HintFits limits bytes Capture = BeginsCapture bytes
 HintFits limits bytes Json = BeginsNoLine bytes × Begins (0x7b ∷ []) bytes
 HintFits limits bytes SmallLetters = BeginsSmall bytes
@@ -223,8 +223,8 @@ HintFits limits bytes CaptureToShow = BeginsCapture bytes
 HintFits limits bytes HttpHead = BeginsHttp bytes
 HintFits limits bytes HexDump = BeginsHexDump bytes
 HintFits limits bytes OffsetDump = BeginsOffsetDump bytes
-HintFits limits bytes OtherText = BeginsNoLine bytes × IsText bytes
-HintFits limits bytes Binary = BeginsNoLine bytes × HasControl bytes
+HintFits limits bytes OtherText = BeginsNoLine bytes × IsAsciiText bytes
+HintFits limits bytes Binary = BeginsNoLine bytes × HasBinaryControl bytes
 HintFits limits bytes hint = ⊥
 
 -- The hint fits a stream that begins with these bytes and is refused for this reason, where this endpoint is said to

@@ -1,6 +1,6 @@
 ghost use Rattle.std.specs.Prelude.{◌↔◌, IsTrue, IfSome, [], ◌∷◌};
 ghost use Rattle.wsn_rules.specs.Limits.{Limits};
-ghost use Rattle.wsn_hint.specs.Hints.{HintFits, IsFirstFit, BeginsNoLine, HasBlank, HasControl, IsControl, MayBeStream, MayBeginLine, capture_hints};
+ghost use Rattle.wsn_hint.specs.Hints.{HintFits, IsFirstFit, BeginsNoLine, HasBlank, HasBinaryControl, IsBinaryControl, MayBeStream, MayBeginLine, capture_hints};
 ghost use Rattle.wsn_hint.specs.declared.hint.Hint.TheVariants.{Binary, Blanks, Json, OtherText, SmallLetters};
 
 use crate::early_verdict::is_lawful_start;
@@ -46,7 +46,7 @@ fn file_hint(first: &[u8]) -> Option<Hint>
         [b'{', ..] => Some(Hint::Json),
         [b'c' | b's', b' ' | b'.', ..] => Some(Hint::SmallLetters),
         _ if first.len() > 3 && is_text(first) => Some(Hint::OtherText),
-        _ if has_control(first) => Some(Hint::Binary),
+        _ if has_binary_control(first) => Some(Hint::Binary),
         _ => None,
     }
 }
@@ -77,14 +77,14 @@ fn may_begin_line(byte: u8, next: u8) -> bool
 }
 
 /// Whether one of these bytes is a control character that no text has.
-fn has_control(first: &[u8]) -> bool
-    ensures { IsTrue result ↔ HasControl first.now }
+fn has_binary_control(first: &[u8]) -> bool
+    ensures { IsTrue result ↔ HasBinaryControl first.now }
 {
-    first.iter().any(|byte| is_control(*byte))
+    first.iter().any(|byte| is_binary_control(*byte))
 }
 
-fn is_control(byte: u8) -> bool
-    ensures { IsTrue result ↔ IsControl byte }
+fn is_binary_control(byte: u8) -> bool
+    ensures { IsTrue result ↔ IsBinaryControl byte }
 {
     matches!(byte, 0..=6 | 0x0e..=0x1a | 0x1c..=0x1f | 0x7f)
 }

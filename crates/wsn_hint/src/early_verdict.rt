@@ -1,7 +1,7 @@
 ghost use Rattle.std.specs.Prelude.{◌≡◌, ◌<◌, ◌≤◌, None, true, take, length, IfSome};
 ghost use Rattle.wsn_rules.specs.declared.verdict.Verdict.TheVariants.{Refused};
 ghost use Rattle.wsn_rules.specs.Verdict.{IsUnrefused};
-ghost use Rattle.wsn_hint.specs.Hints.{HasVerdict};
+ghost use Rattle.wsn_hint.specs.Hints.{IsVerdictOnBytes};
 
 use wsn_io::Input;
 use wsn_rules::{Limits, Refusal, Verdict};
@@ -10,7 +10,7 @@ use wsn_wire::Role;
 
 /// The verdict on the first two bytes alone; `None` if the input limit is less.
 pub fn early_verdict(first: &[u8], role: Role, limits: Limits) -> Option<Verdict>
-    ensures verdict { IfSome result (HasVerdict role limits (take 2 first.now)) }
+    ensures verdict { IfSome result (IsVerdictOnBytes role limits (take 2 first.now)) }
     ensures none { result ≡ None → limits.input < length (take 2 first.now) }
 {
     judge(&mut Input::lent(&first[..first.len().min(2)]), role, limits).ok()
@@ -31,7 +31,7 @@ pub fn is_lawful_start(first: &[u8], role: Role, limits: Limits) -> bool
 
 /// The refusal for which the first two bytes are evidence.
 pub fn early_refusal(first: &[u8], role: Role, limits: Limits) -> Option<Refusal>
-    ensures refused { IfSome result (λ refusal. HasVerdict role limits (take 2 first.now) (Refused refusal)) }
+    ensures refused { IfSome result (λ refusal. IsVerdictOnBytes role limits (take 2 first.now) (Refused refusal)) }
     ensures none { result ≡ None → 2 ≤ limits.input → IsUnrefused role limits (take 2 first.now) }
 {
     match early_verdict(first, role, limits) {

@@ -14,7 +14,7 @@ use wsn_scan::{FrameReader, Part};
 use wsn_wire::Role;
 
 /// The number of bytes of a side that are read at once.
-const CHUNK: usize = 512;
+pub(crate) const CHUNK: usize = 512;
 
 /// Whether the frame with this offset in its payload has a key that isn't zero, and its payload is a text in ASCII as it
 /// was sent, as far as it is within the lines of these bytes (RFC 6455 section 5.3).

@@ -7,15 +7,12 @@ ghost use Rattle.wsn_hint.specs.SideHints.{AreExchanged, AreRefusedForMasks, Fit
 use crate::comments::{Said, is_said};
 use crate::hint::Hint;
 use crate::refused_sides::RefusedSides;
-use crate::sent_text::{is_line_as_text, is_sent_as_text};
+use crate::sent_text::{CHUNK, is_line_as_text, is_sent_as_text};
 use crate::streams::without_compression;
 use wsn_capture::{RefusedLine, RefusedLines, SideReader, Tails};
 use wsn_io::Input;
 use wsn_rules::{Limits, Refusal};
 use wsn_wire::{Reason, Role};
-
-/// The number of bytes of a side that are read at once.
-const CHUNK: usize = 512;
 
 /// The hint for a capture that begins with these bytes, its first 65,536 or all of them if there are fewer, whose lines
 /// are accepted, and of which these sides are refused.

@@ -3,7 +3,7 @@ ghost use Rattle.std.specs.List.{AllByRecursion};
 ghost use Rattle.wsn_rules.specs.declared.verdict.Refusal.{Refusal};
 ghost use Rattle.wsn_rules.specs.declared.verdict.Verdict.TheVariants.{Refused};
 ghost use Rattle.wsn_hint.specs.declared.hint.Hint.TheVariants.{Empty};
-ghost use Rattle.wsn_hint.specs.Hints.{HasVerdict, IsRefusedEarly, HintFits, FitsRefused, IsFirstFit, frame_hints, stream_hints, IsDataHead, BeginsCompressed, BeginsCapture, IsTextByte};
+ghost use Rattle.wsn_hint.specs.Hints.{IsVerdictOnBytes, IsRefusedEarly, HintFits, FitsRefused, IsFirstFit, frame_hints, stream_hints, IsDataHead, BeginsCompressed, BeginsCapture, IsTextByte};
 
 use crate::early_verdict::{early_refusal, is_lawful_start};
 use crate::formats::format_of;
@@ -23,7 +23,7 @@ pub fn hint_of(first: &[u8], role: Role, limits: Limits) -> Option<Hint>
     ensures empty { first.now ≡ [] → result ≡ Some Empty }
     ensures fits { IfSome result (HintFits limits first.now) }
     ensures first { 2 ≤ limits.input → (refusal : Refusal)
-        → HasVerdict role limits (take 2 first.now) (Refused refusal)
+        → IsVerdictOnBytes role limits (take 2 first.now) (Refused refusal)
         → IsFirstFit (FitsRefused role limits refusal.reason first.now) stream_hints result }
 {
     if first.is_empty() {

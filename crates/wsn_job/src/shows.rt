@@ -6,13 +6,13 @@ use crate::done::Done;
 use std::alloc::Allocator;
 use std::io::{Read, Write};
 use wsn_io::{Input, Output};
-use wsn_print::Style;
+use wsn_print::{Style, VIEW_MAX};
 use wsn_rules::Limits;
 use wsn_show::{show, show_stream};
 use wsn_wire::Role;
 
 /// The most bytes of a payload that are shown without an allocation.
-const SHORT: usize = 4_096;
+const SHORT: usize = VIEW_MAX as usize;
 
 /// Shows the capture on the input. With a view over 4,096 bytes, memory for the payloads of both endpoints is allocated
 /// first: if that fails, nothing is read or printed.

@@ -7,11 +7,12 @@ use crate::giving::{give_redacted, give_redacted_stream, give_shown, give_stream
 use crate::room::Room;
 use crate::settings::Settings;
 use wsn_io::{Input, Output};
+use wsn_print::VIEW_MAX;
 use wsn_redact::{redact, redact_capture};
 use wsn_show::{show, show_stream};
 
 /// The most bytes of a payload that are shown.
-const PAYLOAD_MAX: usize = 4_096;
+const PAYLOAD_MAX: usize = VIEW_MAX as usize;
 
 /// Shows what both sides of a capture said, in order, as `wsn show` does. The role counts for nothing. The text is
 /// composed in `scratch`. If it doesn't fit there, the call gives what fits, and the message `write failed`.

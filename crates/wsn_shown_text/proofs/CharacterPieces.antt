@@ -9,18 +9,18 @@ use Rattle.wsn_rules.specs.BadCharacter.{BadCharacter}
 use Rattle.wsn_print.specs.Json.{field, number_field}
 use Rattle.wsn_print.specs.EscapedText.{quoted_character, quoted}
 use Rattle.wsn_shown_text.specs.ShownObjects.{hex_field}
-use Rattle.wsn_shown_text.specs.CharacterText.{whole_characters, from_character, bytes_before, text_before, byte_escape, character_text, character_view, shown_bytes, truncated_text, character_object}
+use Rattle.wsn_shown_text.specs.CharacterText.{first_characters, from_character, bytes_before, text_before, byte_escape, character_text, character_view, shown_bytes, truncated_text, character_object}
 use Rattle.wsn_shown_text.proofs.HeldViews.{not_zero}
 use Rattle.wsn_shown_text.proofs.TextFronts.{whole_is_utf8}
 
 -- ---- the text before it
 
 -- The text at the front of bytes that is as long as their whole characters.
-pub first_text : (bytes text rest : List ℕ) → bytes ≡ text ++ rest → length text ≡ utf8_valid_len bytes → text ≡ whole_characters bytes
+pub first_text : (bytes text rest : List ℕ) → bytes ≡ text ++ rest → length text ≡ utf8_valid_len bytes → text ≡ first_characters bytes
 first_text bytes text rest is size =
     sym (ap (λ (n : ℕ). take n bytes) (sym size) ∙ ap (take (length text)) is ∙ take-append-le (length text) text rest (omega arith) ∙ take_all (length text) text (omega arith))
 
-pub no_text : (bytes : List ℕ) → length bytes ≡ 0 → [] ≡ whole_characters bytes
+pub no_text : (bytes : List ℕ) → length bytes ≡ 0 → [] ≡ first_characters bytes
 unfolding utf8_valid_len
 no_text [] none = refl
 no_text (b ∷ bytes) none = absurd (omega (arith, none))

@@ -17,7 +17,7 @@ use Rattle.wsn_rules.specs.Meaning.{MeantEvent, Message, Control}
 use Rattle.wsn_wire.specs.declared.opcode.Kind.TheVariants as kinds
 use Rattle.wsn_wire.specs.declared.opcode.Op.TheVariants as ops
 use Rattle.wsn_shown_text.specs.Views.Shown.{Code, NoCode}
-use Rattle.wsn_shown_text.specs.CharacterText.{whole_characters}
+use Rattle.wsn_shown_text.specs.CharacterText.{first_characters}
 use Rattle.wsn_shown_text.proofs.HeldViews.{take_held, as_view}
 use Rattle.wsn_shown_text.proofs.VisibleTexts.{front_is_utf8}
 
@@ -46,7 +46,7 @@ part_is_utf8 n text =
 pub shown_is_utf8 : (n : ℕ) (all shown : List ℕ) → shown ≡ take (text_part n all) all → IsUtf8 shown
 shown_is_utf8 n all shown is = subst IsUtf8 (sym is) (part_is_utf8 n all)
 
-pub whole_is_utf8 : (bytes : List ℕ) → IsUtf8 (whole_characters bytes)
+pub whole_is_utf8 : (bytes : List ℕ) → IsUtf8 (first_characters bytes)
 unfolding utf8_valid_len
 whole_is_utf8 bytes = front_is_utf8 bytes (length bytes)
 

@@ -20,8 +20,8 @@ from_character [] = []
 from_character (b ∷ bytes) = if is_continuation b then from_character bytes else b ∷ bytes
 
 -- The whole characters with which the bytes begin.
-abbrev pub whole_characters : List ℕ → List ℕ
-whole_characters bytes = take (utf8_valid_len bytes) bytes
+abbrev pub first_characters : List ℕ → List ℕ
+first_characters bytes = take (utf8_valid_len bytes) bytes
 
 -- The last n/2 bytes, at most 2,048.
 abbrev pub end_part : ℕ → List ℕ → List ℕ
@@ -39,7 +39,7 @@ bytes_before n evidence character =
 
 -- The characters before the bad one that are shown.
 abbrev pub text_before : ℕ → List ℕ → BadCharacter → List ℕ
-text_before n evidence character = whole_characters (from_character (bytes_before n evidence character))
+text_before n evidence character = first_characters (from_character (bytes_before n evidence character))
 
 -- Some of the message before the bad character isn't shown.
 abbrev pub leaves_out : ℕ → List ℕ → BadCharacter → Bool

@@ -1,6 +1,5 @@
-ghost use Rattle.std.specs.Prelude.{◌≡◌, [], ◌∷◌, ◌<◌, ◌≤◌, false, length, take, flat_map, IfOk};
+ghost use Rattle.std.specs.Prelude.{◌≡◌, [], ◌∷◌, ◌<◌, ◌≤◌, false, length, flat_map, IfOk};
 ghost use Rattle.std.specs.Str.{chars};
-ghost use Rattle.std.specs.Str.Lossy.{utf8_valid_len};
 ghost use Rattle.wsn_io.specs.Stops.{IsWrittenOrStops};
 ghost use Rattle.wsn_print.specs.EscapedText.{unicode_escape, ascii_escape};
 ghost use Rattle.wsn_shown_text.specs.AsciiText.{ascii_character, ascii_quoted};
@@ -14,16 +13,6 @@ const CHARACTER_MAX: usize = 12;
 
 /// The most bytes of a number below U+10000: `\u` and four digits.
 const UNIT_MAX: usize = 6;
-
-/// The whole characters with which bytes begin.
-pub(crate) fn first_characters(bytes: &[u8]) -> &str
-    ensures { result.now ≡ take (utf8_valid_len bytes.now) bytes.now }
-{
-    match bytes.utf8_chunks().next() {
-        Some(chunk) => chunk.valid(),
-        None => "",
-    }
-}
 
 /// Writes a text in printable ASCII characters between quotation marks.
 pub(crate) fn put_ascii_quoted<W: Write>(to: &mut Output<W>, text: &str) -> Result<(), Stop>

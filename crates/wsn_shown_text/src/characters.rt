@@ -4,12 +4,12 @@ ghost use Rattle.wsn_io.specs.Stops.{IsWrittenOrStops};
 ghost use Rattle.wsn_print.specs.Json.{number_field, field};
 ghost use Rattle.wsn_print.specs.EscapedText.{quoted};
 ghost use Rattle.wsn_print.specs.ShownParts.{IsEndOf, time_at, position_of, character_of, character_in};
-ghost use Rattle.wsn_shown_text.specs.CharacterText.{from_character, whole_characters, end_part, known_text, text_before, byte_escape, character_text, character_view, character_line, shown_bytes, truncated_text, character_object, character_fields};
+ghost use Rattle.wsn_shown_text.specs.CharacterText.{from_character, end_part, known_text, text_before, byte_escape, character_text, character_view, character_line, shown_bytes, truncated_text, character_object, character_fields};
 
 use crate::fronts::put_side;
 use crate::line_views::{put_hex, put_if};
 use crate::object_views::{put_hex_field, put_truncated};
-use crate::views::{end_of, front_of};
+use crate::views::{end_of, first_characters, front_of};
 use std::io::Write;
 use wsn_io::{Output, Stop, put_line};
 use wsn_print::{
@@ -138,7 +138,7 @@ pub(crate) fn text_before<'a>(end: &'a [u8], character: &ShownCharacter<'_>) -> 
         result.now ≡ text_before n evidence (character_of character.now) }
 {
     let before = front_of(end, end.len().saturating_sub(character.bytes.len()));
-    whole_characters(from_character(before))
+    first_characters(from_character(before))
 }
 
 /// The bytes from the first one on that begins a character.
@@ -152,17 +152,6 @@ fn from_character(bytes: &[u8]) -> &[u8]
         }
     }
     b""
-}
-
-/// The whole characters with which the bytes begin.
-#[tactic(none)]
-fn whole_characters(bytes: &[u8]) -> &str
-    ensures { result.now ≡ whole_characters bytes.now }
-{
-    match bytes.utf8_chunks().next() {
-        Some(chunk) => chunk.valid(),
-        None => "",
-    }
 }
 
 /// Writes bytes, each as `\x` and two digits.

@@ -65,7 +65,7 @@ pub(crate) enum Rest<'a> {
 
 /// Writes an item of an endpoint's stream in a format: an entry, such as `C - 0 text 5 1 "Hello"` or
 /// `S - 7 refused 11 text-bad 1007 4772fc`, for people in columns; and in lines another for the bad character of a text
-/// that is refused for one. A frame's own `place` isn't printed, but the front's offset. `Stop::Write` if the writer fails:
+/// that is refused for one. A frame's own `offset` isn't printed, but the front's. `Stop::Write` if the writer fails:
 /// a prefix of the text was written.
 #[inline(always)]
 pub fn put_entry<W: Write>(

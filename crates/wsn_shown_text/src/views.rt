@@ -3,10 +3,10 @@ ghost use Rattle.wsn_text.specs.Utf8.{BeginsText};
 ghost use Rattle.wsn_rules.specs.Meaning.{MeantEvent};
 ghost use Rattle.wsn_print.specs.DifferingPayloads.{IsPartOf};
 ghost use Rattle.wsn_print.specs.ShownParts.{Represents, HasText, HasTextPayload, IsFrontOf, IsEndOf, text_part};
+ghost use Rattle.wsn_shown_text.specs.CharacterText.{first_characters};
 ghost use Rattle.wsn_shown_text.specs.Views.{view_of_text, view_of_bytes, view_of_end, is_printable, view_of_body, view_of_close, view_of_event, view_of_unfinished, view_of_part, view_in, end_in};
 ghost use Rattle.wsn_shown_text.specs.Views.Shown.{Ascii, Hex, NoCode};
 
-use crate::ascii_text::first_characters;
 use wsn_print::{HeldBytes, PayloadPart, ShownEvent, ViewLimit};
 use wsn_text::whole_characters;
 use wsn_wire::Op;
@@ -200,6 +200,17 @@ fn is_printable(bytes: &[u8]) -> bool
         }
     }
     true
+}
+
+/// The whole characters with which bytes begin.
+#[tactic(none)]
+pub(crate) fn first_characters(bytes: &[u8]) -> &str
+    ensures { result.now ≡ first_characters bytes.now }
+{
+    match bytes.utf8_chunks().next() {
+        Some(chunk) => chunk.valid(),
+        None => "",
+    }
 }
 
 /// The first bytes, at most `most`.

@@ -4,7 +4,7 @@ use Rattle.wsn_rules.specs.declared.verdict.Refusal.{Refusal}
 use Rattle.wsn_rules.specs.declared.verdict.Verdict.TheVariants.{Refused}
 use Rattle.wsn_hint.specs.declared.hint.Hint.{Hint}
 use Rattle.wsn_hint.specs.declared.hint.Hint.TheVariants.{Capture}
-use Rattle.wsn_hint.specs.Hints.{HintFits, FitsRefused, HasVerdict, IsFirstFit, format_hints, frame_hints}
+use Rattle.wsn_hint.specs.Hints.{HintFits, FitsRefused, IsVerdictOnBytes, IsFirstFit, format_hints, frame_hints}
 use Rattle.wsn_hint.proofs.EarlyVerdicts.{one_refusal, refused_early}
 use Rattle.wsn_hint.proofs.FirstFits.{fits_of_first, first_of_more, first_after, first_past}
 use Rattle.wsn_hint.proofs.streams.hint_of.Goals as goal
@@ -15,13 +15,13 @@ returns-in_default-clause-first c = λ some refusal has.
 
 pub returns-then-is_capture_text-clause-refused : goal.returns-then-is_capture_text-clause-refused
 returns-then-is_capture_text-clause-refused c = λ given.
-    let own = subst (λ (o : Option Refusal). IfSome o (λ refusal. HasVerdict c.args.role c.args.limits (take 2 c.args.first.now) (Refused refusal))) c.in-Some.is c.early_refusal.ensures.refused in
+    let own = subst (λ (o : Option Refusal). IfSome o (λ refusal. IsVerdictOnBytes c.args.role c.args.limits (take 2 c.args.first.now) (Refused refusal))) c.in-Some.is c.early_refusal.ensures.refused in
     inr (λ later. refused_early c.args.role c.args.limits c.args.first.now later c.in-Some.refusal own)
 
 pub returns-in-Some-format_of : goal.returns-in-Some-format_of
 returns-in-Some-format_of c = record {
   refused = λ given.
-      let own = subst (λ (o : Option Refusal). IfSome o (λ refusal. HasVerdict c.args.role c.args.limits (take 2 c.args.first.now) (Refused refusal))) c.in-Some.is c.early_refusal.ensures.refused in
+      let own = subst (λ (o : Option Refusal). IfSome o (λ refusal. IsVerdictOnBytes c.args.role c.args.limits (take 2 c.args.first.now) (Refused refusal))) c.in-Some.is c.early_refusal.ensures.refused in
       inr (λ later. refused_early c.args.role c.args.limits c.args.first.now later c.in-Some.refusal own);
   fits = let fits = HintFits c.args.limits c.args.first.now in
       fits_of_first fits format_hints (Some c.in-Some-format_of.hint)
@@ -38,7 +38,7 @@ returns-in-Some-format_of c = record {
 
 pub returns-in-None-clause-refused : goal.returns-in-None-clause-refused
 returns-in-None-clause-refused c = λ given.
-    let own = subst (λ (o : Option Refusal). IfSome o (λ refusal. HasVerdict c.args.role c.args.limits (take 2 c.args.first.now) (Refused refusal))) c.in-Some.is c.early_refusal.ensures.refused in
+    let own = subst (λ (o : Option Refusal). IfSome o (λ refusal. IsVerdictOnBytes c.args.role c.args.limits (take 2 c.args.first.now) (Refused refusal))) c.in-Some.is c.early_refusal.ensures.refused in
     inr (λ later. refused_early c.args.role c.args.limits c.args.first.now later c.in-Some.refusal own)
 
 pub returns-in-None-clause-first : goal.returns-in-None-clause-first
@@ -47,7 +47,7 @@ returns-in-None-clause-first c = λ some refusal has.
     let role = c.args.role in
     let limits = c.args.limits in
     let result = c.frame_hint.result in
-    let own = subst (λ (o : Option Refusal). IfSome o (λ r. HasVerdict role limits (take 2 first) (Refused r))) c.in-Some.is c.early_refusal.ensures.refused in
+    let own = subst (λ (o : Option Refusal). IfSome o (λ r. IsVerdictOnBytes role limits (take 2 first) (Refused r))) c.in-Some.is c.early_refusal.ensures.refused in
     let same : c.in-Some.refusal ≡ refusal = one_refusal role limits (take 2 first) c.in-Some.refusal refusal own has in
     let fits = FitsRefused role limits refusal.reason first in
     first_past fits Capture (format_hints ++ frame_hints) result c.is_capture_text.result c.is_capture_text.ensures c.if-is_capture_text.false

@@ -1,7 +1,7 @@
 use Rattle.std.proofs.Common.{ap, sym, ◌∙◌}
 use Rattle.std.specs.Str.Lossy.{utf8_valid_len}
 use Rattle.wsn_shown_text.proofs.CharacterPieces.{first_text, no_text}
-use Rattle.wsn_shown_text.proofs.characters.whole_characters.Goals as goal
+use Rattle.wsn_shown_text.proofs.views.first_characters.Goals as goal
 
 pub returns-in-Some : goal.returns-in-Some
 returns-in-Some c =
