@@ -1,6 +1,6 @@
+use arrayvec::ArrayVec;
 use memchr::memchr;
 use std::marker::Model;
-use wsn_print::KeptBytes;
 
 /// A line of this many bytes is too long, whatever follows and whether or not a CR ends it.
 pub const BEGUN_MAX: usize = 8196;
@@ -8,7 +8,7 @@ pub const BEGUN_MAX: usize = 8196;
 /// Splits the chunks of a text into lines. It holds one line.
 #[derive(Drop)]
 pub struct Lines {
-    begun: KeptBytes<BEGUN_MAX>,
+    begun: ArrayVec<u8, BEGUN_MAX>,
 }
 
 impl Model for Lines {
@@ -16,11 +16,11 @@ impl Model for Lines {
 
     ghost Value = { List ℕ };
 
-    ghost view = { λ lines. lines.begun };
+    ghost view = { λ lines. lines.begun.items };
 }
 
 impl Lines {
-    ghost use Rattle.std.specs.Prelude.{◌≡◌, ◌+◌, ◌<◌, ◌≤◌, [], length, false, true};
+    ghost use Rattle.std.specs.Prelude.{◌≡◌, ◌+◌, ◌<◌, ◌≤◌, [], ◌++◌, length, false, true};
     ghost use Rattle.wsn_capture.specs.LineSplitters.{ContinuesLine, EndsLine};
 
     /// No line has begun.
@@ -28,7 +28,7 @@ impl Lines {
         ensures { result ≡ [] }
     {
         Lines {
-            begun: KeptBytes::new(),
+            begun: ArrayVec::new(),
         }
     }
 
@@ -45,14 +45,23 @@ impl Lines {
         let front = &chunk[..room.min(chunk.len())];
         match memchr(b'\n', front) {
             Some(end) => {
-                self.begun.add(&front[..end]);
+                self.add(&front[..end]);
                 (end + 1, true)
             }
             None => {
-                self.begun.add(front);
+                self.add(front);
                 (front.len(), self.begun.len() == BEGUN_MAX)
             }
         }
+    }
+
+    /// Adds bytes to the line, which fit.
+    #[tactic(none)]
+    fn add(&mut self, bytes: &[u8])
+        requires { length self.old + length bytes.now ≤ BEGUN_MAX }
+        ensures { self.new ≡ self.old ++ bytes.now }
+    {
+        let _fits = self.begun.try_extend_from_slice(bytes);
     }
 
     /// The line that has begun or ended.
