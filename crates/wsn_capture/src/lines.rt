@@ -1,4 +1,3 @@
-use arrayvec::ArrayVec;
 use memchr::memchr;
 use std::marker::Model;
 
@@ -8,15 +7,19 @@ pub const BEGUN_MAX: usize = 8196;
 /// Splits the chunks of a text into lines. It holds one line.
 #[derive(Drop)]
 pub struct Lines {
-    begun: ArrayVec<u8, BEGUN_MAX>,
+    begun: [u8; BEGUN_MAX],
+    /// The first `len` bytes are the line.
+    len: usize,
 }
 
 impl Model for Lines {
-    ghost use Rattle.std.specs.Prelude.{ℕ, List};
+    ghost use Rattle.std.specs.Prelude.{ℕ, ◌≤◌, List, take};
 
     ghost Value = { List ℕ };
 
-    ghost view = { λ lines. lines.begun.items };
+    ghost view = { λ lines. take lines.len lines.begun };
+
+    ghost invariant = { λ lines. lines.len ≤ 8196 };
 }
 
 impl Lines {
@@ -28,7 +31,8 @@ impl Lines {
         ensures { result ≡ [] }
     {
         Lines {
-            begun: ArrayVec::new(),
+            begun: [0; BEGUN_MAX],
+            len: 0,
         }
     }
 
@@ -41,7 +45,7 @@ impl Lines {
         ensures goes_on { result.1 ≡ false → ContinuesLine self.old self.new chunk.now result.0 }
         ensures ends { result.1 ≡ true → EndsLine self.old self.new chunk.now result.0 }
     {
-        let room = BEGUN_MAX - self.begun.len();
+        let room = BEGUN_MAX - self.len;
         let front = &chunk[..room.min(chunk.len())];
         match memchr(b'\n', front) {
             Some(end) => {
@@ -50,31 +54,32 @@ impl Lines {
             }
             None => {
                 self.add(front);
-                (front.len(), self.begun.len() == BEGUN_MAX)
+                (front.len(), self.len == BEGUN_MAX)
             }
         }
     }
 
     /// Adds bytes to the line, which fit.
-    #[tactic(none)]
     fn add(&mut self, bytes: &[u8])
         requires { length self.old + length bytes.now ≤ BEGUN_MAX }
         ensures { self.new ≡ self.old ++ bytes.now }
     {
-        let _fits = self.begun.try_extend_from_slice(bytes);
+        let end = self.len + bytes.len();
+        self.begun[self.len..end].copy_from_slice(bytes);
+        self.len = end;
     }
 
     /// The line that has begun or ended.
     pub fn line(&self) -> &[u8]
         ensures { result.now ≡ self.now }
     {
-        self.begun.as_slice()
+        &self.begun[..self.len]
     }
 
     /// Forgets the line.
     pub fn clear(&mut self)
         ensures { self.new ≡ [] }
     {
-        self.begun.clear();
+        self.len = 0;
     }
 }
