@@ -20,7 +20,7 @@
 pub mod laws;
 
 pub use wsn_capture::{
-    Capture, CaptureStop, LineFault, Outcome, Report, Side, SideReader, judge_capture, put_report,
+    Capture, CaptureStop, LineFault, Outcome, Report, Side, SideReader, judge_capture,
 };
 pub use wsn_events::{
     Compared, Event, Next, Small, Source, control_of, is_lawful, normalise, put_event, same,
@@ -31,6 +31,7 @@ pub use wsn_plan::{
     LineWhy, Plan, PlanAnswer, PlanFault, PlanFileFault, RecutAnswer, Step, UniformFrames, Why,
     plan_of, read_plan, read_plan_file, recut, recut_uniform, uniform, write_plan,
 };
+pub use wsn_print::put_report;
 pub use wsn_scan::{
     FrameReader, HeadInfo, INPUT_MAX, Limits, MESSAGE_MAX, Part, Refusal, Scan, Stop, Summary,
     Taken, Verdict, judge,

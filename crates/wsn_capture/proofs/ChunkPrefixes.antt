@@ -1,12 +1,11 @@
 -- The prefix of a chunk that belongs to one line.
-use Rattle.std.proofs.Common.{◌≡◌, ℕ, ◌+◌, ◌-◌, ◌<◌, ◌≤◌, inl, inr, List, [], ◌∷◌, ◌++◌, length, take, drop, refl, sym, ap, ◌∙◌, subst, append_assoc, length-append, take-append-drop, arith}
+use Rattle.std.proofs.Common.{◌≡◌, ℕ, ◌+◌, ◌-◌, ◌<◌, ◌≤◌, inl, inr, List, [], ◌∷◌, ◌++◌, length, take, drop, refl, sym, ap, ◌∙◌, subst, append_assoc, length-append, take-append-drop, length-drop, arith}
 use Rattle.std.proofs.Math.Seq.{take-add}
-use Rattle.std.proofs.lemmas.List.{length-take-le}
+use Rattle.std.proofs.lemmas.List.{length-take-le, take_all}
 use Rattle.wsn_rules.specs.Limits.{Limits}
 use Rattle.wsn_capture.specs.declared.capture_stop.CaptureStop.{CaptureStop}
 use Rattle.wsn_rules.specs.TextLines.{IsLine}
 use Rattle.wsn_rules.specs.Entries.{Entry}
-use Rattle.wsn_print.proofs.HeldParts.{rest_is}
 use Rattle.wsn_capture.specs.LineFaults.{AreAcceptedLines}
 use Rattle.wsn_capture.specs.CaptureAnswers.{IsUnfaulted}
 use Rattle.wsn_capture.specs.LineSplitters.{ContinuesLine, EndsLine, HasPassedOn, IsStopAt, IsStopBy, IsStopWithin}
@@ -18,6 +17,10 @@ pub last_of : (bytes : List ℕ) → 0 < length bytes → (earlier : List ℕ) �
 last_of [] some = absurd (omega arith)
 last_of (b ∷ []) some = ([], b, refl)
 last_of (b ∷ c ∷ bytes) some = let rest = last_of (c ∷ bytes) (omega arith) in (b ∷ rest.0, rest.1, ap (λ (bs : List ℕ). b ∷ bs) rest.2)
+
+-- what follows k bytes
+pub rest_is : (k : ℕ) (bytes : List ℕ) → take (length bytes - k) (drop k bytes) ≡ drop k bytes
+rest_is k bytes = take_all (length bytes - k) (drop k bytes) (omega (arith, length-drop k bytes))
 
 -- what is consumed of the rest next
 pub taken_more : (came chunk : List ℕ) (at count : ℕ) → (came ++ take at chunk) ++ take count (take (length chunk - at) (drop at chunk)) ≡ came ++ take (at + count) chunk

@@ -19,15 +19,15 @@
 //! reports on those that it has accepted. It is [`CaptureLines`], which finds each line's first fault and keeps what
 //! counts of those accepted, with a scan of each endpoint's stream; whoever reads the streams in another way has
 //! `CaptureLines` alone. A [`SideReader`] is one endpoint's stream as a reader: an engine reads it as it reads any
-//! stream. [`Lines`] splits the chunks of a text into lines. [`put_report`] prints a report. None of them allocates
-//! memory, and at most one line is held.
+//! stream. [`Lines`] splits the chunks of a text into lines. `put_report` of `wsn_print` prints a report. None of them
+//! allocates memory, and at most one line is held.
 //!
 //! In `wsn_rules`, `specs/TextLines.antt` defines the lines of a text, `specs/Entries.antt` what a line gives,
 //! `specs/Sides.antt` what became of each stream and `specs/ClosingHandshake.antt` the report; in `wsn_print`,
 //! `specs/ReportText.antt` defines how a report is printed. Here, `specs/LineFaults.antt` defines which lines aren't
 //! accepted, `specs/TailCounts.antt` how many bytes come after a Close, `specs/RefusedLines.antt` the lines with
 //! offending bytes, `specs/CaptureAnswers.antt` the answer to a text, `specs/SideTexts.antt` one endpoint's stream as a
-//! function of a text, `specs/SplitLines.antt` how a chunk goes on with a line or ends it, and
+//! function of a text, `specs/LineSplitters.antt` how a chunk goes on with a line or ends it, and
 //! `specs/CaptureLines.antt` and `specs/Captures.antt` what the state says of the lines that were accepted. [`laws`]
 //! has what follows from these definitions, and [`line_fault_examples`] lines with their first faults.
 #![tactic(auto)]
@@ -65,5 +65,4 @@ pub use lines::{BEGUN_MAX, Lines};
 pub use refused_line::{RefusedLine, RefusedLines};
 pub use side_reader::SideReader;
 pub use tail_counts::Tails;
-pub use wsn_print::put_report;
 pub use wsn_rules::{Outcome, Report, Side};

@@ -5,10 +5,11 @@ use std::alloc::Global;
 use std::fmt::Debug;
 use std::io::Read;
 use std::process::Abort;
-use wsn_capture::{Capture, LineFault, Report, judge_capture, put_report};
+use wsn_capture::{Capture, LineFault, Report, judge_capture};
 use wsn_doubles::readers::Chopped;
 use wsn_doubles::vectors::{GREATEST, Settings, greatest, limits_from};
 use wsn_io::{Input, Output};
+use wsn_print::put_report;
 use wsn_rules::Limits;
 
 /// The greatest limits, but for this input limit on each side.

@@ -6,11 +6,12 @@ use crate::expecting::{
 };
 use std::alloc::Global;
 use std::process::Abort;
-use wsn_capture::{CaptureStop, LineFault, Report, judge_capture, put_report};
+use wsn_capture::{CaptureStop, LineFault, Report, judge_capture};
 use wsn_doubles::readers::{Chopped, READS};
 use wsn_doubles::vectors::{filled, greatest};
 use wsn_doubles::writers::{FULL, Full, Narrow};
 use wsn_io::{Input, Output, Stop};
+use wsn_print::put_report;
 
 const CLEAN: &[u8] = b"C 88820000000003e8\nS 880203e8\nS.\nC.\n";
 

@@ -21,9 +21,9 @@ use crate::source::{Next, Source};
 use crate::turn::{Turn, give_back};
 use std::alloc::Allocator;
 use std::io::Read;
-use wsn_io::Input;
+use wsn_io::{Input, Stop};
 use wsn_rules::{Compared, Without};
-use wsn_scan::{Limits, Stop, Verdict};
+use wsn_scan::{Limits, Verdict};
 use wsn_wire::{Kind, Role};
 
 /// Compares what two streams mean, however they are framed and masked (RFC 6455 sections 5.3 and 5.4). `role` is the

@@ -7,8 +7,8 @@ use crate::source::Next;
 use crate::turn::Turn;
 use std::alloc::Allocator;
 use std::io::Read;
-use wsn_io::Input;
-use wsn_scan::{FrameReader, Limits, Part, Stop, Verdict};
+use wsn_io::{Input, Stop};
+use wsn_scan::{FrameReader, Limits, Part, Verdict};
 use wsn_wire::{Kind, Op, Role};
 
 /// The state of an event source: its reader, the open message so far, and the answer that it has ended with.

@@ -3,8 +3,7 @@ ghost use Rattle.wsn_wire.specs.Frame.{FormFits, frame_bytes, is_control, wire_p
 ghost use Rattle.wsn_io.specs.Stops.{IsWrittenOrStops};
 
 use std::io::Write;
-use wsn_io::Output;
-use wsn_scan::Stop;
+use wsn_io::{Output, Stop};
 use wsn_wire::{Form, Op, head_as};
 
 /// A frame as it is sent (RFC 6455 section 5.2).

@@ -12,9 +12,8 @@ use crate::source::{Next, Source};
 use crate::turn::Turn;
 use std::alloc::Allocator;
 use std::io::Read;
-use wsn_io::Input;
+use wsn_io::{Input, Stop};
 use wsn_rules::Without;
-use wsn_scan::Stop;
 use wsn_wire::Kind;
 
 /// Reads on to the next event that isn't left out, or to the verdict, as [`Source::next_turn`] does.

@@ -11,8 +11,7 @@ use crate::event::{Event, Small};
 use crate::framing::{WireFrame, put_frame};
 use std::alloc::Allocator;
 use std::io::Write;
-use wsn_io::Output;
-use wsn_scan::Stop;
+use wsn_io::{Output, Stop};
 use wsn_wire::{Form, Kind, Op, Role};
 
 /// Writes an event's normal form: one final frame with its length in the shortest encoding, under a key of zeros for a

@@ -9,8 +9,8 @@ use crate::normal_form::put_event;
 use crate::source::{Next, Source};
 use std::alloc::Allocator;
 use std::io::{Read, Write};
-use wsn_io::{Input, Output};
-use wsn_scan::{Limits, Stop, Verdict};
+use wsn_io::{Input, Output, Stop};
+use wsn_scan::{Limits, Verdict};
 use wsn_wire::Role;
 
 /// Writes the normal form of a stream's meaning (RFC 6455 sections 5.4 to 5.6) and returns the stream's verdict. Each

@@ -8,8 +8,8 @@ use crate::turn::Turn;
 use std::alloc::{Allocator, Global};
 use std::io::Read;
 use std::marker::Model;
-use wsn_io::Input;
-use wsn_scan::{Limits, Stop, Verdict};
+use wsn_io::{Input, Stop};
+use wsn_scan::{Limits, Verdict};
 use wsn_wire::{Kind, Role};
 
 /// What [`Source::next`] returns.

@@ -16,9 +16,8 @@ use std::alloc::Allocator;
 use std::io::{Read, Write};
 use wsn_command::{Comparison, Ran};
 use wsn_events::{Compared, FirstDifference, contrast};
-use wsn_io::Output;
+use wsn_io::{Output, Stop};
 use wsn_print::{ViewLimit, put_compared_as, status_of_comparison};
-use wsn_scan::Stop;
 use wsn_shown_text::put_difference_as;
 
 /// Compares the meaning of two streams that endpoints of one role sent, prints the answer, and returns the program's exit

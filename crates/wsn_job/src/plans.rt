@@ -4,10 +4,10 @@ ghost use Rattle.wsn_job.specs.Plans.{IsPlanPrinted, IsPlanDiagnosed, plan_statu
 use crate::diagnostics::{diagnose, diagnose_stop, diagnose_verdict};
 use std::alloc::Allocator;
 use std::io::{Read, Write};
-use wsn_io::{Input, Output};
+use wsn_io::{Input, Output, Stop};
 use wsn_plan::{PlanAnswer, plan_of, write_plan};
 use wsn_print::line_of_unfinished;
-use wsn_scan::{Limits, Stop};
+use wsn_scan::Limits;
 use wsn_wire::Role;
 
 /// Prints the plan of the stream's own frames, if there is one.

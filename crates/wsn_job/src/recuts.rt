@@ -7,10 +7,10 @@ use crate::diagnostics::{diagnose, diagnose_stop, diagnose_verdict};
 use std::alloc::Allocator;
 use std::io::{Read, Write};
 use wsn_command::How;
-use wsn_io::{Input, Output};
+use wsn_io::{Input, Output, Stop};
 use wsn_plan::{RecutAnswer, UniformFrames, recut, recut_uniform};
 use wsn_print::line_of_recut_fault;
-use wsn_scan::{Limits, Stop};
+use wsn_scan::Limits;
 use wsn_wire::Role;
 
 /// Writes the stream's meaning in other frames, by a plan or by size.

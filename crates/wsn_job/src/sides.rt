@@ -16,9 +16,8 @@ use std::io::{Read, Write};
 use wsn_capture::{CaptureStop, LineFault, SideReader};
 use wsn_command::{Answer, Comparison, Job, Ran};
 use wsn_events::Compared;
-use wsn_io::{Input, Output};
+use wsn_io::{Input, Output, Stop};
 use wsn_print::status_of_comparison;
-use wsn_scan::Stop;
 
 /// A line of a capture that isn't accepted: its number, counted from 1, and its first fault.
 #[derive(Clone, Copy)]

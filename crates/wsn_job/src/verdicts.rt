@@ -4,9 +4,9 @@ ghost use Rattle.wsn_job.specs.Diagnostics.{IsVerdictDiagnosed};
 
 use crate::diagnostics::{diagnose_stop, diagnose_verdict};
 use std::io::{Read, Write};
-use wsn_io::{Input, Output};
+use wsn_io::{Input, Output, Stop};
 use wsn_print::{Format, put_verdict_as};
-use wsn_scan::{Limits, Stop, Verdict, judge};
+use wsn_scan::{Limits, Verdict, judge};
 use wsn_wire::Role;
 
 /// Prints the verdict on the input.

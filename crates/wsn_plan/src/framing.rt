@@ -20,9 +20,8 @@ use std::alloc::Allocator;
 use std::io::Write;
 use wsn_events::{WireFrame, put_frame};
 use wsn_frame::unmask;
-use wsn_io::Output;
+use wsn_io::{Output, Stop};
 use wsn_rules::Step;
-use wsn_scan::Stop;
 use wsn_wire::{Form, Kind, Op};
 
 /// What a frame's head says, but for the length.

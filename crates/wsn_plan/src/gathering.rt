@@ -7,8 +7,8 @@ use crate::kept::{Kept, copy_of, to_keep};
 use std::alloc::Allocator;
 use std::io::Read;
 use wsn_events::{Event, Next, Source, Turn};
-use wsn_io::Input;
-use wsn_scan::{Limits, Stop, Verdict};
+use wsn_io::{Input, Stop};
+use wsn_scan::{Limits, Verdict};
 use wsn_wire::{Kind, Role};
 
 /// An input's verdict and all its events, in a vector of `A` with their bytes in room of `B`.

@@ -6,9 +6,9 @@ ghost use Rattle.wsn_plan.specs.Planning.{IsAnswerWith, IsPlanned, IsPlannedChun
 use crate::Plan;
 use std::alloc::{Allocator, Global};
 use std::io::Read;
-use wsn_io::Input;
+use wsn_io::{Input, Stop};
 use wsn_rules::{HeadInfo, Refusal, Step};
-use wsn_scan::{CHUNK, ChunkReader, Limits, Part, Scan, Stop, Taken, Verdict};
+use wsn_scan::{CHUNK, ChunkReader, Limits, Part, Scan, Taken, Verdict};
 use wsn_wire::Role;
 
 /// What [`plan_of`] returns.

@@ -20,9 +20,9 @@ use crate::walking::Walk;
 use bumpalo::Bump;
 use std::alloc::Allocator;
 use std::io::{Read, Write};
-use wsn_io::{Input, Output};
+use wsn_io::{Input, Output, Stop};
 use wsn_rules::{Step, Why};
-use wsn_scan::{Limits, Stop, Verdict};
+use wsn_scan::{Limits, Verdict};
 use wsn_wire::Role;
 
 /// What [`recut`] and [`recut_uniform`] return.

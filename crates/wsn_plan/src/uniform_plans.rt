@@ -13,8 +13,8 @@ use crate::kept::Kept;
 use crate::walking::message_len;
 use std::alloc::Allocator;
 use wsn_events::Event;
+use wsn_io::Stop;
 use wsn_rules::Step;
-use wsn_scan::Stop;
 use wsn_wire::{Form, Role};
 
 /// Frames of one size, as [`uniform`] plans them.

@@ -2,10 +2,9 @@ use Rattle.std.proofs.Common.{◌≡◌, ◌-◌, ◌++◌, ℕ, List, Result, E
 use Rattle.std.proofs.lemmas.Result.{err_from_is_err_and}
 use Rattle.std.specs.Prelude.{IfErr}
 use Rattle.wsn_rules.specs.Limits.{Limits}
-use Rattle.wsn_print.proofs.HeldParts.{rest_is}
 use Rattle.wsn_capture.specs.declared.capture_stop.CaptureStop.{CaptureStop}
 use Rattle.wsn_capture.specs.LineSplitters.{HasSplit, IsStopWithin}
-use Rattle.wsn_capture.proofs.ChunkPrefixes.{taken_more, stop_in_rest}
+use Rattle.wsn_capture.proofs.ChunkPrefixes.{rest_is, taken_more, stop_in_rest}
 use Rattle.wsn_capture.proofs.line_splitter.LineSplitter.take.Goals as goal
 
 pub returns-in_err-taken-clause-stop : goal.returns-in_err-taken-clause-stop

@@ -17,12 +17,11 @@ returns-in-Some-clause-ends c = λ ended.
     let front = take c.min.result c.args.chunk.now in
     let few : c.in-Some.end < length front = omega (arith, c.in-Some.ensures.0.high) in
     let one : take (c.in-Some.end + 1) c.args.chunk.now ≡ take c.in-Some.end front ++ 10 ∷ [] = first_of (search rules, grind (arith, common_steps)) in
-    let added : c.add.new.self ≡ c.args.self.now ++ take c.in-Some.end front = c.add.ensures ∙ ap (λ (bs : List ℕ). bs ++ take c.in-Some.end front) c.self.view_is in
-    let size : length c.add.new.self ≡ length c.args.self.now + length (take c.in-Some.end front) = ap (λ (bs : List ℕ). length bs) added ∙ length-append c.args.self.now (take c.in-Some.end front) in
+    let size : length c.add.new.self ≡ length c.args.self.now + length (take c.in-Some.end front) = ap (λ (bs : List ℕ). length bs) c.add.ensures ∙ length-append c.args.self.now (take c.in-Some.end front) in
     let short : length c.add.new.self < 8196 = first_of (search rules, grind (arith, common_steps)) in
     record {
       bytes = take c.in-Some.end front;
-      is = added;
+      is = c.add.ensures;
       in_line = before_lf front c.in-Some.end (λ k low high within. c.in-Some.ensures.0.before k low high);
       ends = inl (one, short);
     }
@@ -34,7 +33,7 @@ returns-in-None-clause-goes_on c = λ more.
     let same : take (length front) c.args.chunk.now ≡ front = first_of (search rules, grind (arith, common_steps)) in
     let short : length c.add-in-None.new.self < 8196 = first_of (search rules, grind (arith, common_steps)) in
     record {
-      is = (c.add-in-None.ensures ∙ ap (λ (bs : List ℕ). bs ++ front) c.self.view_is) ∙ ap (λ (bs : List ℕ). c.args.self.now ++ bs) (sym same);
+      is = c.add-in-None.ensures ∙ ap (λ (bs : List ℕ). c.args.self.now ++ bs) (sym same);
       in_line = subst IsLine (all ∙ sym same) (before_lf front (length front) (λ k low high within. c.in-None.ensures k low high));
       short = short;
     }
@@ -47,7 +46,7 @@ returns-in-None-clause-ends c = λ full.
     let size : length c.add-in-None.new.self ≡ 8196 = first_of (search rules, grind (arith, common_steps)) in
     record {
       bytes = front;
-      is = c.add-in-None.ensures ∙ ap (λ (bs : List ℕ). bs ++ front) c.self.view_is;
+      is = c.add-in-None.ensures;
       in_line = subst IsLine all (before_lf front (length front) (λ k low high within. c.in-None.ensures k low high));
       ends = inr (same, size);
     }
