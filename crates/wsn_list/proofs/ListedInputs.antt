@@ -1,5 +1,6 @@
 -- What was printed of the bytes that came, by what the scan has consumed and taken of them.
-use Rattle.std.proofs.Common.{◌≡◌, ℕ, ◌+◌, ◌≤◌, Option, false, true, None, Some, Result, Ok, Err, List, [], ◌++◌, length, take, drop, inl, inr, refl, sym, ap, ◌∙◌, subst, append_assoc, take-append-drop, length-append, append-nil, arith}
+use Rattle.std.proofs.Common.{◌≡◌, ℕ, ◌+◌, ◌≤◌, Bool, Option, false, true, None, Some, Result, Ok, Err, List, [], ◌++◌, length, take, drop, inl, inr, refl, sym, ap, ◌∙◌, subst, append_assoc, take-append-drop, length-append, append-nil, arith}
+use Rattle.std.proofs.lemmas.Bool.{false≢true}
 use Rattle.std.proofs.lemmas.List.{take_all}
 use Rattle.std.proofs.Math.Seq.{take-append-add}
 use Rattle.std.proofs.KnownBytes.{Appends-trans}
@@ -31,6 +32,22 @@ use Rattle.wsn_list.proofs.Printing.{lines_on}
 use Rattle.wsn_io.proofs.PutTexts.{front_of_more, prints_on}
 use Rattle.wsn_scan.proofs.JudgedInputs.{HasRead, none_refused, stopped, ended, taken_whole, goes_on, refuses_input}
 
+abbrev is_refused : Verdict → Bool
+is_refused (Refused r) = true
+is_refused verdict = false
+
+abbrev refused_at : Verdict → ℕ
+refused_at (Refused r) = r.offset
+refused_at verdict = 0
+
+abbrev is_write_stop : Stop → Bool
+is_write_stop stop.Write = true
+is_write_stop halted = false
+
+abbrev is_write : Result Verdict Stop → Bool
+is_write (Ok verdict) = false
+is_write (Err halted) = is_write_stop halted
+
 module _ (format : Format) (role : Role) (limits : Limits) where
   -- the heads of the bytes within the limit
   within : (came : List ℕ) (heads : List HeadInfo) (verdict : Verdict) → length came ≤ limits.input → HasVerdictAndHeads role limits came heads verdict → HasVerdictAndHeads role limits (take limits.input came) heads verdict
@@ -59,16 +76,15 @@ module _ (format : Format) (role : Role) (limits : Limits) where
 
   -- the verdict was reached
   reached_soon : (new : Incoming) (came : List ℕ) (verdict : Verdict) → IsReached role limits new came verdict → (new.failed ≡ false) × IsReadUpToRefusal role limits came
-  reached_soon new came (Accepted s) reached = (reached.4, λ fs offset reason refused. let one = (one_verdict role limits came reached.0 fs (Accepted s) (Refused (record { offset = offset; reason = reason })) reached.1 refused).1 in absurd cc)
-  reached_soon new came (Cut s) reached = (reached.4, λ fs offset reason refused. let one = (one_verdict role limits came reached.0 fs (Cut s) (Refused (record { offset = offset; reason = reason })) reached.1 refused).1 in absurd cc)
+  reached_soon new came (Accepted s) reached = (reached.4, λ fs offset reason refused. absurd (false≢true (ap is_refused (one_verdict role limits came reached.0 fs (Accepted s) (Refused (record { offset = offset; reason = reason })) reached.1 refused).1)))
+  reached_soon new came (Cut s) reached = (reached.4, λ fs offset reason refused. absurd (false≢true (ap is_refused (one_verdict role limits came reached.0 fs (Cut s) (Refused (record { offset = offset; reason = reason })) reached.1 refused).1)))
   reached_soon new came (Refused r) reached = (reached.4, soon)
     where
       soon : IsReadUpToRefusal role limits came
       soon fs offset reason refused =
           let here : IsRefused role limits came reached.0 r.offset r.reason = subst (λ (bs : List ℕ). IsRefused role limits bs reached.0 r.offset r.reason) (append-nil came) (reached.1 []) in
           let one : Refused r ≡ Refused (record { offset = offset; reason = reason }) = (one_verdict role limits came reached.0 fs (Refused r) (Refused (record { offset = offset; reason = reason })) here refused).1 in
-          let same : r ≡ record { offset = offset; reason = reason } = cc in
-          let at : r.offset ≡ offset = ap (λ (x : Refusal). x.offset) same in
+          let at : r.offset ≡ offset = ap refused_at one in
           omega (arith, reached.2, at)
 
   -- ---- the answers
@@ -87,14 +103,14 @@ module _ (format : Format) (role : Role) (limits : Limits) where
         received = h.received;
         answer = (stopped role limits old mid chunks scan came heads read new stop.InputLimit h).answer;
         printed = (heads, reported.0, subst (λ (bs : List ℕ). HasVerdictAndHeads role limits bs heads reported.0) (sym h.within) reported.1, (unfailed, lines));
-        at_once = λ is. cc;
+        at_once = λ is. absurd (false≢true (ap is_write is));
       }
       by stop.Read h = record {
         came = h.all;
         received = h.received;
         answer = (stopped role limits old mid chunks scan came heads read new stop.Read h).answer;
         printed = (heads, reported.0, subst (λ (bs : List ℕ). HasVerdictAndHeads role limits bs heads reported.0) (sym h.within) reported.1, (unfailed, lines));
-        at_once = λ is. cc;
+        at_once = λ is. absurd (false≢true (ap is_write is));
       }
       by stop.Memory h = absurd h.stops
       by stop.Write h = absurd h.stops
@@ -110,7 +126,7 @@ module _ (format : Format) (role : Role) (limits : Limits) where
         received = judged.received;
         answer = judged.answer;
         printed = (heads, reported, (is_end.1.0, whole_listing before mid after heads verdict lines is_end.1.1));
-        at_once = λ is. let both : Ok verdict ≡ Err stop.Write = is in cc;
+        at_once = λ is. absurd (false≢true (ap is_write is));
       })
   prints_verdict old new before mid after came heads verdict (Err stopped_by) judged reported cut lines is_end =
       subst (λ (s : Stop). IsListedAs format role limits old new before after (Err s)) (sym is_end.0)
@@ -180,7 +196,7 @@ module _ (format : Format) (role : Role) (limits : Limits) where
       where
         of : IsWrittenUpToFailure before after (heads_text format (heads ++ listed.fed.heads)) → Appends before.written after.written (heads_text format (heads ++ listed.fed.heads))
         of (inl all) = all.1
-        of (inr front) = let both : true ≡ false = sym front.0 ∙ went in absurd cc
+        of (inr front) = absurd (false≢true (sym went ∙ front.0))
 
     -- the heads of the bytes within the limit
     reported_limit : (more : List HeadInfo) (verdict : Verdict) → HasVerdictAndHeads role limits (came ++ chunk) more verdict → HasVerdictAndHeads role limits (take limits.input all_came) more verdict
@@ -210,7 +226,7 @@ module _ (format : Format) (role : Role) (limits : Limits) where
         }
       where
         but_chunk : IsWrittenUpToFailure mid_out after (heads_text format listed.fed.heads) → IsWrittenBut chunk_size (IsHeadsText format role limits) all_came before after
-        but_chunk (inl all) = let both : true ≡ false = sym broke ∙ all.0 in absurd cc
+        but_chunk (inl all) = absurd (false≢true (sym all.0 ∙ broke))
         but_chunk (inr front) = record {
           done = came;
           last = chunk ++ come.past;
@@ -225,7 +241,7 @@ module _ (format : Format) (role : Role) (limits : Limits) where
         }
 
         of : IsWrittenUpToFailure before after (heads_text format (heads ++ listed.fed.heads)) → (k : ℕ) × Appends before.written after.written (take k (listing format (heads ++ listed.fed.heads) (reported_within refusal listed.fed).0))
-        of (inl all) = let both : true ≡ false = sym broke ∙ all.0 in absurd cc
+        of (inl all) = absurd (false≢true (sym all.0 ∙ broke))
         of (inr front) = front_of_listing before after (heads ++ listed.fed.heads) (reported_within refusal listed.fed).0 front.1.0 front.1.1
 
     -- a refusal

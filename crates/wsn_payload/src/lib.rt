@@ -10,8 +10,6 @@ mod answer;
 mod event_at;
 pub mod laws;
 mod taking;
-#[cfg(test)]
-mod tests;
 
 pub use answer::{EventStart, Payload};
 pub use taking::payload;

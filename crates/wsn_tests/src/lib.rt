@@ -10,8 +10,8 @@
 //! Hostile use: streams without an end in `stream_endings`; failing readers and writers in `stops`, `failed_writes` and
 //! `interruptions`.
 //!
-//! Parts: `head_bytes` and `masking` of frames, `utf8` and `close_codes` of payloads, `inputs_and_outputs` and
-//! `tied_streams` of input and output. `expecting` has the assertions.
+//! Parts: `head_bytes` and `masking` of frames, `utf8` and `close_codes` of payloads, `payloads` of the payload at an
+//! offset, `inputs_and_outputs` and `tied_streams` of input and output. `expecting` has the assertions.
 #![tactic(auto)]
 
 #[cfg(test)]
@@ -34,6 +34,8 @@ mod interruptions;
 mod limit_ranges;
 #[cfg(test)]
 mod masking;
+#[cfg(test)]
+mod payloads;
 #[cfg(test)]
 mod printing;
 #[cfg(test)]

@@ -1,8 +1,8 @@
-//! What is written and answered, for streams that are written out.
+//! The payload at an offset: what is written and answered, for streams that are written out.
 
-use crate::{Payload, payload};
 use std::process::Abort;
 use wsn_io::{Input, Output};
+use wsn_payload::{Payload, payload};
 use wsn_rules::{Limits, Verdict};
 use wsn_wire::{Op, Role};
 
