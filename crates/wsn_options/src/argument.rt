@@ -29,7 +29,7 @@ pub enum Form {
     Several { value: &'static str },
 }
 
-/// What an option's value is. Its help says in its own words which the words are, and which is the default.
+/// What an option's value is. Its help says itself which words it may be, and which one is the default.
 #[derive(Clone, Copy)]
 pub enum Kind {
     /// Any text.
@@ -79,7 +79,7 @@ fn of_form<'a>(arg: Arg<'a>, name: &'a str, form: Form) -> Arg<'a> {
     }
 }
 
-/// An argument with one value, which help calls so.
+/// An argument with one value, which help calls `value`.
 fn one<'a>(arg: Arg<'a>, value: &'a str) -> Arg<'a> {
     arg.action(ArgAction::Set).value_name(value)
 }

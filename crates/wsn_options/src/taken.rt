@@ -1,4 +1,5 @@
-//! Which arguments each command takes.
+//! Which arguments each command takes. Each list is a static of its own: one table of all commands with their arguments
+//! takes more steps than the check of a function may.
 
 use crate::argument::Argument;
 use crate::options::{
@@ -7,7 +8,7 @@ use crate::options::{
 };
 use crate::recut_options::{KEY, PLAN, SIZE, WEAVE};
 
-/// The arguments that a command takes: those of the commands of this name.
+/// Which arguments a command takes.
 #[derive(Clone, Copy)]
 pub enum Takes {
     /// Those of `show`.
