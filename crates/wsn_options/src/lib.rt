@@ -4,10 +4,12 @@
 //! `wsn_cli`.
 #![tactic(auto)]
 
+mod argument;
 mod commands;
 mod help;
 mod options;
 mod recut_options;
+mod taken;
 
 pub use commands::program;
 pub use help::SHARED;

@@ -1,38 +1,48 @@
-use crate::options::{option, with_capture, with_file, with_role};
-use clap::builder::ValueParser;
-use clap::{Arg, ArgAction, Command, value_parser};
-use std::alloc::{AllocError, Global};
+//! The options of `recut` alone.
 
-/// Adds `--role`, the options for how the stream is recut, `--capture` and the file.
-pub fn with_recuts<'a>(alloc: Global, command: Command<'a>) -> Result<Command<'a>, AllocError> {
-    let command = with_sizes(alloc, with_role(alloc, command)?)?;
-    let command = with_frames(alloc, command)?;
-    with_file(alloc, with_capture(alloc, command)?)
-}
+use crate::argument::{Argument, Form, Kind};
 
-/// Adds `--plan` and `--size`, of which exactly one is required.
-fn with_sizes<'a>(alloc: Global, command: Command<'a>) -> Result<Command<'a>, AllocError> {
-    let plan = option(
-        alloc,
-        "plan",
-        "PLAN",
-        "Split by the plan in this file, or - for\nstandard input",
-    );
-    let command = command.arg(plan)?;
-    let help = "Split messages into frames of BYTES bytes,\n1 to 4294967295";
-    let size = option(alloc, "size", "BYTES", help);
-    command.arg(size.value_parser(value_parser!(u32).range(1..)))
-}
+/// `--plan`. Exactly one of this and `--size` is required.
+pub const PLAN: Argument = Argument {
+    name: "plan",
+    form: Form::Option {
+        value: "PLAN",
+        kind: Kind::Any,
+    },
+    is_required: false,
+    conflict: None,
+    help: "Split by the plan in this file, or - for\nstandard input",
+};
 
-/// Adds `--weave` and `--key`, which require `--size`.
-fn with_frames<'a>(alloc: Global, command: Command<'a>) -> Result<Command<'a>, AllocError> {
-    let weave = Arg::new(alloc, "weave")
-        .long("weave")
-        .action(ArgAction::SetTrue)
-        .help(
-            "With --size: control frames directly before a\nsplit message go after its first frame",
-        );
-    let help =
-        "With --size, for a client: each frame's key,\n8 hexadecimal digits [default: 00000000]";
-    command.arg(weave)?.arg(option(alloc, "key", "HEX", help))
-}
+/// `--size`.
+pub const SIZE: Argument = Argument {
+    name: "size",
+    form: Form::Option {
+        value: "BYTES",
+        kind: Kind::Number(1, 4_294_967_295),
+    },
+    is_required: false,
+    conflict: None,
+    help: "Split messages into frames of BYTES bytes,\n1 to 4294967295",
+};
+
+/// `--weave`, which requires `--size`.
+pub const WEAVE: Argument = Argument {
+    name: "weave",
+    form: Form::Flag,
+    is_required: false,
+    conflict: None,
+    help: "With --size: control frames directly before a\nsplit message go after its first frame",
+};
+
+/// `--key`, which requires `--size`.
+pub const KEY: Argument = Argument {
+    name: "key",
+    form: Form::Option {
+        value: "HEX",
+        kind: Kind::Any,
+    },
+    is_required: false,
+    conflict: None,
+    help: "With --size, for a client: each frame's key,\n8 hexadecimal digits [default: 00000000]",
+};
