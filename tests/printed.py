@@ -10,7 +10,8 @@ from printed_captures import (
     BAD_CHARACTERS, COMMENTS, CONTROLS_AND_TAILS, ENDED_BY, EVENTS, FRAMES, HIDDEN, LEFT_OVER, OPEN, REFUSALS,
     TIMES_AT_THE_END, VIEWS_OF_BYTES, VIEWS_OF_TEXT,
 )
-from printed_streams import BAD_CHARACTERS_OF_STREAMS, STREAMS
+from printed_plans import FAULTS as PLAN_FAULTS, RECUTS
+from printed_streams import BAD_CHARACTERS_OF_STREAMS, CLOSES, HEADS, LENGTHS, STREAMS, WRITTEN
 
 
 class Row(NamedTuple):
@@ -115,6 +116,31 @@ OBJECTS = [
     Row(["judge", "--role", "server", "--json"], UNFINISHED, 1, VERDICT),
 ]
 
+# Lines of both sides, without an LF at the end, and what each of them sent.
+BOTH = "C 818500000000\r\nS 8900\n# both\nC 48656c6c6f\nS 0102\nS 4869\n\nS.\nC 8980\nC 00000000"
+BOTH_CLIENT = bytes.fromhex("81850000000048656c6c6f898000000000")
+BOTH_SERVER = bytes.fromhex("890001024869")
+CLIENT_FRAMES = "0 fin text 00000000 5\n11 fin ping 00000000 0\n"
+SERVER_FRAMES = "0 fin ping - 0\n2 more text - 2\n"
+# What is printed of each side: the command, and for each endpoint the status, standard output and standard error.
+OF_BOTH = (
+    ("judge", (0, "accepted 17 tail 0 unfinished -\n"), (1, "cut 6\n")),
+    ("frames", (0, CLIENT_FRAMES + "accepted 17 tail 0 unfinished -\n"), (1, SERVER_FRAMES + "cut 6\n")),
+    ("normal", (0, BOTH_CLIENT), (1, bytes.fromhex("8900"), "cut 6\n")),
+    ("redact", (0, bytes.fromhex("818500000000") + b"Xxxxx" + bytes.fromhex("898000000000")),
+     (0, bytes.fromhex("89000102") + b"Xx")),
+    ("plan", (0, "last 00000000\ncontrol 00000000\n"), (1, "", "cut 6\n")),
+)
+
+
+def of_both():
+    """What is printed of each side of BOTH, and of its bytes."""
+    for command, client, server in OF_BOTH:
+        for role, data, answer in (("client", BOTH_CLIENT, client), ("server", BOTH_SERVER, server)):
+            yield Row([command, "--role", role, "--capture"], BOTH, *answer)
+            yield Row([command, "--role", role], data, *answer)
+
+
 # A ping and a text's head, and then a line of none of the forms.
 FAULTY = "C 00\nS 8900\nS 8102\nX\nS 4869\n"
 REFUSED_FIRST = "C 00\nS 89\nS 00c1\nX\n"
@@ -210,6 +236,40 @@ WHOLE = [
         '"pings":0,"pongs":0,"close":null}\n'),
 ]
 
+
+
+def of_heads():
+    """What `frames` prints, with the shortest encoding of lengths and with any."""
+    rows = [*[(role, digits, lines, lines) for role, digits, lines in HEADS],
+            *[("server", *row) for row in LENGTHS]]  # fmt: skip
+    for role, digits, shortest, longer in rows:
+        for words, lines in (([], shortest), (["--lengths", "any"], longer)):
+            status = 0 if "accepted" in lines else 1
+            yield Row(["frames", "--role", role, *words], bytes.fromhex(digits), status, lines)
+
+
+def of_lengths():
+    """Messages of one byte over and over, with lengths in eight bytes, in their normal form."""
+    for size, digits in WRITTEN:
+        given = b"\x82\x7f" + size.to_bytes(8, "big") + b"*" * size
+        yield Row(["normal", "--role", "server", "--lengths", "any"], given, 0, bytes.fromhex(digits) + b"*" * size)
+
+
+def of_closes():
+    for digits, code in CLOSES:
+        line = (f'{{"type":"verdict","verdict":"accepted","used":{len(digits) // 2},"tail":0,"unfinished":null,'
+                f'"frames":1,"messages":0,"pings":0,"pongs":0,"close":{{"code":{code}}}}}\n')  # fmt: skip
+        yield Row(["judge", "--role", "server", "--json"], bytes.fromhex(digits), 0, line)
+
+
+def of_plans():
+    """Malformed plans, which are read before the stream is, and recuts."""
+    for text, number, word in PLAN_FAULTS:
+        yield Row(["recut", "--role", "server", "-", "--plan"], "", 2, "", f"plan line {number}: {word}\n", (text,))
+    for role, given, plan, status, out, error in RECUTS:
+        yield Row(["recut", "--role", role, "--lengths", "any", "-", "--plan"], given, status, out, error, (plan,))
+
+
 GROUPS = (
     Group("an_event_is_in_the_line_of_its_last_byte", "each event is printed in the line with its last byte",
           of_captures(EVENTS)),
@@ -246,6 +306,13 @@ GROUPS = (
         FRAMES_OF_A_STREAM,
     ]),
     Group("a_line_that_is_not_accepted_ends_what_is_shown", "what was shown before a faulty line stays", [CUT_SHORT]),
+    Group("each_byte_of_a_head_counts", "heads are read byte by byte, and lengths in each encoding", list(of_heads())),
+    Group("heads_have_the_shortest_lengths", "a normal form has the shortest encoding of lengths", list(of_lengths())),
+    Group("a_verdict_has_the_code_of_the_close", "the code in the verdict's object", list(of_closes())),
+    Group("plans_are_read_line_by_line", "the first malformed line of a plan; encodings and keys that a plan asks for",
+          list(of_plans())),
+    Group("commands_on_a_side_answer_as_on_its_bytes", "each command on both sides of a capture, and on their bytes",
+          list(of_both())),
     Group("commands_on_a_side_stop_at_faulty_lines",
           "at a line that isn't accepted a command on a side ends, and what it printed stays; an answer before counts",
           SIDES),

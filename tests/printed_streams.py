@@ -1,5 +1,5 @@
-"""Tables of streams, in hexadecimal, and what `wsn show --role` prints of them (printed.py makes tests of them); and some
-of the vectors of wsn_doubles with their verdicts.
+"""Tables of streams, in hexadecimal, and what `wsn show --role`, `frames` and `normal` print of them (printed.py makes
+tests of them); and some of the vectors of wsn_doubles with their verdicts.
 """
 # A stream of an endpoint, the status, what is shown, and the line of the verdict.
 STREAMS = (
@@ -16,6 +16,40 @@ STREAMS = (
      'S - 0 text 1 1 "H"\nS - 3 refused 8 text-bad 1007 477272fc\nS - 8 bad-character 3 fc "Grr\\xfc"\n',
      "refused 8 text-bad 1007\n"),
 )
+
+# What an endpoint sent, up to a byte of a head: the endpoint, the bytes, and the lines that `frames` prints, for the
+# shortest encoding of lengths and for any. In order: first bytes, second bytes, lengths in two bytes and in eight.
+HEADS = (
+    ("server", "c1", "refused 0 reserved-bits 1002\n"),
+    ("server", "0b", "refused 0 reserved-opcode 1002\n"),
+    ("server", "09", "refused 0 control-not-final 1002\n"),
+    ("server", "010080", "0 more text - 0\ncut 3\n"),
+    ("server", "01008000", "0 more text - 0\n2 fin cont - 0\naccepted 4 tail 0 unfinished -\n"),
+    ("server", "01", "cut 1\n"),
+    ("server", "0100", "0 more text - 0\ncut 2\n"),
+    ("server", "8a", "cut 1\n"),
+    ("server", "8a00", "0 fin pong - 0\naccepted 2 tail 0 unfinished -\n"),
+    ("client", "8801", "refused 1 mask-missing 1002\n"),
+    ("server", "8801", "refused 1 close-one-byte 1002\n"),
+    ("server", "88fe", "refused 1 mask-present 1002\n"),
+    ("server", "887e", "refused 1 control-too-long 1002\n"),
+    ("server", "887d", "0 fin close - 125\ncut 2\n"),
+    ("server", "817f", "cut 2\n"),
+    ("client", "81fe", "cut 2\n"),
+    ("client", "81fe007e01020304", "0 fin text 01020304 126\ncut 8\n"),
+)
+LENGTHS = (
+    ("817e007d", "refused 3 length-not-minimal 1002\n", "0 fin text - 125 two\ncut 4\n"),
+    ("817e007e", "0 fin text - 126\ncut 4\n", "0 fin text - 126\ncut 4\n"),
+    ("817f8000000000000000", "refused 9 length-top-bit 1002\n", "refused 9 length-top-bit 1002\n"),
+    ("817f000000000000ffff", "refused 9 length-not-minimal 1002\n", "0 fin text - 65535 eight\ncut 10\n"),
+    ("817f0000000000010000", "0 fin text - 65536\ncut 10\n", "0 fin text - 65536\ncut 10\n"),
+)
+# The number of bytes in a server's binary message, and the head that `normal` writes, whatever its encoding was.
+WRITTEN = ((125, "827d"), (126, "827e007e"), (65_535, "827effff"), (65_536, "827f0000000000010000"))
+
+# A server's Close, and the code in the verdict.
+CLOSES = (("8800", "null"), ("880203e8", "1000"), ("880203f6", "1014"), ("8803138741", "4999"))
 
 # What an endpoint sent, which is refused for a bad character: the endpoint, the most bytes of a payload that are shown,
 # the bytes, the lines that are shown, that of the verdict, the objects that are shown, that of the verdict. In order:

@@ -1,14 +1,14 @@
 //! `wsn same`: streams with the same events, streams with others, and streams that are not accepted; the line on
 //! standard output, and the exit status.
 
-use crate::expecting::{expect_line, expect_line_of, expect_run};
+use crate::expecting::{expect_line, expect_run};
 use std::alloc::{Allocator, Global};
 use std::process::Abort;
 use wsn_command_runs::run_same_on;
 use wsn_doubles::answer_lines::{compared_line, printed};
 use wsn_doubles::engines::compared;
 use wsn_doubles::readers::{Chopped, READS};
-use wsn_doubles::vectors::{Stream, greatest, streams};
+use wsn_doubles::vectors::greatest;
 use wsn_doubles::writers::{FULL, Full, Narrow};
 use wsn_rules::{Limits, MESSAGE_MAX};
 use wsn_wire::Role;
@@ -154,28 +154,6 @@ fn streams_are_compared_by_what_they_mean(rt: HostRuntime) {
                 Chopped::new(pair.second, at_most),
             );
             expect_compared(&rt, rt.alloc(), first, second, pair.line);
-        }
-    }
-}
-
-/// Fails unless a stream has the same events as its normal form.
-fn expect_equal(rt: &impl Abort, alloc: Global, stream: &Stream) {
-    let answer = compared(
-        alloc,
-        Chopped::new(stream.bytes.as_slice(), 4_095),
-        Chopped::new(stream.normal.as_slice(), 4_097),
-        stream.role,
-        stream.limits,
-    );
-    let line = compared_line(alloc, &answer).expect(rt, "memory");
-    expect_line_of(rt, line.as_str(), "equal", &stream.name);
-}
-
-#[test]
-fn what_is_accepted_means_the_same_as_its_normal_form(rt: HostRuntime) {
-    for stream in streams(rt.alloc()).expect(&rt, "every vector").iter() {
-        if stream.is_accepted() {
-            expect_equal(&rt, rt.alloc(), stream);
         }
     }
 }

@@ -9,7 +9,7 @@ use wsn_canon::{Compared, Event};
 use wsn_command_runs::CommandRun;
 use wsn_doubles::answer_lines::{compared_line, recut_line};
 use wsn_io::Output;
-use wsn_plan::{Plan, PlanFault, RecutAnswer, read_plan, write_plan};
+use wsn_plan::{Plan, RecutAnswer, read_plan, write_plan};
 use wsn_scan::Stop;
 
 /// Fails unless this holds.
@@ -69,11 +69,6 @@ pub fn plan_written(rt: &impl Abort, alloc: Global, plan: &Plan) -> Vec<u8> {
     let mut text = Vec::new(alloc);
     write_plan(&mut Output::new(&mut text), plan).expect(rt, "memory");
     text
-}
-
-/// The printed line of a fault in a plan's text.
-pub fn recut_fault_line(rt: &impl Abort, alloc: Global, fault: PlanFault) -> String {
-    format!(in alloc; "{fault}").expect(rt, "memory")
 }
 
 /// Appends an event.

@@ -1,11 +1,11 @@
 //! Tests of plans and recuts, and of the commands `plan` and `recut`.
 //!
-//! A rule's test is found by its printed word: faults of a plan (`piece-too-long`) in `recut_faults`, faults of its
-//! text (`bad_key`) in `plan_text`.
+//! A rule's test is found by its printed word: faults of a plan (`piece-too-long`) in `recut_faults`. (Faults of its text,
+//! such as `bad-key`: `tests/printed_plans.py`.)
 //!
 //! Plans: `plan_text` and `plan_files` read and write them, `plans` takes them from streams. Recuts: `recuts` by plans
-//! that fit, `recut_faults` by plans that do not, `sized_recuts` in frames of one size, `long_plans` in a million
-//! steps. `plan_commands` runs the commands.
+//! that fit, `recut_faults` by plans that do not, `sized_recuts` in frames of one size. `plan_commands` runs the commands.
+//! (Of whole streams, also in a million steps: `tests/program`.)
 //!
 //! Hostile use: failing readers and writers in `recut_stops`, failed allocations in `recut_memory`. `peer` is another
 //! implementation, the kit's `tungstenite`. `expecting` has the assertions.
@@ -13,8 +13,6 @@
 
 #[cfg(test)]
 mod expecting;
-#[cfg(test)]
-mod long_plans;
 #[cfg(test)]
 mod peer;
 #[cfg(test)]

@@ -1,8 +1,8 @@
-//! Plan text: the steps that are read, the text that is written, and failures of memory or of a write.
+//! Plan text: the steps that are read, the text that is written, and failures of memory or of a write. (Malformed lines:
+//! `tests/printed_plans.py`.)
 
 use crate::expecting::{
-    expect, expect_bytes_of, expect_count, expect_equal_of, expect_line_of, expect_of, plan_read,
-    plan_written, recut_fault_line,
+    expect, expect_bytes_of, expect_count, expect_equal_of, expect_of, plan_read, plan_written,
 };
 use crate::recuts::NINE_PLAN;
 use std::alloc::{Allocator, Global};
@@ -34,44 +34,6 @@ static PLANS: [(&str, &str); 9] = [
         "last -\nlast -\nlast -\nlast -\n",
         "last -\nlast -\nlast -\nlast -\n",
     ),
-];
-
-/// A text, the number of its first malformed line, and the fault with its printed word.
-static FAULTS: [(&str, u64, LineWhy, &str); 29] = [
-    ("\n", 1, LineWhy::BadForm, "bad-form"),
-    ("last  -", 1, LineWhy::BadForm, "bad-form"),
-    ("control - two", 1, LineWhy::BadForm, "bad-form"),
-    ("control -\n\n", 2, LineWhy::BadForm, "bad-form"),
-    ("# a comment", 1, LineWhy::BadForm, "bad-form"),
-    ("Last -", 1, LineWhy::BadForm, "bad-form"),
-    (" last -", 1, LineWhy::BadForm, "bad-form"),
-    ("last - ", 1, LineWhy::BadForm, "bad-form"),
-    ("last", 1, LineWhy::BadForm, "bad-form"),
-    ("last - two two", 1, LineWhy::BadForm, "bad-form"),
-    ("piece 3", 1, LineWhy::BadForm, "bad-form"),
-    ("piece  -", 1, LineWhy::BadForm, "bad-form"),
-    ("piece 03 - two four", 1, LineWhy::BadForm, "bad-form"),
-    ("piece 03 -", 1, LineWhy::BadNumber, "bad-number"),
-    ("piece x y", 1, LineWhy::BadNumber, "bad-number"),
-    ("piece +3 -", 1, LineWhy::BadNumber, "bad-number"),
-    ("piece -3 -", 1, LineWhy::BadNumber, "bad-number"),
-    ("piece 3\u{e9} -", 1, LineWhy::BadNumber, "bad-number"),
-    (
-        "piece 18446744073709551616 - four",
-        1,
-        LineWhy::BadNumber,
-        "bad-number",
-    ),
-    ("piece 3 xyz", 1, LineWhy::BadKey, "bad-key"),
-    ("piece 3 xyz four", 1, LineWhy::BadKey, "bad-key"),
-    ("last 37fa213", 1, LineWhy::BadKey, "bad-key"),
-    ("last 37fa213d0", 1, LineWhy::BadKey, "bad-key"),
-    ("last 37fa213g", 1, LineWhy::BadKey, "bad-key"),
-    ("control -\r\n", 1, LineWhy::BadKey, "bad-key"),
-    ("last - four", 1, LineWhy::BadLength, "bad-length"),
-    ("last - Two", 1, LineWhy::BadLength, "bad-length"),
-    ("last - shortest", 1, LineWhy::BadLength, "bad-length"),
-    ("last -\nlast x\ncontrol", 2, LineWhy::BadKey, "bad-key"),
 ];
 
 #[test]
@@ -113,29 +75,10 @@ fn steps_are_those_of_the_lines(rt: HostRuntime) {
     expect_of(&rt, plan.steps() == steps.as_slice(), &plan.steps());
 }
 
-#[test]
-fn bad_form_bad_number_bad_key_and_bad_length(rt: HostRuntime) {
-    for (text, number, why, word) in FAULTS.iter() {
-        let fault = PlanFault::Line {
-            number: *number,
-            why: *why,
-        };
-        expect_fault(&rt, rt.alloc(), text, fault);
-        expect_printed(&rt, rt.alloc(), fault, *number, word);
-    }
-}
-
 /// Fails unless this is the fault of a text, with memory from this heap.
 fn expect_fault<A: Allocator>(rt: &impl Abort, heap: A, text: &str, expected: PlanFault) {
     let reported = read_plan(heap, text.as_bytes()).err();
     expect_equal_of(rt, &reported, &Some(expected), &text);
-}
-
-/// Fails unless this number and this word are printed of a fault.
-fn expect_printed(rt: &impl Abort, alloc: Global, fault: PlanFault, number: u64, word: &str) {
-    let printed = recut_fault_line(rt, alloc, fault);
-    let expected = format!(in alloc; "plan line {number}: {word}").expect(rt, "memory");
-    expect_line_of(rt, printed.as_str(), expected.as_str(), &fault);
 }
 
 #[test]

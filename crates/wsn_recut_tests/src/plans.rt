@@ -1,18 +1,19 @@
-//! The plan of a stream's own frames, and that the recut of its normal form by that plan is the stream again.
+//! The plan of a stream's own frames. (That the recut of its normal form by that plan is the stream again:
+//! `tests/program`.)
 
-use crate::expecting::{expect_bytes_of, expect_line_of, expect_of, expect_recut, plan_written};
+use crate::expecting::{expect_bytes_of, expect_line_of, expect_of, plan_written};
 use crate::recuts::{NINE_MESSAGES, NINE_PLAN};
 use std::alloc::{Allocator, Global};
 use std::fmt::Debug;
 use std::process::Abort;
 use wsn_doubles::answer_lines::planned_line;
-use wsn_doubles::engines::{SentStream, planned, recut_by};
+use wsn_doubles::engines::{SentStream, planned};
 use wsn_doubles::heaps::heap_of;
 use wsn_doubles::readers::{Chopped, READS};
 use wsn_doubles::vectors::{
     ANY_LENGTHS, GREATEST, Settings, Stream, limits_from, line_after, stream_named, streams,
 };
-use wsn_plan::{Plan, PlanAnswer};
+use wsn_plan::PlanAnswer;
 use wsn_scan::Stop;
 use wsn_wire::Role;
 
@@ -157,43 +158,6 @@ fn expect_reported<A: Allocator>(
 ) {
     let line = planned_line(alloc, answer).expect(rt, "memory");
     expect_line_of(rt, line.as_str(), expected, of);
-}
-
-/// The number of bytes in the frames of an accepted stream.
-fn used(rt: &impl Abort, stream: &Stream) -> usize {
-    let word = stream.verdict.split(' ').nth(1).expect(rt, "a count");
-    word.parse::<usize>().expect(rt, "a count")
-}
-
-/// Fails unless the recut of a stream's normal form by this plan is the stream, up to its Close.
-fn expect_restored(rt: &impl Abort, alloc: Global, stream: &Stream, plan: &Plan) {
-    let prefix = stream.bytes.get(..used(rt, stream)).expect(rt, "frames");
-    let mut out = Vec::new(alloc);
-    let normal = SentStream::of(stream, Chopped::new(stream.normal.as_slice(), 4_095));
-    let answer = recut_by(alloc, normal, plan, &mut out);
-    let found = (&answer, out.as_slice());
-    expect_recut(rt, alloc, found, ("done", prefix), &stream.name);
-}
-
-#[test]
-fn a_stream_is_restored_from_its_plan_and_its_normal_form(rt: HostRuntime) {
-    for stream in streams(rt.alloc()).expect(&rt, "every vector").iter() {
-        if stream.is_accepted() {
-            expect_restored_or_unfinished(&rt, rt.alloc(), stream);
-        }
-    }
-}
-
-/// Fails unless a stream is restored by its plan, or is unfinished and has none.
-fn expect_restored_or_unfinished(rt: &impl Abort, alloc: Global, stream: &Stream) {
-    let reader = Chopped::new(stream.bytes.as_slice(), 4_095);
-    let answer = planned(alloc, SentStream::of(stream, reader));
-    if let Ok(PlanAnswer::Plan(plan)) = &answer {
-        expect_restored(rt, alloc, stream, plan);
-    } else {
-        expect_reported(rt, alloc, &answer, "unfinished", &stream.name);
-        expect_of(rt, !stream.verdict.ends_with(" -"), &stream.name);
-    }
 }
 
 #[test]

@@ -6,7 +6,7 @@ use std::io::Write;
 use std::process::Abort;
 use wsn_doubles::engines::{SentStream, Sizes, recut_by, recut_uniformly};
 use wsn_doubles::readers::{Chopped, READS};
-use wsn_doubles::vectors::{ANY_LENGTHS, GREATEST, Settings, filled, limits_from, stream_named};
+use wsn_doubles::vectors::{ANY_LENGTHS, GREATEST, Settings, limits_from, stream_named};
 use wsn_io::{Input, Output};
 use wsn_plan::{PlanFault, RecutAnswer, read_plan, recut};
 use wsn_scan::Stop;
@@ -224,30 +224,6 @@ pub fn expect_recut_row(rt: &impl Abort, alloc: Global, row: &RecutRow) {
 fn a_plan_that_fits_is_followed(rt: HostRuntime) {
     for row in FITS.iter() {
         expect_recut_row(&rt, rt.alloc(), row);
-    }
-}
-
-/// A message of 126 bytes in one frame, with its length in two bytes and in eight.
-#[test]
-fn wrong_form_of_a_length_of_two_bytes(rt: HostRuntime) {
-    let alloc = rt.alloc();
-    let bytes = filled(alloc, b"\x82\x7e\x00\x7e", 0x2a, 126).expect(&rt, "memory");
-    let eight = filled(alloc, b"\x82\x7f\0\0\0\0\0\0\0\x7e", 0x2a, 126).expect(&rt, "memory");
-    for (text, line, expected) in [
-        ("last - two", "fault 0 wrong-form", &[] as &[u8]),
-        ("last - eight", "done", eight.as_slice()),
-        ("last -", "done", bytes.as_slice()),
-    ] {
-        let limits = limits_from(&ANY_LENGTHS).expect(&rt, "limits in range");
-        let stream = SentStream {
-            role: Role::Server,
-            limits,
-            reader: Chopped::new(bytes.as_slice(), usize::MAX),
-        };
-        let mut out = Vec::new(alloc);
-        let answer = recut_by_text(&rt, alloc, stream, text, &mut out);
-        let found = (&answer, out.as_slice());
-        expect_recut(&rt, alloc, found, (line, expected), &text);
     }
 }
 

@@ -1,15 +1,10 @@
-//! Recuts in frames of one size: the plans of given events, the output, and that it has the same events as the
-//! stream.
+//! Recuts in frames of one size: the plans of given events, and the output. (That it has the same events as the stream:
+//! `tests/program`.)
 
-use crate::expecting::{expect_answer, expect_bytes_of, expect_equal, plan_written, push_event};
+use crate::expecting::{expect_bytes_of, plan_written, push_event};
 use crate::recuts::{By, NINE_MESSAGES, PING_HELLO, RecutRow, expect_recut_row};
-use std::alloc::Global;
-use std::process::Abort;
 use wsn_canon::Event;
-use wsn_doubles::engines::{SentStream, Sizes, compared, recut_uniformly};
-use wsn_doubles::readers::Chopped;
 use wsn_doubles::vectors::stream_limits::TWO_FRAMES;
-use wsn_doubles::vectors::{Stream, streams};
 use wsn_plan::{UniformFrames, uniform};
 use wsn_wire::{Kind, Role};
 
@@ -106,40 +101,5 @@ pub static SIZED_RECUTS: [RecutRow; 7] = [
 fn streams_are_recut_in_frames_of_one_size(rt: HostRuntime) {
     for row in SIZED_RECUTS.iter() {
         expect_recut_row(&rt, rt.alloc(), row);
-    }
-}
-
-/// Fails unless a stream has the same events in frames of one size.
-fn expect_same(rt: &impl Abort, alloc: Global, stream: &Stream, sizes: Sizes) {
-    let of = (stream.name, sizes);
-    let mut out = Vec::new(alloc);
-    let whole = Chopped::new(stream.bytes.as_slice(), usize::MAX);
-    let answer = recut_uniformly(alloc, SentStream::of(stream, whole), sizes, &mut out);
-    expect_answer(rt, alloc, &answer, "done", &of);
-    let answer = compared(
-        alloc,
-        Chopped::new(stream.bytes.as_slice(), usize::MAX),
-        Chopped::new(out.as_slice(), 4_096),
-        stream.role,
-        stream.limits,
-    );
-    expect_equal(rt, alloc, &answer, &of);
-}
-
-#[test]
-fn what_is_accepted_means_the_same_once_it_is_recut(rt: HostRuntime) {
-    for stream in streams(rt.alloc()).expect(&rt, "every vector").iter() {
-        if stream.is_accepted() && stream.limits.frames().is_none() {
-            expect_same_by_sizes(&rt, rt.alloc(), stream);
-        }
-    }
-}
-
-/// Fails unless a stream has the same events in frames of each size.
-fn expect_same_by_sizes(rt: &impl Abort, alloc: Global, stream: &Stream) {
-    for size in [1, 2, 125] {
-        for weave in [false, true] {
-            expect_same(rt, alloc, stream, Sizes { size, weave });
-        }
     }
 }

@@ -1,13 +1,8 @@
-//! The codes that a Close may carry, for every code; the code in a summary.
+//! The codes that a Close may carry, for every code. (The code in a verdict: `tests/printed_streams.py`.)
 
 use crate::expecting::{expect, expect_of};
 use std::process::Abort;
-use wsn_doubles::readers::Chopped;
-use wsn_doubles::vectors::greatest;
-use wsn_io::Input;
-use wsn_scan::{Verdict, judge};
 use wsn_text::code_allowed;
-use wsn_wire::Role;
 
 /// The first and the last code of a range, and whether a Close may carry them.
 const CODES: [(u16, u16, bool); 8] = [
@@ -37,22 +32,4 @@ fn close_code(rt: HostRuntime) {
         next = u32::from(last) + 1;
     }
     expect(&rt, next == 65_536);
-}
-
-/// Fails unless the summary of a stream that is this Close has this code.
-fn expect_close(rt: &impl Abort, bytes: &[u8], close: Option<u16>) {
-    let mut input = Input::new(Chopped::new(bytes, 1));
-    let is_reported = match judge(&mut input, Role::Server, greatest()) {
-        Ok(Verdict::Accepted(summary)) => summary.close == Some(close),
-        _ => false,
-    };
-    expect_of(rt, is_reported, &close);
-}
-
-#[test]
-fn the_close_of_a_summary(rt: HostRuntime) {
-    expect_close(&rt, &[0x88, 0x00], None);
-    expect_close(&rt, &[0x88, 0x02, 0x03, 0xe8], Some(1000));
-    expect_close(&rt, &[0x88, 0x02, 0x03, 0xf6], Some(1014));
-    expect_close(&rt, &[0x88, 0x03, 0x13, 0x87, 0x41], Some(4999));
 }

@@ -1,8 +1,8 @@
 //! Tests of streams, and of printed lines, in `printing`. The readers, writers, heaps and vectors are those of
 //! `wsn_doubles`. (Plans and recuts: `wsn_recut_tests`. Captures and commands: `wsn_command_tests`.)
 //!
-//! A rule's test is found by its printed word: reasons of refusals (`text-bad`) in `head_bytes`, `refusal_reasons` and
-//! the names of vectors, `close_code` in `close_codes`.
+//! A rule's test is found by its printed word: reasons of refusals (`text-bad`) in `refusal_reasons` and the names of
+//! vectors, `close_code` in `close_codes`. (The bytes of heads: `tests/printed_streams.py`.)
 //!
 //! `every_way` reads each vector in every way. (`tests/program` judges some of them under short names.) `scanner`,
 //! `source`, `events` and `limit_ranges` test what commands are made of.
@@ -10,8 +10,8 @@
 //! Hostile use: streams without an end in `stream_endings`; failing readers and writers in `stops`, `failed_writes` and
 //! `interruptions`.
 //!
-//! Parts: `head_bytes` and `masking` of frames, `utf8` and `close_codes` of payloads, `payloads` of the payload at an
-//! offset, `inputs_and_outputs` and `tied_streams` of input and output. `expecting` has the assertions.
+//! Parts: `masking` of frames, `utf8` and `close_codes` of payloads, `payloads` of the payload at an offset,
+//! `inputs_and_outputs` and `tied_streams` of input and output. `expecting` has the assertions.
 #![tactic(auto)]
 
 #[cfg(test)]
@@ -24,8 +24,6 @@ mod every_way;
 mod expecting;
 #[cfg(test)]
 mod failed_writes;
-#[cfg(test)]
-mod head_bytes;
 #[cfg(test)]
 mod inputs_and_outputs;
 #[cfg(test)]
