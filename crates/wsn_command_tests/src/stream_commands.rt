@@ -14,43 +14,57 @@ use wsn_doubles::writers::Narrow;
 use wsn_job::{Format, Job};
 use wsn_rules::INPUT_MAX;
 
-/// Fails unless `judge`, `frames` and `normal` print what they should of a stream, or report that it is too long.
-fn expect_answers(rt: &impl Abort, alloc: Global, stream: &Stream) {
-    let (role, limits, status) = (stream.role, stream.limits, stream.status());
-    let heap = heap_of(alloc, 0).expect(rt, "memory");
+/// Fails unless `judge` prints a stream's verdict, or reports that the stream is too long.
+fn expect_verdict<A: Allocator + Copy>(rt: &impl Abort, heap: A, alloc: Global, stream: &Stream) {
+    let job = Job::Judge(stream.role, stream.limits, Format::Text);
+    let reader = Chopped::new(stream.bytes.as_slice(), 4_096);
+    let done = run_on(heap, alloc, &job, reader, Narrow::wide(alloc));
     let line = printed(alloc, stream.verdict).expect(rt, "memory");
     let (out, err) = if stream.is_too_long() {
         (b"".as_slice(), stream.verdict)
     } else {
         (line.as_bytes(), "")
     };
-    let judge = Job::Judge(role, limits, Format::Text);
+    expect_run(rt, &done, stream.status(), out, err);
+}
+
+/// Fails unless `frames` prints the lines of a stream, and reports a stream that is too long.
+fn expect_frames<A: Allocator + Copy>(rt: &impl Abort, heap: A, alloc: Global, stream: &Stream) {
+    let job = Job::Frames(stream.role, stream.limits, Format::Text);
     let reader = Chopped::new(stream.bytes.as_slice(), 4_096);
-    let done = run_on(&heap, alloc, &judge, reader, Narrow::wide(alloc));
-    expect_run(rt, &done, status, out, err);
-    let frames = Job::Frames(role, limits, Format::Text);
+    let done = run_on(heap, alloc, &job, reader, Narrow::wide(alloc));
+    let err = if stream.is_too_long() {
+        stream.verdict
+    } else {
+        ""
+    };
     let lines = Engine::List.output(alloc, stream).expect(rt, "memory");
+    expect_run(rt, &done, stream.status(), lines.as_slice(), err);
+}
+
+/// Fails unless `normal` writes a stream's normal form, and reports its verdict unless that is `accepted`.
+fn expect_normal(rt: &impl Abort, alloc: Global, stream: &Stream) {
+    let job = Job::Normal(stream.role, stream.limits);
     let reader = Chopped::new(stream.bytes.as_slice(), 4_096);
-    let done = run_on(&heap, alloc, &frames, reader, Narrow::wide(alloc));
-    expect_run(rt, &done, status, lines.as_slice(), err);
-    let normal = Job::Normal(role, limits);
+    let done = run_on(alloc, alloc, &job, reader, Narrow::wide(alloc));
     let err = if stream.is_accepted() {
         ""
     } else {
         stream.verdict
     };
-    let reader = Chopped::new(stream.bytes.as_slice(), 4_096);
-    let done = run_on(alloc, alloc, &normal, reader, Narrow::wide(alloc));
-    expect_run(rt, &done, status, stream.normal.as_slice(), err);
+    expect_run(rt, &done, stream.status(), stream.normal.as_slice(), err);
 }
 
 /// No command line asks for an input limit.
 #[test]
 fn answers_under_an_input_limit_are_printed(rt: HostRuntime) {
     let alloc = rt.alloc();
+    let heap = heap_of(alloc, 0).expect(&rt, "memory");
     for stream in streams(alloc).expect(&rt, "every vector").iter() {
         if stream.limits.input() < INPUT_MAX {
-            expect_answers(&rt, alloc, stream);
+            expect_verdict(&rt, &heap, alloc, stream);
+            expect_frames(&rt, &heap, alloc, stream);
+            expect_normal(&rt, alloc, stream);
         }
     }
 }
