@@ -26,3 +26,6 @@ returns-clause-start c = search rules
 
 pub returns-clause-head : goal.returns-clause-head
 returns-clause-head c = search rules
+
+pub returns-clause-again : goal.returns-clause-again
+returns-clause-again c = search rules
