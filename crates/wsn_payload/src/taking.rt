@@ -3,8 +3,6 @@ ghost use Rattle.wsn_io.specs.Transfer.{Outgoing};
 ghost use Rattle.wsn_wire.specs.declared.endpoint.Role.{Role};
 ghost use Rattle.wsn_rules.specs.Limits.{Limits};
 ghost use Rattle.wsn_scan.specs.Scans.{room_of};
-ghost use Rattle.wsn_wire.specs.Frame.{IsBytes};
-ghost use Rattle.wsn_scan.specs.FollowedScans.{IsCall};
 ghost use Rattle.wsn_payload.specs.Payloads.{IsPayloadTaken, IsPayloadOfAll};
 ghost use Rattle.wsn_payload.specs.Following.{HasSought, IsSeeking, SeeksOn, SeeksThrough};
 
@@ -92,7 +90,7 @@ fn take_part<W: Write>(
         IfOk result (λ step. IsNone step.1 → 0 < step.0) }
 {
     let mut part = Part::new();
-    let (count, found) = call(scan, chunk, &mut part);
+    let (count, found) = scan.follow(chunk, &mut part);
     let bytes = &chunk[..count];
     let answer = match found {
         Taken::More | Taken::Closed => None,
@@ -103,16 +101,4 @@ fn take_part<W: Write>(
         }
     };
     Ok((count, answer))
-}
-
-/// Calls the scan once, and returns how many bytes it consumed and what they are.
-#[inline(always)]
-fn call(scan: &mut Scan, chunk: &mut [u8], part: &mut Part) -> (usize, Taken)
-    requires { length chunk.old ≤ room_of scan.old }
-    ensures in_bytes { IsBytes chunk.old }
-    ensures call { IsBytes chunk.old → IsCall scan.old scan.new chunk.old chunk.new result.0 result.1 part.new }
-    ensures kept { drop result.0 chunk.new ≡ drop result.0 chunk.old }
-    ensures start { result.1 ≡ Taken.Part → part.new.start ≤ result.0 }
-{
-    scan.next(chunk, part)
 }

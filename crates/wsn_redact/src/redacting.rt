@@ -1,7 +1,5 @@
-ghost use Rattle.std.specs.Prelude.{◌≡◌, ℕ, ◌+◌, ◌≤◌, ◌<◌, ◌^◌, List, length, drop, take, None, Some, IsSome, false, true};
-ghost use Rattle.wsn_wire.specs.Frame.{IsBytes};
-ghost use Rattle.wsn_scan.specs.FollowedScans.{IsCall};
-ghost use Rattle.wsn_scan.specs.Scans.{room_of, refusal_in};
+ghost use Rattle.std.specs.Prelude.{◌≡◌, ℕ, ◌+◌, ◌≤◌, ◌<◌, ◌^◌, List, length, drop, None, Some, IsSome, false, true};
+ghost use Rattle.wsn_scan.specs.Scans.{refusal_in};
 ghost use Rattle.wsn_redact.specs.RedactedParts.{IsRunningFor, RedactsOn, Rewrites};
 ghost use Rattle.wsn_redact.specs.Redaction.{zeros_for};
 ghost use Rattle.wsn_redact.specs.Redacting.{IsRedactedInput, IsRedactedWhole};
@@ -69,7 +67,7 @@ fn redact_part(scan: &mut Scan, redactor: &mut Redactor, chunk: &mut [u8]) -> us
         return chunk.len();
     }
     let mut part = Part::new();
-    let (count, found) = call(scan, chunk, &mut part);
+    let (count, found) = scan.follow(chunk, &mut part);
     rewrite(redactor, scan.refusal(), found, &part, &mut chunk[..count]);
     count
 }
@@ -111,17 +109,4 @@ fn has_refused(scan: &Scan) -> bool
     ensures unrefused { result ≡ false → refusal_in scan.now ≡ None }
 {
     scan.refusal().is_some()
-}
-
-/// Calls the scan once, and returns how many bytes it consumed and what they are.
-#[inline(always)]
-fn call(scan: &mut Scan, chunk: &mut [u8], part: &mut Part) -> (usize, Taken)
-    requires { length chunk.old ≤ room_of scan.old }
-    ensures in_bytes { IsBytes chunk.old }
-    ensures call { IsBytes chunk.old → IsCall scan.old scan.new chunk.old chunk.new result.0 result.1 part.new }
-    ensures kept { drop result.0 chunk.new ≡ drop result.0 chunk.old }
-    ensures start { result.1 ≡ Taken.Part → (part.new.start ≤ result.0)
-        × (take part.new.start chunk.new ≡ take part.new.start chunk.old) }
-{
-    scan.next(chunk, part)
 }

@@ -1,6 +1,7 @@
 mod after_close;
 mod events;
 mod feeding;
+mod following;
 mod heads;
 mod parts;
 mod verdicts;

@@ -1,11 +1,9 @@
 //! What a scan of a stream completes, call by call.
 
 ghost use Rattle.std.specs.Prelude.{◌≡◌, ℕ, ◌+◌, ◌<◌, ◌≤◌, ◌^◌, List, ◌++◌, length, take, drop, None};
-ghost use Rattle.wsn_wire.specs.Frame.{IsBytes};
 ghost use Rattle.wsn_wire.specs.declared.endpoint.Role.{Role};
 ghost use Rattle.wsn_rules.specs.Limits.{Limits};
 ghost use Rattle.wsn_rules.specs.ShownStream.{Shown};
-ghost use Rattle.wsn_scan.specs.FollowedScans.{IsCall};
 ghost use Rattle.wsn_scan.specs.Scans.{room_of, refusal_in};
 ghost use Rattle.wsn_show.specs.ShownSoFar.{HasShown, HasShownFrames, ShowsMore, IsShowing};
 
@@ -92,7 +90,7 @@ fn step<W: Write>(
         refusal_in scan.new ≡ None → 0 < result }
 {
     let mut part = Part::new();
-    let (count, found) = call(scan, chunk, &mut part);
+    let (count, found) = scan.follow(chunk, &mut part);
     let bytes = &chunk[..count];
     match found {
         Taken::More => parts.add_bytes(bytes),
@@ -112,16 +110,4 @@ fn step<W: Write>(
         }
     }
     count
-}
-
-/// Calls the scan once, and returns how many bytes it consumed and what they are.
-#[inline(always)]
-fn call(scan: &mut Scan, chunk: &mut [u8], part: &mut Part) -> (usize, Taken)
-    requires { length chunk.old ≤ room_of scan.old }
-    ensures in_bytes { IsBytes chunk.old }
-    ensures call { IsBytes chunk.old → IsCall scan.old scan.new chunk.old chunk.new result.0 result.1 part.new }
-    ensures kept { drop result.0 chunk.new ≡ drop result.0 chunk.old }
-    ensures start { result.1 ≡ Taken.Part → part.new.start ≤ result.0 }
-{
-    scan.next(chunk, part)
 }

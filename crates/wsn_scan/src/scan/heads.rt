@@ -2,7 +2,7 @@
 
 use super::Scan;
 use crate::part::{Part, Taken};
-use crate::stage::Stage;
+use crate::stage::{Inside, Stage};
 use arrayvec::ArrayVec;
 use std::mem;
 use wsn_frame::{
@@ -171,7 +171,12 @@ impl Scan {
             return self.refuse(start, Reason::TextCut);
         }
         let check = PayloadCheck::new(head.first, message);
-        self.add_part(&message, head, &check, 0, start, start, part);
+        let inside = Inside {
+            head: *head,
+            check,
+            done: 0,
+        };
+        self.add_part(&message, &inside, start, start, part);
         part.begins = true;
         (start, Taken::Part)
     }

@@ -56,7 +56,12 @@ impl Scan {
             unmask(head.key, 0, &mut chunk[start..end]);
             return None;
         }
-        self.add_part(message, head, &check, count, start, end, part);
+        let inside = Inside {
+            head: *head,
+            check,
+            done: count,
+        };
+        self.add_part(message, &inside, start, end, part);
         part.begins = true;
         Some(end)
     }
@@ -88,7 +93,8 @@ impl Scan {
             Ok(check) => {
                 let done = done + count as u64;
                 let message = self.context.message;
-                self.add_part(&message, &head, &check, done, 0, count, part);
+                let inside = Inside { head, check, done };
+                self.add_part(&message, &inside, 0, count, part);
                 (count, Taken::Part)
             }
             Err(bad) => {
@@ -100,45 +106,39 @@ impl Scan {
     }
 
     /// Takes the first `end` bytes of a chunk as a part of a frame that doesn't begin it. The part's payload begins at
-    /// `start`; with it `done` bytes of the frame's payload came. If that is all, the frame ends. `message` is the open
+    /// `start`; `inside` is the frame with it. If all of the frame's payload came, the frame ends. `message` is the open
     /// message.
     #[inline(always)]
     #[tactic(none)]
     pub(super) fn add_part(
         &mut self,
         message: &Option<OpenMessage>,
-        head: &Head,
-        check: &PayloadCheck,
-        done: u64,
+        inside: &Inside,
         start: usize,
         end: usize,
         part: &mut Part,
     )
         requires fits { end ≤ room_of self.old }
         requires open { message.now ≡ self.old.context.message }
-        ensures taken { AddsPart self.old self.new head.now check.now done end part.new }
-        ensures head { part.new.head ≡ info_at self.old.used head.now }
+        ensures taken { AddsPart self.old self.new inside.now.head inside.now.check inside.now.done end part.new }
+        ensures head { part.new.head ≡ info_at self.old.used inside.now.head }
         ensures begins { part.new.begins ≡ false }
-        ensures ends { part.new.ends ≡ true ↔ (done ≡ head.now.len) }
+        ensures ends { part.new.ends ≡ true ↔ (inside.now.done ≡ inside.now.head.len) }
         ensures start { part.new.start ≡ start }
         ensures whole { part.new.ends ≡ true → HasNoRest self.new }
         ensures room { room_of self.new + end ≡ room_of self.old }
         ensures reported { refusal_in self.new ≡ None }
     {
-        let ends = done == head.len;
-        part.head = head.info(self.used);
+        let ends = inside.done == inside.head.len;
+        part.head = inside.head.info(self.used);
         part.begins = false;
         part.ends = ends;
         part.start = start;
         self.room -= end as u64;
         if ends {
-            self.end(message, head, check);
+            self.end(message, &inside.head, &inside.check);
         } else {
-            self.stage = Stage::Payload(Inside {
-                head: *head,
-                check: *check,
-                done,
-            });
+            self.stage = Stage::Payload(*inside);
         }
     }
 

@@ -15,18 +15,18 @@ use Rattle.wsn_payload.proofs.taking.take_part.Goals as goal
 
 pub returns-in-More-clause-seeks : goal.returns-in-More-clause-seeks
 returns-in-More-clause-seeks g c role limits at came first h =
-    quiet role limits at c.args.scan.now c.call-count.new.scan c.args.chunk.now c.call-count.new.chunk c.call-count.result.0 c.call-count.new.part came first c.args.output.now c.args.event.now h
-    c.call-count.result.1 (c.call-count.ensures.call c.call-count.ensures.in_bytes) c.in-More.is
+    quiet role limits at c.args.scan.now c.follow-count.new.self c.args.chunk.now c.follow-count.new.chunk c.follow-count.result.0 c.follow-count.new.part came first c.args.output.now c.args.event.now h
+    c.follow-count.result.1 (c.follow-count.ensures.call c.follow-count.ensures.in_bytes) c.in-More.is
 
 pub returns-in_err-answer-in-Part-clause-seeks : goal.returns-in_err-answer-in-Part-clause-seeks
 returns-in_err-answer-in-Part-clause-seeks g c role limits at came first h =
     let old = c.args.scan.now in
-    let new = c.call-count.new.scan in
+    let new = c.follow-count.new.self in
     let chunk = c.args.chunk.now in
-    let after = c.call-count.new.chunk in
-    let n = c.call-count.result.0 in
-    let part = c.call-count.new.part in
-    let call = subst (λ (f : Taken). IsCall old new chunk after n f part) c.in-Part.is (c.call-count.ensures.call c.call-count.ensures.in_bytes) in
+    let after = c.follow-count.new.chunk in
+    let n = c.follow-count.result.0 in
+    let part = c.follow-count.new.part in
+    let call = subst (λ (f : Taken). IsCall old new chunk after n f part) c.in-Part.is (c.follow-count.ensures.call c.follow-count.ensures.in_bytes) in
     let r = reach role limits old new chunk after n part came h.frames h.position h.rest h.followed call in
     let may = may_begin role limits at old new chunk after n part came first c.args.output.now c.args.event.now h call in
     let taken = c.take.ensures role limits at h.frames r.frames h.position r.position h.rest r.found.before (take n chunk) r.since h.payload may r.found.is_at
@@ -39,12 +39,12 @@ returns-in_err-answer-in-Part-clause-seeks g c role limits at came first h =
 pub returns-in_ok-answer-in-Part-clause-seeks : goal.returns-in_ok-answer-in-Part-clause-seeks
 returns-in_ok-answer-in-Part-clause-seeks g c role limits at came first h =
     let old = c.args.scan.now in
-    let new = c.call-count.new.scan in
+    let new = c.follow-count.new.self in
     let chunk = c.args.chunk.now in
-    let after = c.call-count.new.chunk in
-    let n = c.call-count.result.0 in
-    let part = c.call-count.new.part in
-    let call = subst (λ (f : Taken). IsCall old new chunk after n f part) c.in-Part.is (c.call-count.ensures.call c.call-count.ensures.in_bytes) in
+    let after = c.follow-count.new.chunk in
+    let n = c.follow-count.result.0 in
+    let part = c.follow-count.new.part in
+    let call = subst (λ (f : Taken). IsCall old new chunk after n f part) c.in-Part.is (c.follow-count.ensures.call c.follow-count.ensures.in_bytes) in
     let r = reach role limits old new chunk after n part came h.frames h.position h.rest h.followed call in
     let may = may_begin role limits at old new chunk after n part came first c.args.output.now c.args.event.now h call in
     let taken = c.take.ensures role limits at h.frames r.frames h.position r.position h.rest r.found.before (take n chunk) r.since h.payload may r.found.is_at
@@ -55,12 +55,12 @@ returns-in_ok-answer-in-Part-clause-seeks g c role limits at came first h =
 pub returns-in_err-put-in-Refused-clause-seeks : goal.returns-in_err-put-in-Refused-clause-seeks
 returns-in_err-put-in-Refused-clause-seeks g c role limits at came first h =
     let old = c.args.scan.now in
-    let new = c.call-count.new.scan in
+    let new = c.follow-count.new.self in
     let chunk = c.args.chunk.now in
-    let after = c.call-count.new.chunk in
-    let n = c.call-count.result.0 in
-    let part = c.call-count.new.part in
-    let call = subst (λ (f : Taken). IsCall old new chunk after n f part) c.in-Refused.is (c.call-count.ensures.call c.call-count.ensures.in_bytes) in
+    let after = c.follow-count.new.chunk in
+    let n = c.follow-count.result.0 in
+    let part = c.follow-count.new.part in
+    let call = subst (λ (f : Taken). IsCall old new chunk after n f part) c.in-Refused.is (c.follow-count.ensures.call c.follow-count.ensures.in_bytes) in
     let refusal = refusal_by (refusal_in new) (call.reported.1 refl) in
     let failed = c.in_err-put-in-Refused.ensures.written in
     let out = err_from_is_err_and c.from_residual-in_err-put-in-Refused.result c.from_residual-in_err-put-in-Refused.ensures.1 in
@@ -72,12 +72,12 @@ returns-in_err-put-in-Refused-clause-seeks g c role limits at came first h =
 pub returns-in_ok-put-in-Refused-clause-seeks : goal.returns-in_ok-put-in-Refused-clause-seeks
 returns-in_ok-put-in-Refused-clause-seeks g c role limits at came first h =
     let old = c.args.scan.now in
-    let new = c.call-count.new.scan in
+    let new = c.follow-count.new.self in
     let chunk = c.args.chunk.now in
-    let after = c.call-count.new.chunk in
-    let n = c.call-count.result.0 in
-    let part = c.call-count.new.part in
-    let call = subst (λ (f : Taken). IsCall old new chunk after n f part) c.in-Refused.is (c.call-count.ensures.call c.call-count.ensures.in_bytes) in
+    let after = c.follow-count.new.chunk in
+    let n = c.follow-count.result.0 in
+    let part = c.follow-count.new.part in
+    let call = subst (λ (f : Taken). IsCall old new chunk after n f part) c.in-Refused.is (c.follow-count.ensures.call c.follow-count.ensures.in_bytes) in
     let refusal = refusal_by (refusal_in new) (call.reported.1 refl) in
     let verdict = refused_as c.finish.result refusal.0 (c.finish.ensures.reported ∙ refusal.1) in
     refused_step role limits at old new chunk after n part came first c.args.output.now c.args.event.now h refusal.0 refusal.1 call c.put.new.output c.in_ok-put-in-Refused.ensures.written c.ended.result

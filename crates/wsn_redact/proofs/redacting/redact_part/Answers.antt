@@ -27,21 +27,21 @@ pub returns-clause-progress : goal.returns-clause-progress
 returns-clause-progress c =
     let b = c.requires.begun in
     let h = unrefused_of b.role b.limits c.args.scan.now c.args.redactor.now b.came b.written (c.has_refused.ensures.unrefused c.if-has_refused.false) b.has_redacted in
-    some_taken b.role b.limits c.args.scan.now c.call-count.new.scan c.args.chunk.now c.call-count.new.chunk c.call-count.result.0 c.call-count.new.part b.came c.args.redactor.now b.written h
-    c.call-count.result.1 (c.call-count.ensures.call c.call-count.ensures.in_bytes) c.requires.some
+    some_taken b.role b.limits c.args.scan.now c.follow-count.new.self c.args.chunk.now c.follow-count.new.chunk c.follow-count.result.0 c.follow-count.new.part b.came c.args.redactor.now b.written h
+    c.follow-count.result.1 (c.follow-count.ensures.call c.follow-count.ensures.in_bytes) c.requires.some
 
 pub returns-clause-redacts : goal.returns-clause-redacts
 returns-clause-redacts c role limits came written h =
     let chunk = c.args.chunk.now in
-    let after = c.call-count.new.chunk in
-    let n = c.call-count.result.0 in
+    let after = c.follow-count.new.chunk in
+    let n = c.follow-count.result.0 in
     let out = c.rewrite.new.bytes in
-    let call = c.call-count.ensures.call c.call-count.ensures.in_bytes in
+    let call = c.follow-count.ensures.call c.follow-count.ensures.in_bytes in
     let redacting = unrefused_of role limits c.args.scan.now c.args.redactor.now came written (c.has_refused.ensures.unrefused c.if-has_refused.false) h in
     let within = call.within in
-    let sized : length after ≡ length chunk = c.call-count.auto.chunk in
+    let sized : length after ≡ length chunk = c.follow-count.auto.chunk in
     let size : length out ≡ n = c.rewrite.auto.bytes ∙ length-take-le n after (omega (arith, within, sized)) in
     let front : take n (out ++ drop n after) ≡ out = take_at out (drop n after) n size in
-    subst (λ (bs : List ℕ). HasRedacted role limits c.call-count.new.scan c.rewrite.new.redactor (came ++ take n chunk) (written ++ bs)) (sym front)
-    (call_step role limits c.args.scan.now c.call-count.new.scan chunk after n c.call-count.new.part came c.args.redactor.now written redacting c.call-count.result.1 c.rewrite.new.redactor out c.requires.some sized call c.call-count.ensures.start
-    (subst (λ (r : Option Refusal). Rewrites c.args.redactor.now c.rewrite.new.redactor r c.call-count.result.1 c.call-count.new.part (take n after) out) c.refusal.ensures c.rewrite.ensures))
+    subst (λ (bs : List ℕ). HasRedacted role limits c.follow-count.new.self c.rewrite.new.redactor (came ++ take n chunk) (written ++ bs)) (sym front)
+    (call_step role limits c.args.scan.now c.follow-count.new.self chunk after n c.follow-count.new.part came c.args.redactor.now written redacting c.follow-count.result.1 c.rewrite.new.redactor out c.requires.some sized call (λ is. (c.follow-count.ensures.start is, c.follow-count.ensures.head is))
+    (subst (λ (r : Option Refusal). Rewrites c.args.redactor.now c.rewrite.new.redactor r c.follow-count.result.1 c.follow-count.new.part (take n after) out) c.refusal.ensures c.rewrite.ensures))

@@ -12,13 +12,13 @@ use Rattle.wsn_show.proofs.feeding.step.Goals as goal
 pub returns-in-More-clause-shows : goal.returns-in-More-clause-shows
 returns-in-More-clause-shows g c role limits came shown frames =
     let old = c.args.scan.now in
-    let new = c.call-count.new.scan in
+    let new = c.follow-count.new.self in
     let chunk = c.args.chunk.now in
-    let after = c.call-count.new.chunk in
-    let n = c.call-count.result.0 in
-    let part = c.call-count.new.part in
+    let after = c.follow-count.new.chunk in
+    let n = c.follow-count.result.0 in
+    let part = c.follow-count.new.part in
     let context = c.args.context.now in
-    let call = subst (λ (f : Taken). IsCall old new chunk after n f part) c.in-More.is (c.call-count.ensures.call c.call-count.ensures.in_bytes) in
+    let call = subst (λ (f : Taken). IsCall old new chunk after n f part) c.in-More.is (c.follow-count.ensures.call c.follow-count.ensures.in_bytes) in
     let same : take n after ≡ take n chunk = ap (λ (bs : List ℕ). take n bs) (call.untouched (λ other. cc) (λ other. cc)) in
     let size = ap (λ (bs : List ℕ). length bs) same in
     more_step role limits old new chunk after n part came shown c.args.parts.now c.add_bytes.new.self context c.args.output.now c.args.output.now frames call c.requires.some
@@ -28,19 +28,19 @@ returns-in-More-clause-shows g c role limits came shown frames =
 
 pub returns-in-More-clause-progress : goal.returns-in-More-clause-progress
 returns-in-More-clause-progress g c showing none =
-    consumes_some showing.role showing.limits c.args.scan.now c.call-count.new.scan c.args.chunk.now c.call-count.new.chunk c.call-count.result.0 c.call-count.result.1 c.call-count.new.part showing.came showing.frames.done showing.frames.at showing.frames.rest
-    showing.frames.followed (c.call-count.ensures.call c.call-count.ensures.in_bytes) c.requires.some none
+    consumes_some showing.role showing.limits c.args.scan.now c.follow-count.new.self c.args.chunk.now c.follow-count.new.chunk c.follow-count.result.0 c.follow-count.result.1 c.follow-count.new.part showing.came showing.frames.done showing.frames.at showing.frames.rest
+    showing.frames.followed (c.follow-count.ensures.call c.follow-count.ensures.in_bytes) c.requires.some none
 
 pub returns-in-Closed-clause-shows : goal.returns-in-Closed-clause-shows
 returns-in-Closed-clause-shows g c role limits came shown frames =
     let old = c.args.scan.now in
-    let new = c.call-count.new.scan in
+    let new = c.follow-count.new.self in
     let chunk = c.args.chunk.now in
-    let after = c.call-count.new.chunk in
-    let n = c.call-count.result.0 in
-    let part = c.call-count.new.part in
+    let after = c.follow-count.new.chunk in
+    let n = c.follow-count.result.0 in
+    let part = c.follow-count.new.part in
     let context = c.args.context.now in
-    let call = subst (λ (f : Taken). IsCall old new chunk after n f part) c.in-Closed.is (c.call-count.ensures.call c.call-count.ensures.in_bytes) in
+    let call = subst (λ (f : Taken). IsCall old new chunk after n f part) c.in-Closed.is (c.follow-count.ensures.call c.follow-count.ensures.in_bytes) in
     let same : take n after ≡ take n chunk = ap (λ (bs : List ℕ). take n bs) (call.untouched (λ other. cc) (λ other. cc)) in
     let size = ap (λ (bs : List ℕ). length bs) same in
     closed_step role limits old new chunk after n part came shown c.args.parts.now c.add_bytes-in-Closed.new.self context c.args.output.now c.args.output.now frames call c.requires.some
@@ -50,38 +50,38 @@ returns-in-Closed-clause-shows g c role limits came shown frames =
 
 pub returns-in-Closed-clause-progress : goal.returns-in-Closed-clause-progress
 returns-in-Closed-clause-progress g c showing none =
-    consumes_some showing.role showing.limits c.args.scan.now c.call-count.new.scan c.args.chunk.now c.call-count.new.chunk c.call-count.result.0 c.call-count.result.1 c.call-count.new.part showing.came showing.frames.done showing.frames.at showing.frames.rest
-    showing.frames.followed (c.call-count.ensures.call c.call-count.ensures.in_bytes) c.requires.some none
+    consumes_some showing.role showing.limits c.args.scan.now c.follow-count.new.self c.args.chunk.now c.follow-count.new.chunk c.follow-count.result.0 c.follow-count.result.1 c.follow-count.new.part showing.came showing.frames.done showing.frames.at showing.frames.rest
+    showing.frames.followed (c.follow-count.ensures.call c.follow-count.ensures.in_bytes) c.requires.some none
 
 pub returns-in-Part-clause-shows : goal.returns-in-Part-clause-shows
 returns-in-Part-clause-shows g c role limits came shown frames =
     let old = c.args.scan.now in
-    let new = c.call-count.new.scan in
+    let new = c.follow-count.new.self in
     let chunk = c.args.chunk.now in
-    let after = c.call-count.new.chunk in
-    let n = c.call-count.result.0 in
-    let part = c.call-count.new.part in
+    let after = c.follow-count.new.chunk in
+    let n = c.follow-count.result.0 in
+    let part = c.follow-count.new.part in
     let context = c.args.context.now in
-    let call = subst (λ (f : Taken). IsCall old new chunk after n f part) c.in-Part.is (c.call-count.ensures.call c.call-count.ensures.in_bytes) in
+    let call = subst (λ (f : Taken). IsCall old new chunk after n f part) c.in-Part.is (c.follow-count.ensures.call c.follow-count.ensures.in_bytes) in
     part_step role limits old new chunk after n part came shown c.args.parts.now c.take.new.self context c.args.output.now c.take.new.output frames call
     (λ ended to before since is_at t kept.
     c.take.ensures role limits frames.done ended frames.at to frames.rest before (take n chunk) since (length-take-le n chunk call.within) is_at t kept)
 
 pub returns-in-Part-clause-progress : goal.returns-in-Part-clause-progress
 returns-in-Part-clause-progress g c showing none =
-    consumes_some showing.role showing.limits c.args.scan.now c.call-count.new.scan c.args.chunk.now c.call-count.new.chunk c.call-count.result.0 c.call-count.result.1 c.call-count.new.part showing.came showing.frames.done showing.frames.at showing.frames.rest
-    showing.frames.followed (c.call-count.ensures.call c.call-count.ensures.in_bytes) c.requires.some none
+    consumes_some showing.role showing.limits c.args.scan.now c.follow-count.new.self c.args.chunk.now c.follow-count.new.chunk c.follow-count.result.0 c.follow-count.result.1 c.follow-count.new.part showing.came showing.frames.done showing.frames.at showing.frames.rest
+    showing.frames.followed (c.follow-count.ensures.call c.follow-count.ensures.in_bytes) c.requires.some none
 
 pub returns-in-Some-clause-shows : goal.returns-in-Some-clause-shows
 returns-in-Some-clause-shows g c role limits came shown frames =
     let old = c.args.scan.now in
-    let new = c.call-count.new.scan in
+    let new = c.follow-count.new.self in
     let chunk = c.args.chunk.now in
-    let after = c.call-count.new.chunk in
-    let n = c.call-count.result.0 in
-    let part = c.call-count.new.part in
+    let after = c.follow-count.new.chunk in
+    let n = c.follow-count.result.0 in
+    let part = c.follow-count.new.part in
     let context = c.args.context.now in
-    let call = subst (λ (f : Taken). IsCall old new chunk after n f part) c.in-Refused.is (c.call-count.ensures.call c.call-count.ensures.in_bytes) in
+    let call = subst (λ (f : Taken). IsCall old new chunk after n f part) c.in-Refused.is (c.follow-count.ensures.call c.follow-count.ensures.in_bytes) in
     let refusal = c.in-Some.refusal in
     let is : refusal_in new ≡ Some refusal = sym c.refusal.ensures ∙ c.in-Some.is in
     let small = small_evidence role limits old new chunk after n part came shown c.args.parts.now c.refuse.new.self context c.args.output.now c.refuse.new.output frames refusal is call in

@@ -7,27 +7,27 @@ use Rattle.wsn_scan.proofs.scan.Scan.add_part.Goals as goal
 
 pub returns-then-ends-clause-taken : goal.returns-then-ends-clause-taken
 returns-then-ends-clause-taken c role limits bytes rest last wire before payload fs has_consumed none in_last size holds done within unmasked =
-    let same : c.args.done ≡ c.args.head.now.len = c.if-ends.true in
-    let all : length wire ≡ c.args.head.now.len = sym done ∙ same in
+    let same : c.args.inside.now.done ≡ c.args.inside.now.head.len = c.if-ends.true in
+    let all : length wire ≡ c.args.inside.now.head.len = sym done ∙ same in
     let ended = c.end.ensures.taken role limits (bytes ++ last) (rest ++ last) wire fs
     (knows_more role limits c.args.self.now _ bytes rest last fs (record { sender = refl; under = refl; room = omega (arith, c.requires.fits, size); used = refl; counts = refl; message = refl }) in_last has_consumed)
     none holds all in
-    let head_is = c.info-part.ensures ∙ ap (λ (n : ℕ). info_at n c.args.head.now) has_consumed.used ∙ ended.head_is in
+    let head_is = c.info-part.ensures ∙ ap (λ (n : ℕ). info_at n c.args.inside.now.head) has_consumed.used ∙ ended.head_is in
     record {
       frames = fs ++ ended.frame ∷ [];
       since = [];
       position = BetweenFrames;
       has_scanned = ended.has_scanned;
       found = record {
-        within = λ is. let yes : nat_eq c.args.done c.args.head.now.len ≡ true = search (rules, same) in let both : true ≡ false = sym yes ∙ is in cc;
+        within = λ is. let yes : nat_eq c.args.inside.now.done c.args.inside.now.head.len ≡ true = search (rules, same) in let both : true ≡ false = sym yes ∙ is in cc;
         ends = λ is. (ended.frame, head_is, ended.payload_is ∙ sym unmasked, refl, refl);
       };
     }
 
 pub returns-else-ends-clause-taken : goal.returns-else-ends-clause-taken
 returns-else-ends-clause-taken c role limits bytes rest last wire before payload fs has_consumed none in_last size holds done within unmasked =
-    let other : (c.args.done ≡ c.args.head.now.len) → ⊥ = c.if-ends.false in
-    let head_is = c.info-part.ensures ∙ ap (λ (n : ℕ). info_at n c.args.head.now) has_consumed.used in
+    let other : (c.args.inside.now.done ≡ c.args.inside.now.head.len) → ⊥ = c.if-ends.false in
+    let head_is = c.info-part.ensures ∙ ap (λ (n : ℕ). info_at n c.args.inside.now.head) has_consumed.used in
     record {
       frames = fs;
       since = rest ++ last;
@@ -45,7 +45,7 @@ returns-else-ends-clause-taken c role limits bytes rest last wire before payload
       };
       found = record {
         within = λ is. (refl, refl);
-        ends = λ is. let yes : nat_eq c.args.done c.args.head.now.len ≡ true = is in let same : c.args.done ≡ c.args.head.now.len = search (rules, yes) in absurd (other same);
+        ends = λ is. let yes : nat_eq c.args.inside.now.done c.args.inside.now.head.len ≡ true = is in let same : c.args.inside.now.done ≡ c.args.inside.now.head.len = search (rules, yes) in absurd (other same);
       };
     }
 
