@@ -10,6 +10,7 @@ use Rattle.wsn_rules.specs.Meaning.{MeantEvent}
 use Rattle.wsn_events.specs.declared.event_reader.EventReader.{EventReader}
 use Rattle.wsn_events.specs.declared.source.Next.{Next}
 use Rattle.wsn_events.specs.declared.source.Next.TheVariants as nexts
+use Rattle.wsn_events.specs.declared.turn.LastTurn.{LastTurn}
 use Rattle.wsn_events.specs.declared.turn.Turn.{Turn}
 use Rattle.wsn_events.specs.declared.turn.Turn.TheVariants as turns
 use Rattle.wsn_events.specs.EventsMeant.{meant}
@@ -30,6 +31,10 @@ meant_next (nexts.Done verdict) = OfVerdict verdict
 abbrev pub meant_turn : {A : Type 0} → EventReader A → Turn A → MeantTurn
 meant_turn reading (turns.Lent kind) = OfEvent (lent_message reading kind)
 meant_turn reading (turns.Own next) = meant_next next
+
+-- what the last turn of a source means
+abbrev pub meant_last : {A : Type 0} → LastTurn A → MeantTurn
+meant_last last = meant_turn last.source.now last.turn.now
 
 -- An event is lawful.
 abbrev pub IsLawfulTurn : MeantTurn → Type 0

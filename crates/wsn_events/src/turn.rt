@@ -13,6 +13,15 @@ pub enum Turn<A: Allocator> {
     Own(Next<A>),
 }
 
+/// What a source gave last.
+#[derive(Drop)]
+pub struct LastTurn<'a, A: Allocator> {
+    /// The source, which holds the bytes of a message that it lends.
+    pub source: &'a Source<A>,
+    /// Its turn.
+    pub turn: &'a Turn<A>,
+}
+
 /// Gives the source the room of an event that it has given, for the next message.
 #[inline(always)]
 pub fn give_back<A: Allocator + Copy>(source: &mut Source<A>, turn: Turn<A>)
