@@ -1,4 +1,4 @@
-ghost use Rattle.wsn_events.specs.EventReaders.{IsAsBefore};
+ghost use Rattle.wsn_events.specs.SourceStates.{IsAsBefore};
 
 use crate::source::{Next, Source};
 use std::alloc::Allocator;
