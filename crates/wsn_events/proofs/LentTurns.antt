@@ -15,10 +15,6 @@ use Rattle.wsn_events.specs.LeavingOut.{ReadsTurn}
 use Rattle.wsn_events.specs.LentMessages.{LendsMessage, MayLend}
 use Rattle.wsn_events.proofs.GivenSoFar.{begun_sound}
 
--- what holds anyway
-pub if_any : {P : Type 0} (lent : Option Kind) → P → IfSome lent (λ kind. P)
-if_any lent is = grind arith
-
 module _ {A : Type 0} (before mid : SourceState A) (lent : Option Kind) (may : MayLend before mid lent) where
   same : lent ≡ None → mid ≡ before
   same is = subst (λ (l : Option Kind). IfNone l (mid ≡ before)) is may.none

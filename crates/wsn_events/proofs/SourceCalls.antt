@@ -242,9 +242,6 @@ module _ {A : Type 0} (role : Role) (limits : Limits) (old new : Incoming) (befo
   pub stops_next : (halted : Stop) → turn ≡ Err halted → ReadsNextEvent role limits old new before came given (Err halted)
   stops_next halted is = next_from before (Err halted) (turn_is (Err halted) is)
 
-  pub lent_going : (kind : Kind) → turn ≡ Ok (Lent kind) → answered before ≡ None
-  lent_going kind is = (turn_is (Ok (Lent kind)) is).0.has.going
-
   -- it was lent, and is copied
   pub lent_next : (kind : Kind) → turn ≡ Ok (Lent kind) → (last : SourceState A) (next : Result (Next A) Stop)
       → ((r : Role) (b : Limits) (input : Incoming) (bytes : List ℕ) (events : List MeantEvent) → LendsMessage r b before bytes events kind → input.failed ≡ false → IsNextEvent r b input last bytes events next)

@@ -136,7 +136,7 @@ impl<A: Allocator + Copy> Source<A> {
             return Ok(Turn::Own(Next::Done(answer?)));
         }
         let mut part = Part::new();
-        loop {
+        let ended = loop {
             match self.reader.next(input, &mut part) {
                 Ok(None) => {
                     self.reassembly.begin(&part);
@@ -144,9 +144,7 @@ impl<A: Allocator + Copy> Source<A> {
                         return Ok(Turn::Lent(kind));
                     }
                     if !self.reassembly.take(self.reader.payload()) {
-                        self.reassembly.release();
-                        self.answer = Some(Err(Stop::Memory));
-                        return Err(Stop::Memory);
+                        break Err(Stop::Memory);
                     }
                     if part.ends {
                         if let Some(event) = self.reassembly.end(part.head.fin) {
@@ -154,18 +152,13 @@ impl<A: Allocator + Copy> Source<A> {
                         }
                     }
                 }
-                Ok(Some(verdict)) => {
-                    self.reassembly.release();
-                    self.answer = Some(Ok(verdict));
-                    return Ok(Turn::Own(Next::Done(verdict)));
-                }
-                Err(stop) => {
-                    self.reassembly.release();
-                    self.answer = Some(Err(stop));
-                    return Err(stop);
-                }
+                Ok(Some(verdict)) => break Ok(verdict),
+                Err(stop) => break Err(stop),
             }
-        }
+        };
+        self.reassembly.release();
+        self.answer = Some(ended);
+        Ok(Turn::Own(Next::Done(ended?)))
     }
 
     /// Takes the next event if it is a message that [`FrameReader::next_message`] takes, of one frame that is whole in the

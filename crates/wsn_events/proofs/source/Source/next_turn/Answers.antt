@@ -1,12 +1,46 @@
-use Rattle.std.proofs.Common.{◌≡◌, ℕ, true, false, Option, None, Some, Result, Ok, Err, List, ◌++◌, length, refl, sym, ap, ◌∙◌, subst, rules, arith}
+use Rattle.std.proofs.Common.{◌≡◌, ℕ, true, false, Option, None, Some, Result, Ok, Err, List, ◌++◌, length, sym, ap, ◌∙◌, subst, rules, arith}
+use Rattle.std.proofs.lemmas.Result.{err_from_is_err_and}
+use Rattle.wsn_wire.specs.declared.endpoint.Role.{Role}
 use Rattle.wsn_io.specs.declared.stop.Stop.{Stop}
-use Rattle.wsn_io.specs.declared.stop.Stop.TheVariants as stop
 use Rattle.wsn_rules.specs.declared.verdict.Verdict.{Verdict}
-use Rattle.wsn_events.specs.SourceStates.{SourceState, answered, events_ahead}
+use Rattle.wsn_rules.specs.Limits.{Limits}
+use Rattle.wsn_rules.specs.Meaning.{MeantEvent}
+use Rattle.wsn_events.specs.SourceStates.{SourceState, HasGiven, answered, events_ahead, next_of}
 use Rattle.wsn_events.specs.Reassembly.{IsInFrame}
+use Rattle.wsn_events.specs.Turns.{TakesTurn, own_turn}
 use Rattle.wsn_events.proofs.SourceCalls.{HasRead, state_of, going_on, at_work, begins, unfailed, lends, within, fragment, gives, end_lawful, no_memory, finished, stopped, reading_of, begun_after}
 use Rattle.wsn_events.proofs.GivenSoFar.{begun_sound}
+use Rattle.wsn_events.proofs.source.Source.next_turn.Given.{Over}
 use Rattle.wsn_events.proofs.source.Source.next_turn.Goals as goal
+use Rattle.wsn_events.proofs.source.Source.next_turn.Goals.{After-release, in-Ok-None+in_default-whole_message+then-not-take, in-Ok-Some, in-Err}
+
+-- the source has ended with the answer that left the loop
+module _ (g : Over) (c : After-release g) where
+  abbrev last : SourceState g.row.A.Denot
+  last = record { reader = c.match-next.self-inside.reader; reassembly = c.release.new.self; answer = Some c.match-next.ended }
+
+  abbrev EndsWith : Role → Limits → List ℕ → List MeantEvent → Result Verdict Stop → Type 0
+  EndsWith role limits came given answer = TakesTurn role limits c.args.input.now c.next.new.input last came given (own_turn (next_of answer))
+
+  ended : (role : Role) (limits : Limits) (came : List ℕ) (given : List MeantEvent) → HasGiven role limits c.args.self.now came given → EndsWith role limits came given c.match-next.ended
+  ended role limits came given has =
+      let read = c.loop-self.invariant.read role limits came given has in
+      let reads = c.next.ensures.next role limits (came ++ read.more) read.has.frames read.has.position read.has.has_taken in
+      let held = ap (λ (bs : List ℕ). length bs) c.release.ensures in
+      elim c.match-next.branch [
+        | in-Ok-None+in_default-whole_message+then-not-take w ↦
+            let was : c.next.result ≡ Ok None = w.in-Ok-None.is ∙ ap Ok w.in-Ok-None.field-0-is in
+            let refused : w.take.result ≡ false = search rules in
+            let failed = w.take.ensures.refused refused in
+            subst (EndsWith role limits came given) (sym w.ended-is)
+            (no_memory role limits c.args.input.now came given c.loop-self.input c.next.new.input (state_of c.loop-self.self-inside) c.next.new.self c.next.new.part read c.next.result reads was w.begin.new.self w.begin.ensures (failed.0, λ none. failed.1 (w.payload.ensures ∙ none)) last (ap Some w.ended-is) held)
+        | in-Ok-Some w ↦
+            subst (EndsWith role limits came given) (sym w.ended-is)
+            (finished role limits c.args.input.now came given c.loop-self.input c.next.new.input (state_of c.loop-self.self-inside) c.next.new.self c.next.new.part read c.next.result reads w.in-Ok-Some.verdict (w.in-Ok-Some.is ∙ ap Ok w.in-Ok-Some.field-0-is) last (ap Some w.ended-is) held)
+        | in-Err w ↦
+            subst (EndsWith role limits came given) (sym w.ended-is)
+            (stopped role limits c.args.input.now came given c.loop-self.input c.next.new.input (state_of c.loop-self.self-inside) c.next.new.self c.next.new.part read c.next.result reads w.in-Err.stop w.in-Err.is last (ap Some w.ended-is) held)
+      ]
 
 pub loop-self-init : goal.loop-self-init
 loop-self-init g c = record {
@@ -34,20 +68,6 @@ returns-in-Some-whole_message-clause-next g c role limits came given has =
 pub returns-in-Some-whole_message-clause-falls : goal.returns-in-Some-whole_message-clause-falls
 returns-in-Some-whole_message-clause-falls g c is =
     omega (arith, c.next.ensures.falls (c.in-Ok-None.is ∙ ap Ok c.in-Ok-None.field-0-is), c.loop-self.invariant.left)
-
-pub returns-then-not-take : goal.returns-then-not-take
-returns-then-not-take g c = record {
-  next = λ role limits came given has.
-      let read = c.loop-self.invariant.read role limits came given has in
-      let reads = c.next.ensures.next role limits (came ++ read.more) read.has.frames read.has.position read.has.has_taken in
-      let was : c.next.result ≡ Ok None = c.in-Ok-None.is ∙ ap Ok c.in-Ok-None.field-0-is in
-      let refused : c.take.result ≡ false = search rules in
-      let failed = c.take.ensures.refused refused in
-      no_memory role limits c.args.input.now came given c.loop-self.input c.next.new.input (state_of c.loop-self.self-inside) c.next.new.self c.next.new.part read c.next.result reads was c.begin.new.self c.begin.ensures (failed.0, λ none. failed.1 (c.payload.ensures ∙ none)) (record { reader = c.next.new.self; reassembly = c.release.new.self; answer = Some (Err stop.Memory) }) refl (ap (λ (bs : List ℕ). length bs) c.release.ensures);
-  falls = search rules;
-  again = λ answer was. absurd (c.in_default.not-Some answer (ap answered c.self.view_is ∙ was));
-  sound = search rules;
-}
 
 pub end-requires : goal.end-requires
 end-requires g c =
@@ -110,28 +130,6 @@ loop-self-preserved g c =
       left = omega (arith, c.next.ensures.falls was, c.loop-self.invariant.left);
     }
 
-pub returns-in-Ok-Some : goal.returns-in-Ok-Some
-returns-in-Ok-Some g c = record {
-  next = λ role limits came given has.
-      let read = c.loop-self.invariant.read role limits came given has in
-      let reads = c.next.ensures.next role limits (came ++ read.more) read.has.frames read.has.position read.has.has_taken in
-      finished role limits c.args.input.now came given c.loop-self.input c.next.new.input (state_of c.loop-self.self-inside) c.next.new.self c.next.new.part read c.next.result reads c.in-Ok-Some.verdict (c.in-Ok-Some.is ∙ ap Ok c.in-Ok-Some.field-0-is) (record { reader = c.next.new.self; reassembly = c.release-in-Ok-Some.new.self; answer = Some (Ok c.in-Ok-Some.verdict) }) refl (ap (λ (bs : List ℕ). length bs) c.release-in-Ok-Some.ensures);
-  falls = search rules;
-  again = λ answer was. absurd (c.in_default.not-Some answer (ap answered c.self.view_is ∙ was));
-  sound = search rules;
-}
-
-pub returns-in-Err : goal.returns-in-Err
-returns-in-Err g c = record {
-  next = λ role limits came given has.
-      let read = c.loop-self.invariant.read role limits came given has in
-      let reads = c.next.ensures.next role limits (came ++ read.more) read.has.frames read.has.position read.has.has_taken in
-      stopped role limits c.args.input.now came given c.loop-self.input c.next.new.input (state_of c.loop-self.self-inside) c.next.new.self c.next.new.part read c.next.result reads c.in-Err.stop c.in-Err.is (record { reader = c.next.new.self; reassembly = c.release-in-Err.new.self; answer = Some (Err c.in-Err.stop) }) refl (ap (λ (bs : List ℕ). length bs) c.release-in-Err.ensures);
-  falls = search rules;
-  again = λ answer was. absurd (c.in_default.not-Some answer (ap answered c.self.view_is ∙ was));
-  sound = search rules;
-}
-
 pub same-self : goal.same-self
 same-self g c = search rules
 
@@ -168,11 +166,29 @@ invariant_of-self-in-Some-end g c none =
     begun_after b.role b.limits c.args.input.now c.next.new.input _ b.came b.given _
     (gives b.role b.limits c.args.input.now b.came b.given c.loop-self.input c.next.new.input (state_of c.loop-self.self-inside) c.next.new.self c.next.new.part read c.next.result reads was c.begin.new.self c.begin.ensures c.take.new.self (λ before op front within. subst (λ (bs : List ℕ). IsInFrame c.take.new.self before op (front ++ bs)) c.payload.ensures (c.take.ensures.taken before op front taken within)) c.if-part.true c.end.new.self c.end.result (c.end.ensures b.role b.limits) c.in-Some-end.event c.in-Some-end.is) tt
 
-pub invariant_of-self-then-not-take : goal.invariant_of-self-then-not-take
-invariant_of-self-then-not-take g c none = let no : ◌≡◌ {A = Option (Result Verdict Stop)} (Some (Err stop.Memory)) None = none in absurd cc
+pub returns : goal.returns
+returns g c = record {
+  next = λ role limits came given has.
+      let at = (goal.at.returns g c).After-release in
+      subst (λ (r : _). TakesTurn role limits c.args.input.now c.next.new.input (last g at) came given r) (ap (λ (r : Result Verdict Stop). own_turn (next_of r)) c.in_ok-ended.was) (ended g at role limits came given has);
+  falls = search rules;
+  again = λ answer was. absurd (c.in_default.not-Some answer (ap answered c.self.view_is ∙ was));
+  sound = search rules;
+}
 
-pub invariant_of-self-in-Ok-Some : goal.invariant_of-self-in-Ok-Some
-invariant_of-self-in-Ok-Some g c none = let no : ◌≡◌ {A = Option (Result Verdict Stop)} (Some (Ok c.in-Ok-Some.verdict)) None = none in absurd cc
+pub returns-in_err-ended : goal.returns-in_err-ended
+returns-in_err-ended g c = record {
+  next = λ role limits came given has.
+      let at = (goal.at.returns-in_err-ended g c).After-release in
+      let out = err_from_is_err_and c.from_residual-in_err-ended.result c.from_residual-in_err-ended.ensures.1 in
+      subst (λ (r : _). TakesTurn role limits c.args.input.now c.next.new.input (last g at) came given r) (ap (λ (r : Result Verdict Stop). own_turn (next_of r)) c.in_err-ended.was ∙ sym (out.1 ∙ ap Err out.2)) (ended g at role limits came given has);
+  falls = search rules;
+  again = λ answer was. absurd (c.in_default.not-Some answer (ap answered c.self.view_is ∙ was));
+  sound = search rules;
+}
 
-pub invariant_of-self-in-Err : goal.invariant_of-self-in-Err
-invariant_of-self-in-Err g c none = let no : ◌≡◌ {A = Option (Result Verdict Stop)} (Some (Err c.in-Err.stop)) None = none in absurd cc
+pub invariant_of-self-2 : goal.invariant_of-self-2
+invariant_of-self-2 g c none = let no : ◌≡◌ {A = Option (Result Verdict Stop)} (Some c.match-next.ended) None = none in absurd cc
+
+pub invariant_of-self-in_err-ended : goal.invariant_of-self-in_err-ended
+invariant_of-self-in_err-ended g c none = let no : ◌≡◌ {A = Option (Result Verdict Stop)} (Some c.match-next.ended) None = none in absurd cc
