@@ -45,11 +45,12 @@ use Rattle.wsn_events.proofs.LentMessages.{lends_begun, given_event, copied, not
 use Rattle.wsn_events.proofs.TakenParts.{EndsPart, place_of, ended_by, data_of_part, first_of_part}
 use Rattle.wsn_events.proofs.ReassembledFrames.{lawful_body, reassembled_alike}
 
--- A call has read these bytes more and given no event yet.
+-- A call has read these bytes more and given no event yet, and its input hasn't failed.
 pub record HasRead {A : Type 0} (role : Role) (limits : Limits) (old new : Incoming) (reading : SourceState A) (came : List ℕ) (given : List MeantEvent) : Type 0 where
   pub more : List ℕ
   pub consumed : IsConsumed old new more
   pub has : HasGiven role limits reading (came ++ more) given
+  pub unfailed : new.failed ≡ false
 
 -- a reader's stop is the source's
 halted_of : (role : Role) (limits : Limits) (new : Incoming) (came : List ℕ) (fs : List Frame) (at : Position) (given : List MeantEvent) (halted : Stop) → given ≡ meaning fs → IsHaltedAt role limits new came fs at halted → IsHalted role limits new came given halted
@@ -94,8 +95,8 @@ has_still role limits reading g came given same held has = record {
 }
 
 module _ {A : Type 0} (role : Role) (limits : Limits) (old : Incoming) (came : List ℕ) (given : List MeantEvent) where
-  pub begins : (reading : SourceState A) → HasGiven role limits reading came given → HasRead role limits old old reading came given
-  begins reading has = record { more = []; consumed = consumed_none old; has = subst (λ (bs : List ℕ). HasGiven role limits reading bs given) (sym (append-nil came)) has }
+  pub begins : (reading : SourceState A) → old.failed ≡ false → HasGiven role limits reading came given → HasRead role limits old old reading came given
+  begins reading readable has = record { more = []; consumed = consumed_none old; has = subst (λ (bs : List ℕ). HasGiven role limits reading bs given) (sym (append-nil came)) has; unfailed = readable }
 
   -- The reader was called once more.
   module _ (mid new : Incoming) (reading : SourceState A) (reader : FrameReader) (part : Part) (read : HasRead role limits old mid reading came given) (result : Result (Option Verdict) Stop)
@@ -132,7 +133,7 @@ module _ {A : Type 0} (role : Role) (limits : Limits) (old : Incoming) (came : L
       takes : ReadsPart role limits reader part now fs read.has.position
       takes = (found (Ok None) is).0
 
-      pub unfailed : new.failed ≡ false
+      unfailed : new.failed ≡ false
       unfailed = (found (Ok None) is).1
 
       taken : IsTakenOf role limits now takes.frames takes.position
@@ -170,7 +171,7 @@ module _ {A : Type 0} (role : Role) (limits : Limits) (old : Incoming) (came : L
           longer_in_frame = take_on fs part.head.op takes.is_part.before in_frame
 
           goes_on : (g : Reassembly A) (frames : List Frame) (position : Position) → (frames ≡ takes.frames) × (position ≡ takes.position) → IsReassembled g frames position → given ≡ meaning frames → HasRead role limits old new (moved g) came given
-          goes_on g frames position is_now reassembly events = grind (arith, consumed, all, takes)
+          goes_on g frames position is_now reassembly events = grind (arith, consumed, all, takes, unfailed)
 
           -- it doesn't end the frame
           pub within : part.ends ≡ false → HasRead role limits old new (moved longer) came given
@@ -242,12 +243,6 @@ module _ {A : Type 0} (role : Role) (limits : Limits) (old new : Incoming) (befo
   pub stops_next : (halted : Stop) → turn ≡ Err halted → ReadsNextEvent role limits old new before came given (Err halted)
   stops_next halted is = next_from before (Err halted) (turn_is (Err halted) is)
 
-  -- it was lent, and is copied
-  pub lent_next : (kind : Kind) → turn ≡ Ok (Lent kind) → (last : SourceState A) (next : Result (Next A) Stop)
-      → ((r : Role) (b : Limits) (input : Incoming) (bytes : List ℕ) (events : List MeantEvent) → LendsMessage r b before bytes events kind → input.failed ≡ false → IsNextEvent r b input last bytes events next)
-      → ReadsNextEvent role limits old new last came given next
-  lent_next kind is last next copies = let lent = turn_is (Ok (Lent kind)) is in next_from last next (copies role limits new (came ++ takes.more) given lent.0 lent.1)
-
 -- ---- a message that was lent, once it is copied
 
 module _ {A : Type 0} (role : Role) (limits : Limits) (old new : Incoming) (inside : Inside A) (source : SourceState A) (view_is : state_of inside ≡ source) (came : List ℕ) (given : List MeantEvent) (turn : Result (Turn A) Stop)
@@ -255,13 +250,16 @@ module _ {A : Type 0} (role : Role) (limits : Limits) (old new : Incoming) (insi
   lent_inside : TakesTurn role limits old new (state_of inside) came given turn
   lent_inside = subst (λ (s : SourceState A). TakesTurn role limits old new s came given turn) (sym view_is) takes
 
+  lends_inside : LendsMessage role limits (state_of inside) (came ++ lent_inside.more) given kind × (new.failed ≡ false)
+  lends_inside = turn_is role limits old new (state_of inside) came given turn lent_inside (Ok (Lent kind)) is
+
   pub copied_next : (g : Reassembly A) → g ≡ record inside.reassembly { message = g.message } → g.message.items ≡ [] → (event : Event A) → meant event ≡ Message kind (inside.reassembly.message.items ++ held_payload inside.reader)
       → ReadsNextEvent role limits old new (record { reader = inside.reader; reassembly = g; answer = inside.answer }) came given (Ok (nexts.Event event))
   copied_next g same empty event means =
-      lent_next role limits old new (state_of inside) came given turn lent_inside kind is (record { reader = inside.reader; reassembly = g; answer = inside.answer }) (Ok (nexts.Event event))
-      (λ r b input bytes events lends unfailed. copied r b input (state_of inside) bytes events kind lends unfailed g same empty event means)
+      next_from role limits old new (state_of inside) came given turn lent_inside (record { reader = inside.reader; reassembly = g; answer = inside.answer }) (Ok (nexts.Event event))
+      (copied role limits new (state_of inside) (came ++ lent_inside.more) given kind lends_inside.0 lends_inside.1 g same empty event means)
 
   pub not_copied_next : held_payload inside.reader ≢ [] → (last : SourceState A) → answered last ≡ Some (Err stops.Memory) → held_of last ≡ 0 → ReadsNextEvent role limits old new last came given (Err stops.Memory)
   not_copied_next some last answer held =
-      lent_next role limits old new (state_of inside) came given turn lent_inside kind is last (Err stops.Memory)
-      (λ r b input bytes events lends unfailed. not_copied r b input (state_of inside) bytes events kind lends unfailed some last answer held)
+      next_from role limits old new (state_of inside) came given turn lent_inside last (Err stops.Memory)
+      (not_copied role limits new (state_of inside) (came ++ lent_inside.more) given kind lends_inside.0 lends_inside.1 some last answer held)

@@ -8,7 +8,7 @@ use Rattle.wsn_rules.specs.Meaning.{MeantEvent}
 use Rattle.wsn_events.specs.SourceStates.{SourceState, HasGiven, answered, events_ahead, next_of}
 use Rattle.wsn_events.specs.Reassembly.{IsInFrame}
 use Rattle.wsn_events.specs.Turns.{TakesTurn, own_turn}
-use Rattle.wsn_events.proofs.SourceCalls.{HasRead, state_of, going_on, at_work, begins, unfailed, lends, within, fragment, gives, end_lawful, no_memory, finished, stopped, reading_of, begun_after}
+use Rattle.wsn_events.proofs.SourceCalls.{HasRead, state_of, going_on, at_work, begins, lends, within, fragment, gives, end_lawful, no_memory, finished, stopped, reading_of, begun_after}
 use Rattle.wsn_events.proofs.GivenSoFar.{begun_sound}
 use Rattle.wsn_events.proofs.source.Source.next_turn.Given.{Over}
 use Rattle.wsn_events.proofs.source.Source.next_turn.Goals as goal
@@ -45,18 +45,19 @@ module _ (g : Over) (c : After-release g) where
 pub loop-self-init : goal.loop-self-init
 loop-self-init g c = record {
   read = λ role limits came given has.
-      subst (λ (s : SourceState _). HasRead role limits c.args.input.now c.args.input.now s came given) (sym c.self.view_is) (begins role limits c.args.input.now came given c.args.self.now has);
-  unfailed = c.requires.readable (going_on c.self.inside c.args.self.now c.self.view_is c.in_default.not-Some);
+      subst (λ (s : SourceState _). HasRead role limits c.args.input.now c.args.input.now s came given) (sym c.self.view_is)
+      (begins role limits c.args.input.now came given c.args.self.now (c.requires.readable (going_on c.self.inside c.args.self.now c.self.view_is c.in_default.not-Some)) has);
   left = omega (arith, ap events_ahead c.self.view_is);
 }
 
 pub next-requires : goal.next-requires
-next-requires g c = record {
-  begun = let b = at_work c.self.inside c.args.self.now c.self.view_is c.in_default.not-Some c.self.invariant in
-      let read = c.loop-self.invariant.read b.role b.limits b.came b.given b.has in
-      reading_of (state_of c.loop-self.self-inside) (begun_sound b.role b.limits (state_of c.loop-self.self-inside) (b.came ++ read.more) b.given read.has);
-  readable = c.loop-self.invariant.unfailed;
-}
+next-requires g c =
+    let b = at_work c.self.inside c.args.self.now c.self.view_is c.in_default.not-Some c.self.invariant in
+    let read = c.loop-self.invariant.read b.role b.limits b.came b.given b.has in
+    record {
+      begun = reading_of (state_of c.loop-self.self-inside) (begun_sound b.role b.limits (state_of c.loop-self.self-inside) (b.came ++ read.more) b.given read.has);
+      readable = read.unfailed;
+    }
 
 pub returns-in-Some-whole_message-clause-next : goal.returns-in-Some-whole_message-clause-next
 returns-in-Some-whole_message-clause-next g c role limits came given has =
@@ -102,11 +103,6 @@ loop-self-preserved-in_default-end g c =
           let read = c.loop-self.invariant.read role limits came given has in
           let reads = c.next.ensures.next role limits (came ++ read.more) read.has.frames read.has.position read.has.has_taken in
           fragment role limits c.args.input.now came given c.loop-self.input c.next.new.input (state_of c.loop-self.self-inside) c.next.new.self c.next.new.part read c.next.result reads was c.begin.new.self c.begin.ensures c.take.new.self (λ before op front within. subst (λ (bs : List ℕ). IsInFrame c.take.new.self before op (front ++ bs)) c.payload.ensures (c.take.ensures.taken before op front taken within)) c.if-part.true c.end.new.self c.end.result (c.end.ensures role limits) c.in_default-end.is;
-      unfailed =
-          let b = at_work c.self.inside c.args.self.now c.self.view_is c.in_default.not-Some c.self.invariant in
-          let read = c.loop-self.invariant.read b.role b.limits b.came b.given b.has in
-          let reads = c.next.ensures.next b.role b.limits (b.came ++ read.more) read.has.frames read.has.position read.has.has_taken in
-          unfailed b.role b.limits c.args.input.now b.came b.given c.loop-self.input c.next.new.input (state_of c.loop-self.self-inside) c.next.new.self c.next.new.part read c.next.result reads was;
       left = omega (arith, c.next.ensures.falls was, c.loop-self.invariant.left);
     }
 
@@ -122,11 +118,6 @@ loop-self-preserved g c =
           let read = c.loop-self.invariant.read role limits came given has in
           let reads = c.next.ensures.next role limits (came ++ read.more) read.has.frames read.has.position read.has.has_taken in
           within role limits c.args.input.now came given c.loop-self.input c.next.new.input (state_of c.loop-self.self-inside) c.next.new.self c.next.new.part read c.next.result reads was c.begin.new.self c.begin.ensures c.take.new.self (λ before op front within. subst (λ (bs : List ℕ). IsInFrame c.take.new.self before op (front ++ bs)) c.payload.ensures (c.take.ensures.taken before op front taken within)) c.if-part.false;
-      unfailed =
-          let b = at_work c.self.inside c.args.self.now c.self.view_is c.in_default.not-Some c.self.invariant in
-          let read = c.loop-self.invariant.read b.role b.limits b.came b.given b.has in
-          let reads = c.next.ensures.next b.role b.limits (b.came ++ read.more) read.has.frames read.has.position read.has.has_taken in
-          unfailed b.role b.limits c.args.input.now b.came b.given c.loop-self.input c.next.new.input (state_of c.loop-self.self-inside) c.next.new.self c.next.new.part read c.next.result reads was;
       left = omega (arith, c.next.ensures.falls was, c.loop-self.invariant.left);
     }
 

@@ -1,4 +1,4 @@
-use Rattle.std.proofs.Common.{◌≡◌, ℕ, ◌≤◌, false, List}
+use Rattle.std.proofs.Common.{ℕ, ◌≤◌, List}
 use Rattle.wsn_wire.specs.declared.endpoint.Role.{Role}
 use Rattle.wsn_rules.specs.Limits.{Limits}
 use Rattle.wsn_rules.specs.Meaning.{MeantEvent}
@@ -10,7 +10,6 @@ use Rattle.wsn_events.proofs.source.Source.next_turn.Given as goal
 abbrev pub invariant-loop-self : goal.invariant-loop-self
 invariant-loop-self g l = record {
   read : (role : Role) (limits : Limits) (came : List ℕ) (given : List MeantEvent) → HasGiven role limits l.fn.self came given → HasRead role limits l.fn.input l.input (state_of l.self-inside) came given;
-  unfailed : l.input.failed ≡ false;
   left : events_ahead (state_of l.self-inside) ≤ events_ahead l.fn.self;
 }
 
