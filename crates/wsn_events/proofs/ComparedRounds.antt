@@ -11,9 +11,8 @@ use Rattle.wsn_rules.specs.LeftOut.{events_without}
 use Rattle.wsn_rules.specs.Meaning.{MeantEvent}
 use Rattle.wsn_scan.proofs.ReaderReports.{left_few}
 use Rattle.wsn_events.specs.declared.comparing.Round.TheVariants.{Alike, Unlike}
-use Rattle.wsn_events.specs.declared.event_reader.EventReader.{EventReader}
 use Rattle.wsn_events.specs.Turns.{MeantTurn, OfEvent, OfVerdict}
-use Rattle.wsn_events.specs.EventReaders.{HasGiven, answered, events_ahead}
+use Rattle.wsn_events.specs.SourceStates.{SourceState, HasGiven, answered, events_ahead}
 use Rattle.wsn_rules.specs.SameMeaning.{DifferAt}
 use Rattle.wsn_events.specs.Comparing.{IsRoundOf}
 use Rattle.wsn_events.proofs.ComparedEvents.{differ_sym, differ_more, differ_next, differ_end, differ_first}
@@ -24,11 +23,11 @@ abbrev pub rounds_ahead : Option (Result Verdict Stop) → ℕ → ℕ
 rounds_ahead None left = left + 1
 rounds_ahead (Some answer) left = 0
 
-abbrev pub pending : {A : Type 0} → EventReader A → ℕ
+abbrev pub pending : {A : Type 0} → SourceState A → ℕ
 pending reading = rounds_ahead (answered reading) (events_ahead reading)
 
 -- Without a difference, neither has ended, and they have given `index` events, the same. A difference stays the first.
-abbrev pub IsDifferenceSoFar : {A : Type 0} → EventReader A → EventReader A → ℕ → List MeantEvent → List MeantEvent → Option ℕ → Type 0
+abbrev pub IsDifferenceSoFar : {A : Type 0} → SourceState A → SourceState A → ℕ → List MeantEvent → List MeantEvent → Option ℕ → Type 0
 IsDifferenceSoFar reading other index events others None =
     (answered reading ≡ None) × (answered other ≡ None) × (events ≡ others) × (length events ≡ index)
 IsDifferenceSoFar reading other index events others (Some k) =
@@ -48,7 +47,7 @@ some_unlike turn other is = grind arith
 
 module _ {A : Type 0} (role : Role) (limits : Limits) where
   -- the first difference stays
-  differ_on : (before reading : EventReader A) (given events others : List MeantEvent) (turn : MeantTurn) (k : ℕ)
+  differ_on : (before reading : SourceState A) (given events others : List MeantEvent) (turn : MeantTurn) (k : ℕ)
       → Gives before reading given events turn → (answered before ≡ None → k < length given) → DifferAt k given others
       → DifferAt k events others × (answered reading ≡ None → k < length events)
   differ_on before reading given events others (OfEvent event) k gives within differ =
@@ -59,24 +58,24 @@ module _ {A : Type 0} (role : Role) (limits : Limits) where
 
   -- ---- rounds
 
-  pending_going : (reading : EventReader A) → answered reading ≡ None → pending reading ≡ events_ahead reading + 1
+  pending_going : (reading : SourceState A) → answered reading ≡ None → pending reading ≡ events_ahead reading + 1
   pending_going reading going = ap (λ (a : Option (Result Verdict Stop)). rounds_ahead a (events_ahead reading)) going
 
-  pending_done : (reading : EventReader A) (answer : Result Verdict Stop) → answered reading ≡ Some answer → pending reading ≡ 0
+  pending_done : (reading : SourceState A) (answer : Result Verdict Stop) → answered reading ≡ Some answer → pending reading ≡ 0
   pending_done reading answer done = ap (λ (a : Option (Result Verdict Stop)). rounds_ahead a (events_ahead reading)) done
 
   -- at most a round for each byte of the input limit, and one for the verdict
-  pub few_rounds : (reading : EventReader A) → HasGiven role limits reading [] [] → pending reading ≤ 2 ^ 41 + 2
+  pub few_rounds : (reading : SourceState A) → HasGiven role limits reading [] [] → pending reading ≤ 2 ^ 41 + 2
   few_rounds reading has = grind (arith, pending_going, left_few)
 
-  falls : (before reading : EventReader A) (given events : List MeantEvent) (turn : MeantTurn)
+  falls : (before reading : SourceState A) (given events : List MeantEvent) (turn : MeantTurn)
       → Gives before reading given events turn → pending reading + falls_by turn ≤ pending before
   falls before reading given events turn gives = grind (arith, pending_going, pending_done)
 
   -- ---- what comes after the same events, or after a difference
 
   -- both sides of a first difference
-  differ_still : (before reading other_before other : EventReader A) (given events other_given others : List MeantEvent) (turn other_turn : MeantTurn) (k : ℕ)
+  differ_still : (before reading other_before other : SourceState A) (given events other_given others : List MeantEvent) (turn other_turn : MeantTurn) (k : ℕ)
       → Gives before reading given events turn → Gives other_before other other_given others other_turn
       → DifferAt k given other_given → (answered before ≡ None → k < length given) → (answered other_before ≡ None → k < length other_given)
       → DifferAt k events others × (answered reading ≡ None → k < length events) × (answered other ≡ None → k < length others)
@@ -85,12 +84,12 @@ module _ {A : Type 0} (role : Role) (limits : Limits) where
       let two = differ_on other_before other other_given others events other_turn k other_gives other_within (differ_sym k events other_given one.0) in
       (differ_sym k others events two.0, one.1, two.1)
 
-  same_next : (before reading other_before other : EventReader A) (given events other_given others : List MeantEvent) (turn other_turn : MeantTurn) (index : ℕ)
+  same_next : (before reading other_before other : SourceState A) (given events other_given others : List MeantEvent) (turn other_turn : MeantTurn) (index : ℕ)
       → Gives before reading given events turn → Gives other_before other other_given others other_turn
       → given ≡ other_given → length given ≡ index → IsRoundOf turn other_turn Alike → IsDifferenceSoFar reading other (index + 1) events others None
   same_next before reading other_before other given events other_given others turn other_turn index gives other_gives same size is = grind (arith, length-append)
 
-  unlike_next : (before reading other_before other : EventReader A) (given events other_given others : List MeantEvent) (turn other_turn : MeantTurn) (index : ℕ)
+  unlike_next : (before reading other_before other : SourceState A) (given events other_given others : List MeantEvent) (turn other_turn : MeantTurn) (index : ℕ)
       → Gives before reading given events turn → Gives other_before other other_given others other_turn
       → given ≡ other_given → length given ≡ index → IsRoundOf turn other_turn Unlike → IsDifferenceSoFar reading other (index + 1) events others (Some index)
   unlike_next before reading other_before other given events other_given others (OfEvent event) (OfEvent that) index gives other_gives same size is = (
@@ -114,7 +113,7 @@ module _ {A : Type 0} (role : Role) (limits : Limits) where
 
   -- ---- one round
 
-  module _ (without : Without) (old other_old new other_new : Incoming) (before reading other_before other : EventReader A) (was other_was : List ℕ) (given other_given : List MeantEvent) (turn other_turn : MeantTurn)
+  module _ (without : Without) (old other_old new other_new : Incoming) (before reading other_before other : SourceState A) (was other_was : List ℕ) (given other_given : List MeantEvent) (turn other_turn : MeantTurn)
       (one : HasGivenNext without role limits old new before reading was given turn) (two : HasGivenNext without role limits other_old other_new other_before other other_was other_given other_turn) where
     -- what is left of the events before the round, and with it
     abbrev left : List MeantEvent

@@ -9,13 +9,12 @@ use Rattle.wsn_rules.specs.declared.without.Without.{Without}
 use Rattle.wsn_rules.specs.Limits.{Limits}
 use Rattle.wsn_rules.specs.LeftOut.{is_left_out, events_without}
 use Rattle.wsn_rules.specs.Meaning.{MeantEvent}
-use Rattle.wsn_events.specs.declared.event_reader.EventReader.{EventReader}
 use Rattle.wsn_events.specs.declared.source.Next.TheVariants as nexts
 use Rattle.wsn_events.specs.declared.turn.Turn.{Turn}
 use Rattle.wsn_events.specs.declared.turn.Turn.TheVariants.{Lent, Own}
 use Rattle.wsn_events.specs.EventsMeant.{meant}
 use Rattle.wsn_events.specs.Sources.{IsLast}
-use Rattle.wsn_events.specs.EventReaders.{HasGiven, HasBegunOrEnded, answered, offset_of, frames_of, events_ahead}
+use Rattle.wsn_events.specs.SourceStates.{SourceState, HasGiven, HasBegunOrEnded, answered, offset_of, frames_of, events_ahead}
 use Rattle.wsn_events.specs.LeavingOut.{is_turn_left_out, TakesTurnWithout, ReadsTurn}
 use Rattle.wsn_events.specs.LentMessages.{lent_message}
 use Rattle.wsn_events.specs.Comparing.{HasStopped}
@@ -25,20 +24,20 @@ use Rattle.wsn_events.proofs.LeftOut.{passed_over, one_more}
 use Rattle.wsn_events.proofs.StandingEvents.{StandsAt, given_stands}
 
 -- A source has not ended, and its input hasn't failed.
-abbrev pub IsGoing : {A : Type 0} → Role → Limits → Incoming → EventReader A → List ℕ → List MeantEvent → Type 0
+abbrev pub IsGoing : {A : Type 0} → Role → Limits → Incoming → SourceState A → List ℕ → List MeantEvent → Type 0
 IsGoing role limits now reading came given = HasGiven role limits reading came given × (now.failed ≡ false)
 
 -- It has ended with this verdict, after all of its events.
-abbrev pub HasEndedWith : {A : Type 0} → Role → Limits → Incoming → EventReader A → List ℕ → List MeantEvent → Verdict → Type 0
+abbrev pub HasEndedWith : {A : Type 0} → Role → Limits → Incoming → SourceState A → List ℕ → List MeantEvent → Verdict → Type 0
 HasEndedWith role limits now reading came given verdict = (answered reading ≡ Some (Ok verdict)) × IsLast role limits now came given (Ok verdict)
 
 -- A source, the bytes that came, and the events that it has given.
-pub record HasFollowed {A : Type 0} (role : Role) (limits : Limits) (old now : Incoming) (reading : EventReader A) (came : List ℕ) (given : List MeantEvent) : Type 0 where
+pub record HasFollowed {A : Type 0} (role : Role) (limits : Limits) (old now : Incoming) (reading : SourceState A) (came : List ℕ) (given : List MeantEvent) : Type 0 where
   pub received : IsReceived (limits.input + 1) old now came
   pub state : IsGoing role limits now reading came given ⊎ ((verdict : Verdict) × HasEndedWith role limits now reading came given verdict)
 
 -- What a source gave in a round, after the events that are compared so far.
-abbrev pub Gives : {A : Type 0} → EventReader A → EventReader A → List MeantEvent → List MeantEvent → MeantTurn → Type 0
+abbrev pub Gives : {A : Type 0} → SourceState A → SourceState A → List MeantEvent → List MeantEvent → MeantTurn → Type 0
 Gives old reading given events (OfEvent event) =
     (events ≡ given ++ event ∷ []) × (answered old ≡ None) × (answered reading ≡ None) × (events_ahead reading < events_ahead old)
 Gives old reading given events (OfVerdict verdict) = (events ≡ given) × (answered reading ≡ Some (Ok verdict))
@@ -49,12 +48,12 @@ IsLastTurn role limits new came events (OfEvent event) = Unit {0}
 IsLastTurn role limits new came events (OfVerdict verdict) = IsLast role limits new came events (Ok verdict)
 
 -- An event comes after those that are left of the events before.
-abbrev pub StandsNext : {A : Type 0} → Without → Role → Limits → EventReader A → List ℕ → List MeantEvent → MeantTurn → Type 0
+abbrev pub StandsNext : {A : Type 0} → Without → Role → Limits → SourceState A → List ℕ → List MeantEvent → MeantTurn → Type 0
 StandsNext without role limits reading came given (OfEvent event) = StandsAt without role limits came (length (events_without without given)) (offset_of reading) event (frames_of reading)
 StandsNext without role limits reading came given (OfVerdict verdict) = Unit {0}
 
 -- A round: the source has given its next event that isn't left out, or its verdict.
-pub record HasGivenNext {A : Type 0} (without : Without) (role : Role) (limits : Limits) (old new : Incoming) (before reading : EventReader A) (was : List ℕ) (given : List MeantEvent) (turn : MeantTurn) : Type 0 where
+pub record HasGivenNext {A : Type 0} (without : Without) (role : Role) (limits : Limits) (old new : Incoming) (before reading : SourceState A) (was : List ℕ) (given : List MeantEvent) (turn : MeantTurn) : Type 0 where
   pub came : List ℕ
   pub more : List ℕ
   pub longer : came ≡ was ++ more
@@ -66,21 +65,21 @@ pub record HasGivenNext {A : Type 0} (without : Without) (role : Role) (limits :
   pub stands : StandsNext without role limits reading came given turn
 
 module _ (without : Without) (role : Role) (limits : Limits) where
-  pub begins : {A : Type 0} (input : Incoming) (reading : EventReader A) → HasGiven role limits reading [] [] → input.failed ≡ false → HasFollowed role limits input input reading [] []
+  pub begins : {A : Type 0} (input : Incoming) (reading : SourceState A) → HasGiven role limits reading [] [] → input.failed ≡ false → HasFollowed role limits input input reading [] []
   begins input reading has unfailed = record { received = received_none (limits.input + 1) input; state = inl (has, unfailed) }
 
   -- a source that is followed has begun or ended, and can be read on
-  pub begun : {A : Type 0} (old now : Incoming) (reading : EventReader A) (came : List ℕ) (given : List MeantEvent) → HasFollowed role limits old now reading came given → HasBegunOrEnded reading
+  pub begun : {A : Type 0} (old now : Incoming) (reading : SourceState A) (came : List ℕ) (given : List MeantEvent) → HasFollowed role limits old now reading came given → HasBegunOrEnded reading
   begun old now reading came given followed none = elim followed.state [
     | inl going ↦ begun_sound role limits reading came given going.0
     | inr done ↦ let both : Some (Ok done.0) ≡ None = sym done.1.0 ∙ none in absurd cc
   ]
 
-  pub readable : {A : Type 0} (old now : Incoming) (reading : EventReader A) (came : List ℕ) (given : List MeantEvent) → HasFollowed role limits old now reading came given → answered reading ≡ None → now.failed ≡ false
+  pub readable : {A : Type 0} (old now : Incoming) (reading : SourceState A) (came : List ℕ) (given : List MeantEvent) → HasFollowed role limits old now reading came given → answered reading ≡ None → now.failed ≡ false
   readable old now reading came given followed none = grind arith
 
   -- One call of a source.
-  module _ {A : Type 0} (old mid new : Incoming) (before reading : EventReader A) (came : List ℕ) (given : List MeantEvent) (result : Result (Turn A) Stop)
+  module _ {A : Type 0} (old mid new : Incoming) (before reading : SourceState A) (came : List ℕ) (given : List MeantEvent) (result : Result (Turn A) Stop)
       (followed : HasFollowed role limits old mid before came given) (reads : ReadsTurn without mid new before reading result) where
     next : HasGiven role limits before came given → TakesTurnWithout without role limits mid new reading came given result
     next = reads.next role limits came given
@@ -148,7 +147,7 @@ module _ (without : Without) (role : Role) (limits : Limits) where
         }
 
     -- a source that is done has read nothing
-    same_state : (at : EventReader A) (now : Incoming) → at ≡ before → now ≡ mid → HasFollowed role limits old now at came given
+    same_state : (at : SourceState A) (now : Incoming) → at ≡ before → now ≡ mid → HasFollowed role limits old now at came given
     same_state at now is_at is_now = grind arith
 
     stays : (verdict : Verdict) → HasEndedWith role limits mid before came given verdict → (turn : Turn A) → result ≡ Ok turn → HasGivenNext without role limits old new before reading came given (meant_turn reading turn)
@@ -167,7 +166,7 @@ module _ (without : Without) (role : Role) (limits : Limits) where
           longer = sym (append-nil came);
           events = given;
           followed = same_state reading new reported.1 reported.2;
-          gives = (refl, ap (λ (r : EventReader A). answered r) reported.1 ∙ done.0 ∙ ap (λ (w : Verdict). Some (Ok w)) one);
+          gives = (refl, ap (λ (r : SourceState A). answered r) reported.1 ∙ done.0 ∙ ap (λ (w : Verdict). Some (Ok w)) one);
           last = subst (λ (i : Incoming). IsLast role limits i came given (Ok v)) (sym reported.2) last;
           lawful = tt;
           stands = tt;

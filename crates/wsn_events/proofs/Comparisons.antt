@@ -12,13 +12,13 @@ use Rattle.wsn_rules.specs.LeftOut.{events_without}
 use Rattle.wsn_rules.specs.Meaning.{MeantEvent}
 use Rattle.wsn_rules.specs.declared.compared.Compared.{Compared}
 use Rattle.wsn_rules.specs.declared.compared.Compared.TheVariants.{Equal, NotAccepted}
-use Rattle.wsn_events.specs.declared.event_reader.EventReader.{EventReader}
 use Rattle.wsn_events.specs.Turns.{MeantTurn, OfVerdict}
 use Rattle.wsn_events.specs.Sources.{IsLast}
 use Rattle.wsn_rules.specs.SameMeaning.{IsFirstDifference, IsAnAccepted}
 use Rattle.wsn_events.specs.Comparing.{HasStopped, IsComparisonBy}
 use Rattle.wsn_events.specs.Excerpts.{IsContrasted}
 use Rattle.wsn_events.proofs.ComparedSources.{HasFollowed, HasGivenNext}
+use Rattle.wsn_events.specs.SourceStates.{SourceState}
 use Rattle.wsn_events.proofs.ComparedRounds.{IsDifferenceSoFar}
 
 -- What the answer must say for two verdicts and the first difference of the events before them.
@@ -28,7 +28,7 @@ Compares part verdict other difference result =
     → IsLast role limits new came events (Ok verdict) → IsLast role limits other_new other_came others (Ok other)
     → IsFirstDifference difference (part events) (part others) → IsComparisonBy part role limits new came other_new other_came (Ok result)
 
-first_difference : {A : Type 0} (reading other : EventReader A) (index : ℕ) (given other_given : List MeantEvent) (difference : Option ℕ)
+first_difference : {A : Type 0} (reading other : SourceState A) (index : ℕ) (given other_given : List MeantEvent) (difference : Option ℕ)
     → IsDifferenceSoFar reading other index given other_given difference → IsFirstDifference difference given other_given
 first_difference reading other index given other_given difference so_far = grind arith
 
@@ -38,7 +38,7 @@ same_difference given events other_given others difference is others_is first = 
 
 module _ {A : Type 0} (without : Without) (role : Role) (limits : Limits) where
   -- both have their verdicts
-  pub answers : (old other_old new other_new : Incoming) (before reading other_before other : EventReader A) (was other_was : List ℕ) (given other_given : List MeantEvent) (v w : Verdict)
+  pub answers : (old other_old new other_new : Incoming) (before reading other_before other : SourceState A) (was other_was : List ℕ) (given other_given : List MeantEvent) (v w : Verdict)
       → (one : HasGivenNext without role limits old new before reading was given (OfVerdict v)) → (two : HasGivenNext without role limits other_old other_new other_before other other_was other_given (OfVerdict w))
       → (index : ℕ) (difference : Option ℕ) → IsDifferenceSoFar before other_before index (events_without without given) (events_without without other_given) difference
       → (verdict other_verdict : Verdict) → (verdict ≡ v) × (other_verdict ≡ w)
@@ -50,13 +50,13 @@ module _ {A : Type 0} (without : Without) (role : Role) (limits : Limits) where
       reported role limits new one.came one.events other_new two.came two.events last other_last (same_difference (events_without without given) (events_without without one.events) (events_without without other_given) (events_without without two.events) difference one.gives.0 two.gives.0 first)
 
   -- the first stream has stopped
-  pub first_stops : (old new other_old other_new : Incoming) (other : EventReader A) (other_came : List ℕ) (other_given : List MeantEvent) → HasFollowed role limits other_old other_new other other_came other_given
+  pub first_stops : (old new other_old other_new : Incoming) (other : SourceState A) (other_came : List ℕ) (other_given : List MeantEvent) → HasFollowed role limits other_old other_new other other_came other_given
       → (stop : Stop) → (all : List ℕ) × IsReceived (limits.input + 1) old new all × HasStopped role limits new all stop
       → IsContrasted without role limits old new other_old other_new (Err stop)
   first_stops old new other_old other_new other other_came other_given followed stop stops = grind arith
 
   -- the second stream has stopped
-  pub second_stops : (old new other_old other_new : Incoming) (before reading : EventReader A) (was : List ℕ) (given : List MeantEvent) (turn : MeantTurn) → HasGivenNext without role limits old new before reading was given turn
+  pub second_stops : (old new other_old other_new : Incoming) (before reading : SourceState A) (was : List ℕ) (given : List MeantEvent) (turn : MeantTurn) → HasGivenNext without role limits old new before reading was given turn
       → (stop : Stop) → (all : List ℕ) × IsReceived (limits.input + 1) other_old other_new all × HasStopped role limits other_new all stop
       → IsContrasted without role limits old new other_old other_new (Err stop)
   second_stops old new other_old other_new before reading was given turn one stop stops = grind arith

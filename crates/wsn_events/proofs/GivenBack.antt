@@ -7,10 +7,9 @@ use Rattle.wsn_rules.specs.declared.verdict.Verdict.{Verdict}
 use Rattle.wsn_rules.specs.declared.without.Without.{Without}
 use Rattle.wsn_rules.specs.Limits.{Limits}
 use Rattle.wsn_rules.specs.Meaning.{MeantEvent}
-use Rattle.wsn_events.specs.declared.event_reader.EventReader.{EventReader}
 use Rattle.wsn_events.specs.declared.excerpt.Excerpt.{Excerpt}
 use Rattle.wsn_events.specs.declared.first_difference.FirstDifference.{FirstDifference}
-use Rattle.wsn_events.specs.EventReaders.{IsAsBefore, answered, events_ahead}
+use Rattle.wsn_events.specs.SourceStates.{SourceState, IsAsBefore, answered, events_ahead}
 use Rattle.wsn_events.proofs.ComparedSources.{HasFollowed}
 use Rattle.wsn_events.proofs.ComparedRounds.{IsDifferenceSoFar, pending, rounds_ahead}
 use Rattle.wsn_events.proofs.KeptExcerpts.{AreKept}
@@ -18,7 +17,7 @@ use Rattle.wsn_events.proofs.StandingEvents.{Stands}
 
 -- ---- one source
 
-module _ {A : Type 0} (old new : EventReader A) (same : IsAsBefore old new) where
+module _ {A : Type 0} (old new : SourceState A) (same : IsAsBefore old new) where
   pub same_pending : pending new ≡ pending old
   same_pending = ap (λ (a : Option (Result Verdict Stop)). rounds_ahead a (events_ahead new)) same.answer ∙ ap (λ (n : ℕ). rounds_ahead (answered old) n) same.left
 
@@ -36,7 +35,7 @@ module _ {A : Type 0} (old new : EventReader A) (same : IsAsBefore old new) wher
 
 -- ---- both sources
 
-module _ {A : Type 0} (old new other_old other_new : EventReader A) (same : IsAsBefore old new) (other_same : IsAsBefore other_old other_new) where
+module _ {A : Type 0} (old new other_old other_new : SourceState A) (same : IsAsBefore old new) (other_same : IsAsBefore other_old other_new) where
   pub difference_back : (index : ℕ) (events others : List MeantEvent) (difference : Option ℕ) → IsDifferenceSoFar old other_old index events others difference → IsDifferenceSoFar new other_new index events others difference
   difference_back index events others difference so_far = grind arith
 

@@ -12,8 +12,7 @@ use Rattle.wsn_rules.proofs.OneVerdict.{all_of_verdict, all_go_on}
 use Rattle.wsn_rules.proofs.Prefixes.{same_front}
 use Rattle.wsn_scan.specs.Positions.{Position, InFrame, IsBegunBy, IsTakenOf}
 use Rattle.wsn_scan.proofs.ReaderReports.{payload_within}
-use Rattle.wsn_events.specs.declared.event_reader.EventReader.{EventReader}
-use Rattle.wsn_events.specs.EventReaders.{HasGiven, IsAtWork}
+use Rattle.wsn_events.specs.SourceStates.{SourceState, HasGiven, IsAtWork}
 use Rattle.wsn_events.specs.Sources.{AreFirstOf, HasDataPayload}
 
 pub positive : (xs : List ℕ) → xs ≢ [] → 0 < length xs
@@ -54,7 +53,7 @@ module _ (role : Role) (limits : Limits) (came : List ℕ) (fs : List Frame) (at
             omega (arith, ap (λ (bs : List ℕ). length bs) none, positive payload some, payload_within info payload begins.following begun.2.1);
       }
 
-pub begun_sound : {A : Type 0} (role : Role) (limits : Limits) (reading : EventReader A) (came : List ℕ) (given : List MeantEvent) → HasGiven role limits reading came given → IsAtWork reading
+pub begun_sound : {A : Type 0} (role : Role) (limits : Limits) (reading : SourceState A) (came : List ℕ) (given : List MeantEvent) → HasGiven role limits reading came given → IsAtWork reading
 begun_sound role limits reading came given h = record { role = role; limits = limits; came = came; given = given; has = h }
 
 -- the events before the one that a source gives

@@ -17,7 +17,6 @@ use Rattle.wsn_rules.specs.Meaning.{MeantEvent}
 use Rattle.wsn_print.specs.DifferingPayloads.{event_in}
 use Rattle.wsn_events.specs.declared.comparing.Round.{Round}
 use Rattle.wsn_events.specs.declared.comparing.Round.TheVariants.{Alike, Unlike, Over}
-use Rattle.wsn_events.specs.declared.event_reader.EventReader.{EventReader}
 use Rattle.wsn_events.specs.declared.excerpt.Excerpt.{Excerpt}
 use Rattle.wsn_events.specs.declared.first_difference.FirstDifference.{FirstDifference}
 use Rattle.wsn_events.specs.Turns.{MeantTurn, OfEvent, OfVerdict}
@@ -29,10 +28,11 @@ use Rattle.wsn_events.specs.PayloadExcerpts.{event_given, ArePayloadsKept}
 use Rattle.wsn_events.proofs.StandingEvents.{StandsAt, Stands, stands_longer, excerpt_at, event_shown}
 use Rattle.wsn_events.proofs.ComparedSources.{HasGivenNext}
 use Rattle.wsn_events.proofs.ComparedRounds.{IsDifferenceSoFar, pending, on_alike, on_unlike}
+use Rattle.wsn_events.specs.SourceStates.{SourceState}
 use Rattle.wsn_events.proofs.Comparisons.{Compares, answers}
 
 -- What is kept of a difference, if there is one, is in both streams.
-abbrev pub AreKept : {A : Type 0} → Without → Role → Limits → EventReader A → List ℕ → List MeantEvent → EventReader A → List ℕ → List MeantEvent → Option FirstDifference → Type 0
+abbrev pub AreKept : {A : Type 0} → Without → Role → Limits → SourceState A → List ℕ → List MeantEvent → SourceState A → List ℕ → List MeantEvent → Option FirstDifference → Type 0
 AreKept without role limits reading came events other other_came others None = Unit {0}
 AreKept without role limits reading came events other other_came others (Some d) =
     (event : Option MeantEvent) × (that : Option MeantEvent)
@@ -46,7 +46,7 @@ accepted_last role limits new came events _ is last = absurd is
 module _ {A : Type 0} (without : Without) (role : Role) (limits : Limits) where
   -- ---- of one source, with one result more
 
-  stands_on : (old new : Incoming) (before reading : EventReader A) (was : List ℕ) (given : List MeantEvent) (turn : MeantTurn) (one : HasGivenNext without role limits old new before reading was given turn) (k : ℕ) (excerpt : Option Excerpt) (event : Option MeantEvent)
+  stands_on : (old new : Incoming) (before reading : SourceState A) (was : List ℕ) (given : List MeantEvent) (turn : MeantTurn) (one : HasGivenNext without role limits old new before reading was given turn) (k : ℕ) (excerpt : Option Excerpt) (event : Option MeantEvent)
       → Stands without role limits before was given k excerpt event → Stands without role limits reading one.came one.events k excerpt event
   stands_on old new before reading was given turn one k (Some excerpt) (Some event) s = (
     s.0,
@@ -58,13 +58,13 @@ module _ {A : Type 0} (without : Without) (role : Role) (limits : Limits) where
   stands_on old new before reading was given (OfVerdict verdict) one k None None s = ((verdict, one.gives.1), subst (λ (es : List MeantEvent). length es ≤ k) (sym one.gives.0) s.1)
   stands_on old new before reading was given turn one k _ _ s = absurd s
 
-  stands_first : (old new : Incoming) (before reading : EventReader A) (was : List ℕ) (given : List MeantEvent) (turn : MeantTurn) (one : HasGivenNext without role limits old new before reading was given turn) (k : ℕ)
+  stands_first : (old new : Incoming) (before reading : SourceState A) (was : List ℕ) (given : List MeantEvent) (turn : MeantTurn) (one : HasGivenNext without role limits old new before reading was given turn) (k : ℕ)
       → k ≡ length (events_without without given) → (excerpt : Option Excerpt) → IsKeptOf reading turn excerpt → Stands without role limits reading one.came one.events k excerpt (event_given turn)
   stands_first old new before reading was given turn one k index excerpt is = grind arith
 
   -- ---- of both, in one round
 
-  module _ (old other_old new other_new : Incoming) (before reading other_before other : EventReader A) (was_came other_was : List ℕ) (given other_given : List MeantEvent) (turn other_turn : MeantTurn)
+  module _ (old other_old new other_new : Incoming) (before reading other_before other : SourceState A) (was_came other_was : List ℕ) (given other_given : List MeantEvent) (turn other_turn : MeantTurn)
       (one : HasGivenNext without role limits old new before reading was_came given turn) (two : HasGivenNext without role limits other_old other_new other_before other other_was other_given other_turn) where
     kept_on : (difference : Option FirstDifference) → AreKept without role limits before was_came given other_before other_was other_given difference → AreKept without role limits reading one.came one.events other two.came two.events difference
     kept_on None kept = tt
@@ -123,7 +123,7 @@ module _ {A : Type 0} (without : Without) (role : Role) (limits : Limits) where
   -- ---- the answer
 
   -- both have their verdicts
-  pub contrasts : (old other_old new other_new : Incoming) (before reading other_before other : EventReader A) (was other_was : List ℕ) (given other_given : List MeantEvent) (turn other_turn : MeantTurn)
+  pub contrasts : (old other_old new other_new : Incoming) (before reading other_before other : SourceState A) (was other_was : List ℕ) (given other_given : List MeantEvent) (turn other_turn : MeantTurn)
       → HasGivenNext without role limits old new before reading was given turn → HasGivenNext without role limits other_old other_new other_before other other_was other_given other_turn
       → (index : ℕ) (difference : Option FirstDifference) → IsDifferenceSoFar before other_before index (events_without without given) (events_without without other_given) (index_in difference)
       → AreKept without role limits before was given other_before other_was other_given difference
@@ -180,10 +180,10 @@ module _ (without : Without) (role : Role) (limits : Limits) (old new other_old 
   stopped_at stop was other same = grind arith
 
 -- a difference that was kept stays
-pub keeps_first : {A : Type 0} (index : ℕ) (reading : EventReader A) (turn : MeantTurn) (other : EventReader A) (other_turn : MeantTurn) (was : Option FirstDifference) → is_some was ≡ true → KeepsFirst index reading turn other other_turn was was
+pub keeps_first : {A : Type 0} (index : ℕ) (reading : SourceState A) (turn : MeantTurn) (other : SourceState A) (other_turn : MeantTurn) (was : Option FirstDifference) → is_some was ≡ true → KeepsFirst index reading turn other other_turn was was
 keeps_first index reading turn other other_turn was fact = grind arith
 
 -- or these are kept
-pub keeps_new : {A : Type 0} (index : ℕ) (reading : EventReader A) (turn : MeantTurn) (other : EventReader A) (other_turn : MeantTurn) (was : Option FirstDifference) (d : FirstDifference) → is_some was ≡ false
+pub keeps_new : {A : Type 0} (index : ℕ) (reading : SourceState A) (turn : MeantTurn) (other : SourceState A) (other_turn : MeantTurn) (was : Option FirstDifference) (d : FirstDifference) → is_some was ≡ false
     → d.index ≡ index → IsKeptOf reading turn d.first → IsKeptOf other other_turn d.second → ArePayloadsKept d.payloads (event_given turn) (event_given other_turn) → KeepsFirst index reading turn other other_turn was (Some d)
 keeps_new index reading turn other other_turn was d none index_is first second payloads = grind arith

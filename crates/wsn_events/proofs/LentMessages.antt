@@ -30,11 +30,10 @@ use Rattle.wsn_scan.specs.Judging.{chunk_size}
 use Rattle.wsn_scan.proofs.ReaderReports.{reported_of}
 use Rattle.wsn_scan.proofs.FollowedScans.{begins_at}
 use Rattle.wsn_events.specs.declared.event.Event.{Event}
-use Rattle.wsn_events.specs.declared.event_reader.EventReader.{EventReader}
 use Rattle.wsn_events.specs.declared.reassembly.Reassembly.{Reassembly}
 use Rattle.wsn_events.specs.declared.source.Next.TheVariants as nexts
 use Rattle.wsn_events.specs.EventsMeant.{meant}
-use Rattle.wsn_events.specs.EventReaders.{HasGiven, IsGiven, IsNextEvent, answered, held_of, offset_of, frames_of}
+use Rattle.wsn_events.specs.SourceStates.{SourceState, HasGiven, IsGiven, IsNextEvent, answered, held_of, offset_of, frames_of}
 use Rattle.wsn_events.specs.LentMessages.{LendsMessage, lent_message, held_bytes}
 use Rattle.wsn_events.specs.Reassembly.{IsBetweenFrames, IsInFrame, IsPlacedAt, offset_given, frames_given}
 use Rattle.wsn_events.proofs.GivenSoFar.{all_came, given_first}
@@ -46,7 +45,7 @@ soon_after : (came : List ℕ) (fs : List Frame) (rest : List ℕ) → came ≡ 
 soon_after came fs rest whole soon = let sizes = ap (λ (bs : List ℕ). length bs) whole in let parts = length-append (stream fs) rest in omega (arith, soon, sizes, parts)
 
 -- The source gives the event of this frame.
-pub given_event : {A : Type 0} (role : Role) (limits : Limits) (reading : EventReader A) (came : List ℕ) (given : List MeantEvent) (event : Event A) (fs : List Frame) (frame : Frame) → IsTakenOf role limits came (fs ++ frame ∷ []) BetweenFrames
+pub given_event : {A : Type 0} (role : Role) (limits : Limits) (reading : SourceState A) (came : List ℕ) (given : List MeantEvent) (event : Event A) (fs : List Frame) (frame : Frame) → IsTakenOf role limits came (fs ++ frame ∷ []) BetweenFrames
     → frame.fin ≡ true → meant event ≡ event_at fs frame → given ++ meant event ∷ [] ≡ meaning (fs ++ frame ∷ []) → IsBetweenFrames reading.reassembly (fs ++ frame ∷ []) → IsPlacedAt reading.reassembly fs frame
     → length came ≤ length (stream (fs ++ frame ∷ [])) + chunk_size → IsGiven role limits reading came given event
 given_event role limits reading came given event fs frame taken final ended means between placed soon =
@@ -78,11 +77,11 @@ none_open fs op continues other = by (unfinished fs) refl
     by [] none = none
     by (h ∷ hs) some = absurd (other (continues.1 (λ none. let both : h ∷ hs ≡ [] = sym some ∙ none in cc)))
 
-module _ {A : Type 0} (role : Role) (limits : Limits) (reading : EventReader A) (reader : FrameReader) (g : Reassembly A) (kind : Kind) (came : List ℕ) (given : List MeantEvent) (fs : List Frame) (frame : Frame)
+module _ {A : Type 0} (role : Role) (limits : Limits) (reading : SourceState A) (reader : FrameReader) (g : Reassembly A) (kind : Kind) (came : List ℕ) (given : List MeantEvent) (fs : List Frame) (frame : Frame)
     (events : given ≡ meaning fs) (going : reading.answer ≡ None) (has_taken : HasTaken role limits reader came (fs ++ frame ∷ []) BetweenFrames) (taken : IsTakenOf role limits came (fs ++ frame ∷ []) BetweenFrames)
     (final : frame.fin ≡ true) (op_is : frame.op ≡ op_of kind) (op_now : g.op ≡ op_of kind) (place_now : g.frame_offset ≡ length (stream fs)) (message_now : g.message.items ≡ payload_of (unfinished fs)) (payload_is : held_payload reader ≡ frame.payload)
     (soon : length came ≤ length (stream (fs ++ frame ∷ [])) + chunk_size) where
-  abbrev new : EventReader A
+  abbrev new : SourceState A
   new = record { reader = reader; reassembly = g; answer = reading.answer }
 
   of_data : is_control frame.op ≡ false
@@ -134,7 +133,7 @@ module _ {A : Type 0} (role : Role) (limits : Limits) (reading : EventReader A) 
   }
 
 -- the part that came last is a whole message
-pub lends_part : {A : Type 0} (role : Role) (limits : Limits) (reading : EventReader A) (reader : FrameReader) (part : Part) (now came : List ℕ) (given : List MeantEvent) (has : HasGiven role limits reading came given)
+pub lends_part : {A : Type 0} (role : Role) (limits : Limits) (reading : SourceState A) (reader : FrameReader) (part : Part) (now came : List ℕ) (given : List MeantEvent) (has : HasGiven role limits reading came given)
     (takes : ReadsPart role limits reader part now has.frames has.position) → IsTakenOf role limits now takes.frames takes.position → (g : Reassembly A) (kind : Kind) → IsWholeMessage part kind → g.op ≡ op_of kind → g.frame_offset ≡ length (stream has.frames) → g.message.items ≡ payload_of (unfinished has.frames)
     → LendsMessage role limits (record { reader = reader; reassembly = g; answer = reading.answer }) now given kind
 lends_part role limits reading reader part now came given has takes taken g kind whole op_now place_now message_now =
@@ -149,7 +148,7 @@ lends_part role limits reading reader part now came given has takes taken g kind
     (subst (λ (gs : List Frame). length now ≤ length (stream gs) + chunk_size) e.frames_are (takes.soon whole.ends))
 
 -- the same after the part's frame has begun
-pub lends_begun : {A : Type 0} (role : Role) (limits : Limits) (reading : EventReader A) (reader : FrameReader) (part : Part) (now came : List ℕ) (given : List MeantEvent) (has : HasGiven role limits reading came given)
+pub lends_begun : {A : Type 0} (role : Role) (limits : Limits) (reading : SourceState A) (reader : FrameReader) (part : Part) (now came : List ℕ) (given : List MeantEvent) (has : HasGiven role limits reading came given)
     (takes : ReadsPart role limits reader part now has.frames has.position) → IsTakenOf role limits now takes.frames takes.position → (g : Reassembly A) (kind : Kind) → IsWholeMessage part kind → IsInFrame g has.frames part.head.op takes.is_part.before
     → LendsMessage role limits (record { reader = reader; reassembly = g; answer = reading.answer }) now given kind
 lends_begun role limits reading reader part now came given has takes taken g kind whole within =
@@ -163,7 +162,7 @@ lends_begun role limits reading reader part now came given has takes taken g kin
 no_control : (kind : Kind) (text : List ℕ) (fs : List Frame) (frame : Frame) → Message kind text ≡ event_at fs frame → is_control frame.op ≡ false
 no_control kind text fs frame is = grind (arith, event_of_control)
 
-module _ {A : Type 0} (role : Role) (limits : Limits) (new : Incoming) (reading : EventReader A) (came : List ℕ) (given : List MeantEvent) (kind : Kind) (lends : LendsMessage role limits reading came given kind) (unfailed : new.failed ≡ false) where
+module _ {A : Type 0} (role : Role) (limits : Limits) (new : Incoming) (reading : SourceState A) (came : List ℕ) (given : List MeantEvent) (kind : Kind) (lends : LendsMessage role limits reading came given kind) (unfailed : new.failed ≡ false) where
   abbrev all_frames : List Frame
   all_frames = lends.before ++ lends.frame ∷ []
 
@@ -182,7 +181,7 @@ module _ {A : Type 0} (role : Role) (limits : Limits) (new : Incoming) (reading 
   nothing_held = was_between.message ∙ ap payload_of (unfinished_final lends.before lends.frame (ap not is_data) lends.final)
 
   module _ (g : Reassembly A) (same : g ≡ record reading.reassembly { message = g.message }) where
-    abbrev after : EventReader A
+    abbrev after : SourceState A
     after = record { reader = reading.reader; reassembly = g; answer = reading.answer }
 
     pub copied : g.message.items ≡ [] → (event : Event A) → meant event ≡ Message kind (reading.reassembly.message.items ++ held_bytes reading) → IsNextEvent role limits new after came given (Ok (nexts.Event event))
@@ -207,7 +206,7 @@ module _ {A : Type 0} (role : Role) (limits : Limits) (new : Incoming) (reading 
         )
 
   -- an allocation failed for it
-  pub not_copied : held_bytes reading ≢ [] → (last : EventReader A) → answered last ≡ Some (Err stops.Memory) → held_of last ≡ 0 → IsNextEvent role limits new last came given (Err stops.Memory)
+  pub not_copied : held_bytes reading ≢ [] → (last : SourceState A) → answered last ≡ Some (Err stops.Memory) → held_of last ≡ 0 → IsNextEvent role limits new last came given (Err stops.Memory)
   not_copied some last answer held = (
     (
       data_of_frame role limits came lends.before lends.frame all_taken is_data (λ none. some (lends.payload_is ∙ none)),

@@ -12,15 +12,14 @@ use Rattle.wsn_scan.specs.Positions.{IsTakenOf}
 use Rattle.wsn_scan.specs.ReadParts.{TakesMessage}
 use Rattle.wsn_scan.proofs.FollowedScans.{begins_at}
 use Rattle.wsn_scan.proofs.ReaderReports.{reported_of}
-use Rattle.wsn_events.specs.declared.event_reader.EventReader.{EventReader}
 use Rattle.wsn_events.specs.declared.reassembly.Reassembly.{Reassembly}
-use Rattle.wsn_events.specs.EventReaders.{HasGiven}
+use Rattle.wsn_events.specs.SourceStates.{SourceState, HasGiven}
 use Rattle.wsn_events.specs.LentMessages.{LendsMessage}
 use Rattle.wsn_events.specs.Reassembly.{IsReassembled, IsBetweenFrames}
 use Rattle.wsn_events.proofs.LentMessages.{lends_part}
 use Rattle.wsn_events.proofs.TakenParts.{place_of}
 
-module _ {A : Type 0} (role : Role) (limits : Limits) (reading : EventReader A) (came : List ℕ) (given : List MeantEvent) (has : HasGiven role limits reading came given) (reader : FrameReader) (kind : Kind) (offset : ℕ)
+module _ {A : Type 0} (role : Role) (limits : Limits) (reading : SourceState A) (came : List ℕ) (given : List MeantEvent) (has : HasGiven role limits reading came given) (reader : FrameReader) (kind : Kind) (offset : ℕ)
     (message : TakesMessage role limits reader kind offset came has.frames has.position) (g : Reassembly A)
     (passed : g ≡ record reading.reassembly { op = op_of kind; frame_offset = offset }) where
   pub lends_next : LendsMessage role limits (record { reader = reader; reassembly = g; answer = reading.answer }) came given kind

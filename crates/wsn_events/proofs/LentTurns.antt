@@ -8,19 +8,14 @@ use Rattle.wsn_io.proofs.Received.{consumed_none}
 use Rattle.wsn_rules.specs.declared.without.Without.{Without}
 use Rattle.wsn_rules.specs.Limits.{Limits}
 use Rattle.wsn_rules.specs.Meaning.{MeantEvent}
-use Rattle.wsn_events.specs.declared.event_reader.EventReader.{EventReader}
 use Rattle.wsn_events.specs.declared.turn.Turn.{Turn}
 use Rattle.wsn_events.specs.declared.turn.Turn.TheVariants.{Lent}
-use Rattle.wsn_events.specs.EventReaders.{HasGiven, HasBegunOrEnded, IsAtWork, answered, events_ahead}
+use Rattle.wsn_events.specs.SourceStates.{SourceState, HasGiven, HasBegunOrEnded, IsAtWork, answered, events_ahead}
 use Rattle.wsn_events.specs.LeavingOut.{ReadsTurn}
 use Rattle.wsn_events.specs.LentMessages.{LendsMessage, MayLend}
 use Rattle.wsn_events.proofs.GivenSoFar.{begun_sound}
 
--- what holds anyway
-pub if_any : {P : Type 0} (lent : Option Kind) → P → IfSome lent (λ kind. P)
-if_any lent is = grind arith
-
-module _ {A : Type 0} (before mid : EventReader A) (lent : Option Kind) (may : MayLend before mid lent) where
+module _ {A : Type 0} (before mid : SourceState A) (lent : Option Kind) (may : MayLend before mid lent) where
   same : lent ≡ None → mid ≡ before
   same is = subst (λ (l : Option Kind). IfNone l (mid ≡ before)) is may.none
 
@@ -68,6 +63,6 @@ module _ {A : Type 0} (before mid : EventReader A) (lent : Option Kind) (may : M
     }
 
     -- the turn: that message, or what it reads on to
-    pub turn_reads : (new : Incoming) (reading : EventReader A) (result : Result (Turn A) Stop) → IfSome lent (λ kind. (result ≡ Ok (Lent kind)) × (reading ≡ mid) × (new ≡ old)) → IfNone lent (ReadsTurn without old new mid reading result)
+    pub turn_reads : (new : Incoming) (reading : SourceState A) (result : Result (Turn A) Stop) → IfSome lent (λ kind. (result ≡ Ok (Lent kind)) × (reading ≡ mid) × (new ≡ old)) → IfNone lent (ReadsTurn without old new mid reading result)
         → ReadsTurn without old new before reading result
     turn_reads new reading result on own = grind (arith, lent_reads, same)

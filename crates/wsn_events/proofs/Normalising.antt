@@ -14,7 +14,6 @@ use Rattle.wsn_rules.specs.Limits.{Limits}
 use Rattle.wsn_rules.specs.Meaning.{MeantEvent, meaning}
 use Rattle.wsn_io.proofs.PutTexts.{front_of_more}
 use Rattle.wsn_events.specs.declared.event.Event.{Event}
-use Rattle.wsn_events.specs.declared.event_reader.EventReader.{EventReader}
 use Rattle.wsn_events.specs.declared.source.Next.{Next}
 use Rattle.wsn_events.specs.declared.source.Next.TheVariants as nexts
 use Rattle.wsn_rules.specs.LawfulEvents.{IsLawfulEvent}
@@ -22,12 +21,12 @@ use Rattle.wsn_events.specs.EventsMeant.{meant}
 use Rattle.wsn_rules.specs.NormalForm.{normal_frame, normal_form}
 use Rattle.wsn_scan.proofs.EventRuns.{normal_form-append, normal_form_push}
 use Rattle.wsn_events.specs.Normalised.{IsNormalised, IsNormalFormWritten}
-use Rattle.wsn_events.specs.EventReaders.{HasGiven, ReadsNextEvent, IsGiven}
+use Rattle.wsn_events.specs.SourceStates.{SourceState, HasGiven, ReadsNextEvent, IsGiven}
 use Rattle.wsn_events.specs.Sources.{AreFirstOf, IsLast, IsMeaningOf}
 use Rattle.wsn_events.proofs.GivenSoFar.{before_given}
 
 -- The source has read all that came, and the normal form of the events that it gave was written.
-pub record HasWritten {A : Type 0} (role : Role) (limits : Limits) (old new : Incoming) (before after : Outgoing) (source : EventReader A) : Type 0 where
+pub record HasWritten {A : Type 0} (role : Role) (limits : Limits) (old new : Incoming) (before after : Outgoing) (source : SourceState A) : Type 0 where
   pub came : List ℕ
   pub given : List MeantEvent
   pub has : HasGiven role limits source came given
@@ -38,16 +37,16 @@ pub record HasWritten {A : Type 0} (role : Role) (limits : Limits) (old new : In
 
 module _ {A : Type 0} (role : Role) (limits : Limits) (old : Incoming) (before : Outgoing) where
   -- nothing has come yet
-  pub begins : (source : EventReader A) → HasGiven role limits source [] [] → old.failed ≡ false → before.failed ≡ false → HasWritten role limits old old before before source
+  pub begins : (source : SourceState A) → HasGiven role limits source [] [] → old.failed ≡ false → before.failed ≡ false → HasWritten role limits old old before before source
   begins source has readable writable = grind (arith, received_none, Appends-nil)
 
   -- a call changes nothing of what was read and given
-  pub as_before : (new : Incoming) (after : Outgoing) (source next : EventReader A) → HasWritten role limits old new before after source
+  pub as_before : (new : Incoming) (after : Outgoing) (source next : SourceState A) → HasWritten role limits old new before after source
       → ((came : List ℕ) (given : List MeantEvent) → HasGiven role limits source came given → HasGiven role limits next came given) → HasWritten role limits old new before after next
   as_before new after source next written same = record { came = written.came; given = written.given; has = same written.came written.given written.has; received = written.received; out = written.out; readable = written.readable; writable = written.writable }
 
   -- the source's next answer
-  module _ (mid new : Incoming) (after : Outgoing) (source next : EventReader A) (written : HasWritten role limits old mid before after source) where
+  module _ (mid new : Incoming) (after : Outgoing) (source next : SourceState A) (written : HasWritten role limits old mid before after source) where
     pub received : (result : Result (Next A) Stop) (on : ReadsNextEvent role limits mid new next written.came written.given result) → IsReceived (limits.input + 1) old new (written.came ++ on.more)
     received result on = received_on (limits.input + 1) old mid new written.came on.more written.received on.consumed on.few
 

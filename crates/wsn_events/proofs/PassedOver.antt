@@ -1,5 +1,5 @@
 -- A call that passes over the events that are left out.
-use Rattle.std.proofs.Common.{◌≡◌, ℕ, ◌+◌, true, false, Option, None, Some, Result, Ok, List, [], ◌∷◌, ◌++◌, refl, sym, ap, ◌∙◌, subst, append_assoc, append-nil, arith}
+use Rattle.std.proofs.Common.{◌≡◌, ℕ, true, false, Option, None, Some, Result, Ok, List, [], ◌∷◌, ◌++◌, refl, sym, ap, ◌∙◌, subst, append_assoc, append-nil, arith}
 use Rattle.wsn_wire.specs.declared.endpoint.Role.{Role}
 use Rattle.wsn_io.specs.declared.stop.Stop.{Stop}
 use Rattle.wsn_io.specs.Transfer.{Incoming, IsConsumed}
@@ -9,12 +9,11 @@ use Rattle.wsn_rules.specs.declared.without.Without.{Without}
 use Rattle.wsn_rules.specs.Limits.{Limits}
 use Rattle.wsn_rules.specs.LeftOut.{events_without}
 use Rattle.wsn_rules.specs.Meaning.{MeantEvent}
-use Rattle.wsn_events.specs.declared.event_reader.EventReader.{EventReader}
 use Rattle.wsn_events.specs.declared.turn.Turn.{Turn}
 use Rattle.wsn_events.specs.declared.turn.Turn.TheVariants.{Lent, Own}
 use Rattle.wsn_events.specs.declared.source.Next.TheVariants as nexts
 use Rattle.wsn_events.specs.EventsMeant.{meant}
-use Rattle.wsn_events.specs.EventReaders.{HasGiven, IsAtWork, HasBegunOrEnded, answered, next_of}
+use Rattle.wsn_events.specs.SourceStates.{SourceState, HasGiven, IsAtWork, HasBegunOrEnded, answered, next_of}
 use Rattle.wsn_events.specs.LeavingOut.{is_turn_left_out, TakesTurnWithout}
 use Rattle.wsn_events.specs.LentMessages.{lent_message}
 use Rattle.wsn_events.specs.Turns.{IsNextTurn, TakesTurn, GivesEvent, own_turn}
@@ -22,7 +21,7 @@ use Rattle.wsn_events.proofs.GivenSoFar.{begun_sound}
 use Rattle.wsn_events.proofs.LeftOut.{passed_on}
 
 -- A call has read these bytes more, and passed over these events, which are all left out.
-pub record HasPassed {A : Type 0} (without : Without) (role : Role) (limits : Limits) (old new : Incoming) (reading : EventReader A) (came : List ℕ) (given : List MeantEvent) : Type 0 where
+pub record HasPassed {A : Type 0} (without : Without) (role : Role) (limits : Limits) (old new : Incoming) (reading : SourceState A) (came : List ℕ) (given : List MeantEvent) : Type 0 where
   pub more : List ℕ
   pub consumed : IsConsumed old new more
   pub passed : List MeantEvent
@@ -38,7 +37,7 @@ pub last_is_none : {A : Type 0} (answer : Result Verdict Stop) (result : Result 
 last_is_none {A} answer result is event = grind arith
 
 -- One call of a source.
-module _ {A : Type 0} (mid new : Incoming) (before reading : EventReader A) (result : Result (Turn A) Stop)
+module _ {A : Type 0} (mid new : Incoming) (before reading : SourceState A) (result : Result (Turn A) Stop)
     (next : (role : Role) (limits : Limits) (came : List ℕ) (given : List MeantEvent) → HasGiven role limits before came given → TakesTurn role limits mid new reading came given result)
     (again : (answer : Result Verdict Stop) → answered before ≡ Some answer → (result ≡ own_turn (next_of answer)) × (reading ≡ before) × (new ≡ mid)) where
   -- after an event the source is at work, and its input hasn't failed
@@ -55,19 +54,19 @@ module _ {A : Type 0} (mid new : Incoming) (before reading : EventReader A) (res
       by (Some answer) some = absurd (last_is_none answer result (again answer some).0 is)
 
   -- a source that has ended stays as it was
-  pub stays_ended : (first : EventReader A) (old : Incoming) (final : Result (Turn A) Stop) → result ≡ final → (answer : Result Verdict Stop) → answered first ≡ Some answer → (before ≡ first) × (mid ≡ old)
+  pub stays_ended : (first : SourceState A) (old : Incoming) (final : Result (Turn A) Stop) → result ≡ final → (answer : Result Verdict Stop) → answered first ≡ Some answer → (before ≡ first) × (mid ≡ old)
       → (final ≡ own_turn (next_of answer)) × (reading ≡ first) × (new ≡ old)
   stays_ended first old final is answer ended same =
-      let still = again answer (ap (λ (r : EventReader A). answered r) same.0 ∙ ended) in
+      let still = again answer (ap (λ (r : SourceState A). answered r) same.0 ∙ ended) in
       (sym is ∙ still.0, still.1 ∙ same.0, still.2 ∙ same.1)
 
   -- a source that has ended gives no event
-  pub never_ended : (first : EventReader A) (old : Incoming) → GivesEvent result → (answer : Result Verdict Stop) → answered first ≡ Some answer → (before ≡ first) × (mid ≡ old) → (reading ≡ first) × (new ≡ old)
+  pub never_ended : (first : SourceState A) (old : Incoming) → GivesEvent result → (answer : Result Verdict Stop) → answered first ≡ Some answer → (before ≡ first) × (mid ≡ old) → (reading ≡ first) × (new ≡ old)
   never_ended first old is answer ended same =
-      absurd (last_is_none answer result (again answer (ap (λ (r : EventReader A). answered r) same.0 ∙ ended)).0 is)
+      absurd (last_is_none answer result (again answer (ap (λ (r : SourceState A). answered r) same.0 ∙ ended)).0 is)
 
 module _ {A : Type 0} (without : Without) (role : Role) (limits : Limits) (old : Incoming) (came : List ℕ) (given : List MeantEvent) where
-  pub passed_none : (reading : EventReader A) → HasGiven role limits reading came given → HasPassed without role limits old old reading came given
+  pub passed_none : (reading : SourceState A) → HasGiven role limits reading came given → HasPassed without role limits old old reading came given
   passed_none reading has = record {
     more = [];
     consumed = consumed_none old;
@@ -77,7 +76,7 @@ module _ {A : Type 0} (without : Without) (role : Role) (limits : Limits) (old :
   }
 
   -- The source was called once more.
-  module _ (mid new : Incoming) (before reading : EventReader A) (read : HasPassed without role limits old mid before came given) (result : Result (Turn A) Stop)
+  module _ (mid new : Incoming) (before reading : SourceState A) (read : HasPassed without role limits old mid before came given) (result : Result (Turn A) Stop)
       (on : TakesTurn role limits mid new reading (came ++ read.more) (given ++ read.passed) result) where
     all : (came ++ read.more) ++ on.more ≡ came ++ (read.more ++ on.more)
     all = append_assoc came read.more on.more

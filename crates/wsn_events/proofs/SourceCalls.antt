@@ -1,5 +1,6 @@
 -- What a call of an event source reads and returns, part by part.
-use Rattle.std.proofs.Common.{◌≡◌, ◌≢◌, ℕ, ◌+◌, ◌<◌, ◌≤◌, ◌^◌, Bool, true, false, cond, arith, Option, None, Some, Result, Ok, Err, List, [], ◌∷◌, ◌++◌, length, sym, ap, ◌∙◌, subst, append_assoc, append-nil, length-append}
+use Rattle.std.proofs.Common.{◌≡◌, ◌≢◌, ℕ, ◌+◌, ◌<◌, ◌≤◌, ◌^◌, Bool, true, false, cond, arith, Option, None, Some, Result, Ok, Err, List, [], ◌∷◌, ◌++◌, length, refl, sym, ap, ◌∙◌, subst, append_assoc, append-nil, length-append}
+use Rattle.std.specs.Prelude.{is_some}
 use Rattle.std.proofs.lemmas.List.{length-take}
 use Rattle.wsn_wire.specs.declared.endpoint.Role.{Role}
 use Rattle.wsn_wire.specs.declared.opcode.Kind.{Kind}
@@ -13,7 +14,7 @@ use Rattle.wsn_rules.specs.Group.{unfinished}
 use Rattle.wsn_rules.specs.Lawful.{IsLawful}
 use Rattle.wsn_rules.specs.LawfulEvents.{IsLawfulControl}
 use Rattle.wsn_rules.specs.Limits.{Limits}
-use Rattle.wsn_rules.specs.Meaning.{MeantEvent, event_at, meaning}
+use Rattle.wsn_rules.specs.Meaning.{MeantEvent, Message, event_at, meaning}
 use Rattle.wsn_rules.proofs.Groups.{meaning_push}
 use Rattle.wsn_scan.specs.declared.frame_reader.FrameReader.{FrameReader}
 use Rattle.wsn_scan.specs.declared.part.Part.{Part}
@@ -27,42 +28,78 @@ use Rattle.wsn_scan.specs.Judging.{chunk_size}
 use Rattle.wsn_scan.proofs.FrameEnds.{unfinished_few}
 use Rattle.wsn_scan.proofs.ReaderReports.{reported_of}
 use Rattle.wsn_events.specs.declared.event.Event.{Event}
-use Rattle.wsn_events.specs.declared.event_reader.EventReader.{EventReader}
 use Rattle.wsn_events.specs.declared.reassembly.Reassembly.{Reassembly}
 use Rattle.wsn_events.specs.declared.turn.Turn.{Turn}
 use Rattle.wsn_events.specs.declared.turn.Turn.TheVariants.{Lent, Own}
 use Rattle.wsn_events.specs.declared.source.Next.{Next}
 use Rattle.wsn_events.specs.declared.source.Next.TheVariants as nexts
+use Rattle.wsn_events.specs.declared.source.Source.TheInside.{Inside}
 use Rattle.wsn_events.specs.EventsMeant.{meant}
-use Rattle.wsn_events.specs.EventReaders.{HasGiven, IsAtWork, IsNextEvent, ReadsNextEvent, IsEvent, answered, held_of}
+use Rattle.wsn_events.specs.SourceStates.{SourceState, HasGiven, HasBegunOrEnded, IsAtWork, IsNextEvent, ReadsNextEvent, IsEvent, answered, held_of}
 use Rattle.wsn_events.specs.LentMessages.{LendsMessage, lent_message}
 use Rattle.wsn_events.specs.Turns.{IsNextTurn, TakesTurn, GivesEvent}
 use Rattle.wsn_events.specs.Reassembly.{IsReassembled, IsBetweenFrames, IsInFrame, IsEventOf, IsPlacedAt}
 use Rattle.wsn_events.specs.Sources.{IsHalted}
 use Rattle.wsn_events.proofs.GivenSoFar.{begun_sound}
-use Rattle.wsn_events.proofs.LentMessages.{lends_begun, given_event}
+use Rattle.wsn_events.proofs.LentMessages.{lends_begun, given_event, copied, not_copied}
 use Rattle.wsn_events.proofs.TakenParts.{EndsPart, place_of, ended_by, data_of_part, first_of_part}
-use Rattle.wsn_events.proofs.ReassembledFrames.{lawful_body}
+use Rattle.wsn_events.proofs.ReassembledFrames.{lawful_body, reassembled_alike}
 
--- A call has read these bytes more and given no event yet.
-pub record HasRead {A : Type 0} (role : Role) (limits : Limits) (old new : Incoming) (reading : EventReader A) (came : List ℕ) (given : List MeantEvent) : Type 0 where
+-- A call has read these bytes more and given no event yet, and its input hasn't failed.
+pub record HasRead {A : Type 0} (role : Role) (limits : Limits) (old new : Incoming) (reading : SourceState A) (came : List ℕ) (given : List MeantEvent) : Type 0 where
   pub more : List ℕ
   pub consumed : IsConsumed old new more
   pub has : HasGiven role limits reading (came ++ more) given
+  pub unfailed : new.failed ≡ false
 
 -- a reader's stop is the source's
 halted_of : (role : Role) (limits : Limits) (new : Incoming) (came : List ℕ) (fs : List Frame) (at : Position) (given : List MeantEvent) (halted : Stop) → given ≡ meaning fs → IsHaltedAt role limits new came fs at halted → IsHalted role limits new came given halted
 halted_of role limits new came fact at given halted events is = grind arith
 
-pub reading_of : {A : Type 0} (reading : EventReader A) → IsAtWork reading → IsReading reading.reader
+pub reading_of : {A : Type 0} (reading : SourceState A) → IsAtWork reading → IsReading reading.reader
 reading_of reading b = record { role = b.role; limits = b.limits; came = b.came; frames = b.has.frames; position = b.has.position; has_taken = b.has.has_taken }
 
+-- ---- a source's fields, once it is known not to have ended
+
+abbrev pub state_of : {A : Type 0} → Inside A → SourceState A
+state_of s = record { reader = s.reader; reassembly = s.reassembly; answer = s.answer }
+
+not_some : (answer : Option (Result Verdict Stop)) → ((some : Result Verdict Stop) → answer ≡ Some some → ⊥) → answer ≡ None
+not_some None not = refl
+not_some (Some some) not = absurd (not some refl)
+
+pub not_is_some : (answer : Option (Result Verdict Stop)) → is_some answer ≡ false → answer ≡ None
+not_is_some answer not = grind arith
+
+module _ {A : Type 0} (inside : Inside A) (source : SourceState A) (view_is : state_of inside ≡ source) where
+  pub has_inside : (role : Role) (limits : Limits) (came : List ℕ) (given : List MeantEvent) → HasGiven role limits source came given → HasGiven role limits (state_of inside) came given
+  has_inside role limits came given has = subst (λ (s : SourceState A). HasGiven role limits s came given) (sym view_is) has
+
+  module _ (not : (answer : Result Verdict Stop) → inside.answer ≡ Some answer → ⊥) where
+    pub going_on : answered source ≡ None
+    going_on = ap answered (sym view_is) ∙ not_some inside.answer not
+
+    pub at_work : HasBegunOrEnded (state_of inside) → IsAtWork source
+    at_work begun = subst (λ (s : SourceState A). IsAtWork s) view_is (begun (not_some inside.answer not))
+
+-- other room for the open message
+pub has_still : {A : Type 0} (role : Role) (limits : Limits) (reading : SourceState A) (g : Reassembly A) (came : List ℕ) (given : List MeantEvent) → g ≡ record reading.reassembly { message = g.message } → g.message.items ≡ reading.reassembly.message.items
+    → HasGiven role limits reading came given → HasGiven role limits (record { reader = reading.reader; reassembly = g; answer = reading.answer }) came given
+has_still role limits reading g came given same held has = record {
+  frames = has.frames;
+  position = has.position;
+  has_taken = has.has_taken;
+  reassembly = reassembled_alike reading.reassembly g same held has.frames has.position has.reassembly;
+  events = has.events;
+  going = has.going;
+}
+
 module _ {A : Type 0} (role : Role) (limits : Limits) (old : Incoming) (came : List ℕ) (given : List MeantEvent) where
-  pub begins : (reading : EventReader A) → HasGiven role limits reading came given → HasRead role limits old old reading came given
-  begins reading has = record { more = []; consumed = consumed_none old; has = subst (λ (bs : List ℕ). HasGiven role limits reading bs given) (sym (append-nil came)) has }
+  pub begins : (reading : SourceState A) → old.failed ≡ false → HasGiven role limits reading came given → HasRead role limits old old reading came given
+  begins reading readable has = record { more = []; consumed = consumed_none old; has = subst (λ (bs : List ℕ). HasGiven role limits reading bs given) (sym (append-nil came)) has; unfailed = readable }
 
   -- The reader was called once more.
-  module _ (mid new : Incoming) (reading : EventReader A) (reader : FrameReader) (part : Part) (read : HasRead role limits old mid reading came given) (result : Result (Option Verdict) Stop)
+  module _ (mid new : Incoming) (reading : SourceState A) (reader : FrameReader) (part : Part) (read : HasRead role limits old mid reading came given) (result : Result (Option Verdict) Stop)
       (reads : ReadsOn role limits mid new reader part (came ++ read.more) read.has.frames read.has.position result) where
     abbrev fs : List Frame
     fs = read.has.frames
@@ -76,7 +113,7 @@ module _ {A : Type 0} (role : Role) (limits : Limits) (old : Incoming) (came : L
     consumed : IsConsumed old new (read.more ++ reads.more)
     consumed = consumed_on old mid new read.more reads.more read.consumed reads.consumed
 
-    answers : (next : EventReader A) (turn : Result (Turn A) Stop) → IsNextTurn role limits new next now given turn → TakesTurn role limits old new next came given turn
+    answers : (next : SourceState A) (turn : Result (Turn A) Stop) → IsNextTurn role limits new next now given turn → TakesTurn role limits old new next came given turn
     answers next turn is = grind (arith, consumed, all)
 
     found : (answer : Result (Option Verdict) Stop) → result ≡ answer → IsNextPart role limits new reader part now fs read.has.position answer
@@ -84,10 +121,10 @@ module _ {A : Type 0} (role : Role) (limits : Limits) (old : Incoming) (came : L
 
     -- ---- the end of the call
 
-    pub finished : (verdict : Verdict) → result ≡ Ok (Some verdict) → (last : EventReader A) → answered last ≡ Some (Ok verdict) → held_of last ≡ 0 → TakesTurn role limits old new last came given (Ok (Own (nexts.Done verdict)))
+    pub finished : (verdict : Verdict) → result ≡ Ok (Some verdict) → (last : SourceState A) → answered last ≡ Some (Ok verdict) → held_of last ≡ 0 → TakesTurn role limits old new last came given (Ok (Own (nexts.Done verdict)))
     finished verdict is last answer held = grind (arith, found, answers)
 
-    pub stopped : (halted : Stop) → result ≡ Err halted → (last : EventReader A) → answered last ≡ Some (Err halted) → held_of last ≡ 0 → TakesTurn role limits old new last came given (Err halted)
+    pub stopped : (halted : Stop) → result ≡ Err halted → (last : SourceState A) → answered last ≡ Some (Err halted) → held_of last ≡ 0 → TakesTurn role limits old new last came given (Err halted)
     stopped halted is last answer held = answers last (Err halted) (halted_of role limits new now fs read.has.position given halted read.has.events (found (Err halted) is), answer, held)
 
     -- ---- a part of a frame
@@ -96,7 +133,7 @@ module _ {A : Type 0} (role : Role) (limits : Limits) (old : Incoming) (came : L
       takes : ReadsPart role limits reader part now fs read.has.position
       takes = (found (Ok None) is).0
 
-      pub unfailed : new.failed ≡ false
+      unfailed : new.failed ≡ false
       unfailed = (found (Ok None) is).1
 
       taken : IsTakenOf role limits now takes.frames takes.position
@@ -106,7 +143,7 @@ module _ {A : Type 0} (role : Role) (limits : Limits) (old : Incoming) (came : L
       few = grind (arith, reported_of, length-append, unfinished_few, length-take)
 
       -- the source after the call, with this reassembly
-      abbrev moved : Reassembly A → EventReader A
+      abbrev moved : Reassembly A → SourceState A
       moved g = record { reader = reader; reassembly = g; answer = reading.answer }
 
       module _ (begun : Reassembly A)
@@ -118,7 +155,7 @@ module _ {A : Type 0} (role : Role) (limits : Limits) (old : Incoming) (came : L
         lends kind whole = answers (moved begun) (Ok (Lent kind)) (lends_begun role limits reading reader part now (came ++ read.more) given read.has takes taken begun kind whole in_frame, unfailed)
 
         -- an allocation failed for payload of a data frame
-        pub no_memory : (is_control begun.op ≡ false) × (held_payload reader ≢ []) → (last : EventReader A) → answered last ≡ Some (Err stops.Memory) → held_of last ≡ 0 → TakesTurn role limits old new last came given (Err stops.Memory)
+        pub no_memory : (is_control begun.op ≡ false) × (held_payload reader ≢ []) → (last : SourceState A) → answered last ≡ Some (Err stops.Memory) → held_of last ≡ 0 → TakesTurn role limits old new last came given (Err stops.Memory)
         no_memory of_data last answer held = answers last (Err stops.Memory) (
           (
             data_of_part role limits now fs read.has.position part (held_payload reader) takes.frames takes.position takes.is_part taken (sym (ap is_control in_frame.op) ∙ of_data.0) of_data.1,
@@ -134,7 +171,7 @@ module _ {A : Type 0} (role : Role) (limits : Limits) (old : Incoming) (came : L
           longer_in_frame = take_on fs part.head.op takes.is_part.before in_frame
 
           goes_on : (g : Reassembly A) (frames : List Frame) (position : Position) → (frames ≡ takes.frames) × (position ≡ takes.position) → IsReassembled g frames position → given ≡ meaning frames → HasRead role limits old new (moved g) came given
-          goes_on g frames position is_now reassembly events = grind (arith, consumed, all, takes)
+          goes_on g frames position is_now reassembly events = grind (arith, consumed, all, takes, unfailed)
 
           -- it doesn't end the frame
           pub within : part.ends ≡ false → HasRead role limits old new (moved longer) came given
@@ -179,21 +216,21 @@ module _ {A : Type 0} (role : Role) (limits : Limits) (old : Incoming) (came : L
                   answers (moved g) (Ok (Own (nexts.Event e))) (has, given_event role limits (moved g) now given e fs frame ended.taken of.0 of.1 means ends_it.1 ends_it.2 soon, unfailed)
 
 -- after an event the source has not ended
-pub begun_after : {A : Type 0} (role : Role) (limits : Limits) (old new : Incoming) (reading : EventReader A) (came : List ℕ) (given : List MeantEvent) (result : Result (Turn A) Stop)
+pub begun_after : {A : Type 0} (role : Role) (limits : Limits) (old new : Incoming) (reading : SourceState A) (came : List ℕ) (given : List MeantEvent) (result : Result (Turn A) Stop)
     → TakesTurn role limits old new reading came given result → GivesEvent result → IsAtWork reading
 begun_after role limits old new reading came given (Ok (Lent kind)) on is = begun_sound role limits reading (came ++ on.more) (given ++ lent_message reading kind ∷ []) on.next.0.has
 begun_after role limits old new reading came given (Ok (Own (nexts.Event event))) on is = begun_sound role limits reading (came ++ on.more) (given ++ meant event ∷ []) on.next.0
 begun_after role limits old new reading came given _ on is = absurd is
 
-pub begun_next : {A : Type 0} (role : Role) (limits : Limits) (old new : Incoming) (reading : EventReader A) (came : List ℕ) (given : List MeantEvent) (result : Result (Next A) Stop)
+pub begun_next : {A : Type 0} (role : Role) (limits : Limits) (old new : Incoming) (reading : SourceState A) (came : List ℕ) (given : List MeantEvent) (result : Result (Next A) Stop)
     → ReadsNextEvent role limits old new reading came given result → IsEvent result → IsAtWork reading
 begun_next role limits old new reading came given (Ok (nexts.Event event)) on is = begun_sound role limits reading (came ++ on.more) (given ++ meant event ∷ []) on.next.0
 begun_next role limits old new reading came given _ on is = absurd is
 
 -- ---- what comes next, as an event of its own
 
-module _ {A : Type 0} (role : Role) (limits : Limits) (old new : Incoming) (before : EventReader A) (came : List ℕ) (given : List MeantEvent) (turn : Result (Turn A) Stop) (takes : TakesTurn role limits old new before came given turn) where
-  next_from : (last : EventReader A) (next : Result (Next A) Stop) → IsNextEvent role limits new last (came ++ takes.more) given next → ReadsNextEvent role limits old new last came given next
+module _ {A : Type 0} (role : Role) (limits : Limits) (old new : Incoming) (before : SourceState A) (came : List ℕ) (given : List MeantEvent) (turn : Result (Turn A) Stop) (takes : TakesTurn role limits old new before came given turn) where
+  next_from : (last : SourceState A) (next : Result (Next A) Stop) → IsNextEvent role limits new last (came ++ takes.more) given next → ReadsNextEvent role limits old new last came given next
   next_from last next is = record { more = takes.more; consumed = takes.consumed; few = takes.few; next = is }
 
   turn_is : (t : Result (Turn A) Stop) → turn ≡ t → IsNextTurn role limits new before (came ++ takes.more) given t
@@ -206,11 +243,23 @@ module _ {A : Type 0} (role : Role) (limits : Limits) (old new : Incoming) (befo
   pub stops_next : (halted : Stop) → turn ≡ Err halted → ReadsNextEvent role limits old new before came given (Err halted)
   stops_next halted is = next_from before (Err halted) (turn_is (Err halted) is)
 
-  pub lent_going : (kind : Kind) → turn ≡ Ok (Lent kind) → answered before ≡ None
-  lent_going kind is = (turn_is (Ok (Lent kind)) is).0.has.going
+-- ---- a message that was lent, once it is copied
 
-  -- it was lent, and is copied
-  pub lent_next : (kind : Kind) → turn ≡ Ok (Lent kind) → (last : EventReader A) (next : Result (Next A) Stop)
-      → ((r : Role) (b : Limits) (input : Incoming) (bytes : List ℕ) (events : List MeantEvent) → LendsMessage r b before bytes events kind → input.failed ≡ false → IsNextEvent r b input last bytes events next)
-      → ReadsNextEvent role limits old new last came given next
-  lent_next kind is last next copies = let lent = turn_is (Ok (Lent kind)) is in next_from last next (copies role limits new (came ++ takes.more) given lent.0 lent.1)
+module _ {A : Type 0} (role : Role) (limits : Limits) (old new : Incoming) (inside : Inside A) (source : SourceState A) (view_is : state_of inside ≡ source) (came : List ℕ) (given : List MeantEvent) (turn : Result (Turn A) Stop)
+    (takes : TakesTurn role limits old new source came given turn) (kind : Kind) (is : turn ≡ Ok (Lent kind)) where
+  lent_inside : TakesTurn role limits old new (state_of inside) came given turn
+  lent_inside = subst (λ (s : SourceState A). TakesTurn role limits old new s came given turn) (sym view_is) takes
+
+  lends_inside : LendsMessage role limits (state_of inside) (came ++ lent_inside.more) given kind × (new.failed ≡ false)
+  lends_inside = turn_is role limits old new (state_of inside) came given turn lent_inside (Ok (Lent kind)) is
+
+  pub copied_next : (g : Reassembly A) → g ≡ record inside.reassembly { message = g.message } → g.message.items ≡ [] → (event : Event A) → meant event ≡ Message kind (inside.reassembly.message.items ++ held_payload inside.reader)
+      → ReadsNextEvent role limits old new (record { reader = inside.reader; reassembly = g; answer = inside.answer }) came given (Ok (nexts.Event event))
+  copied_next g same empty event means =
+      next_from role limits old new (state_of inside) came given turn lent_inside (record { reader = inside.reader; reassembly = g; answer = inside.answer }) (Ok (nexts.Event event))
+      (copied role limits new (state_of inside) (came ++ lent_inside.more) given kind lends_inside.0 lends_inside.1 g same empty event means)
+
+  pub not_copied_next : held_payload inside.reader ≢ [] → (last : SourceState A) → answered last ≡ Some (Err stops.Memory) → held_of last ≡ 0 → ReadsNextEvent role limits old new last came given (Err stops.Memory)
+  not_copied_next some last answer held =
+      next_from role limits old new (state_of inside) came given turn lent_inside last (Err stops.Memory)
+      (not_copied role limits new (state_of inside) (came ++ lent_inside.more) given kind lends_inside.0 lends_inside.1 some last answer held)

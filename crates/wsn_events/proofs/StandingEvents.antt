@@ -16,10 +16,9 @@ use Rattle.wsn_rules.specs.ShownStream.Item.{Event}
 use Rattle.wsn_rules.proofs.ShownEvents.{shown_in_accepted, none_in_accepted}
 use Rattle.wsn_print.specs.DifferingPayloads.{event_in}
 use Rattle.wsn_events.specs.declared.event.Event as code
-use Rattle.wsn_events.specs.declared.event_reader.EventReader.{EventReader}
 use Rattle.wsn_events.specs.declared.excerpt.Excerpt.{Excerpt}
 use Rattle.wsn_events.specs.EventsMeant.{meant}
-use Rattle.wsn_events.specs.EventReaders.{IsGiven, answered, offset_of, frames_of}
+use Rattle.wsn_events.specs.SourceStates.{SourceState, IsGiven, answered, offset_of, frames_of}
 use Rattle.wsn_events.specs.Excerpts.{IsExcerptOf, IsExcerptAt}
 use Rattle.wsn_events.specs.Sources.{IsLast}
 use Rattle.wsn_events.proofs.GivenSoFar.{before_given}
@@ -41,7 +40,7 @@ pub record StandsAt (without : Without) (role : Role) (limits : Limits) (came : 
   pub count_is : count ≡ event_frames before frame
 
 -- What is kept of the event with the index k: where this event is; or nothing, since the source has ended before.
-abbrev pub Stands : {A : Type 0} → Without → Role → Limits → EventReader A → List ℕ → List MeantEvent → ℕ → Option Excerpt → Option MeantEvent → Type 0
+abbrev pub Stands : {A : Type 0} → Without → Role → Limits → SourceState A → List ℕ → List MeantEvent → ℕ → Option Excerpt → Option MeantEvent → Type 0
 Stands without role limits reading came events k (Some excerpt) (Some event) =
     (offset : ℕ) × (count : ℕ) × IsExcerptOf excerpt offset event count × StandsAt without role limits came k offset event count
 Stands without role limits reading came events k None None =
@@ -53,13 +52,13 @@ module _ (without : Without) (role : Role) (limits : Limits) where
   stands_longer came more k offset event count s = grind (arith, append_assoc)
 
   -- the event that a source gives, after those that were passed over
-  pub given_stands : {A : Type 0} (reading : EventReader A) (came : List ℕ) (given passed : List MeantEvent) (event : code.Event A) → IsGiven role limits reading came (given ++ passed) event
+  pub given_stands : {A : Type 0} (reading : SourceState A) (came : List ℕ) (given passed : List MeantEvent) (event : code.Event A) → IsGiven role limits reading came (given ++ passed) event
       → events_without without passed ≡ [] → is_left_out without (meant event) ≡ false → StandsAt without role limits came (length (events_without without given)) (offset_of reading) (meant event) (frames_of reading)
   given_stands reading came given passed event g none kept = grind (arith, passed_over, before_given)
 
   -- ---- of an accepted stream
 
-  pub excerpt_at : {A : Type 0} (reading : EventReader A) (new : Incoming) (came : List ℕ) (events : List MeantEvent) (summary : Summary) (k : ℕ) (excerpt : Option Excerpt) (event : Option MeantEvent)
+  pub excerpt_at : {A : Type 0} (reading : SourceState A) (new : Incoming) (came : List ℕ) (events : List MeantEvent) (summary : Summary) (k : ℕ) (excerpt : Option Excerpt) (event : Option MeantEvent)
       → IsLast role limits new came events (Ok (Accepted summary)) → Stands without role limits reading came events k excerpt event → IsExcerptAt without role limits came k excerpt
   excerpt_at reading new came events summary k (Some excerpt) (Some event) last s =
       let at = s.3 in
@@ -79,7 +78,7 @@ module _ (without : Without) (role : Role) (limits : Limits) where
   excerpt_at reading new came events summary k _ _ last s = absurd s
 
   -- the event of the item that is shown there
-  pub event_shown : {A : Type 0} (reading : EventReader A) (new : Incoming) (came : List ℕ) (events : List MeantEvent) (summary : Summary) (k : ℕ) (excerpt : Option Excerpt) (event : Option MeantEvent)
+  pub event_shown : {A : Type 0} (reading : SourceState A) (new : Incoming) (came : List ℕ) (events : List MeantEvent) (summary : Summary) (k : ℕ) (excerpt : Option Excerpt) (event : Option MeantEvent)
       (last : IsLast role limits new came events (Ok (Accepted summary))) (s : Stands without role limits reading came events k excerpt event) → event ≡ event_in (excerpt_at reading new came events summary k excerpt event last s).0
   unfolding excerpt_at
   event_shown reading new came events summary k (Some excerpt) (Some event) last s = ap Some s.3.is

@@ -16,38 +16,37 @@ use Rattle.wsn_scan.specs.FrameReaders.{TakesRun}
 use Rattle.wsn_scan.proofs.EventRuns.{normal_form-append}
 use Rattle.wsn_scan.proofs.ReaderReports.{reported_of}
 use Rattle.wsn_events.specs.declared.event.Event.{Event}
-use Rattle.wsn_events.specs.declared.event_reader.EventReader.{EventReader}
 use Rattle.wsn_events.specs.declared.source.Next.{Next}
 use Rattle.wsn_events.specs.declared.source.Next.TheVariants as nexts
 use Rattle.wsn_events.specs.EventsMeant.{meant}
-use Rattle.wsn_events.specs.EventReaders.{HasGiven, ReadsNextEvent, IsAtWork}
+use Rattle.wsn_events.specs.SourceStates.{SourceState, HasGiven, ReadsNextEvent, IsAtWork}
 use Rattle.wsn_events.specs.Normalised.{IsNormalised}
 use Rattle.wsn_events.specs.LentMessages.{TakesEventsAfter, PutsTaken}
 use Rattle.wsn_events.proofs.GivenSoFar.{begun_sound, given_first}
 use Rattle.wsn_events.proofs.Normalising.{HasWritten, goes_on, is_failed}
 
 -- the source with its reader after the call
-abbrev pub read_on : {A : Type 0} → EventReader A → FrameReader → EventReader A
+abbrev pub read_on : {A : Type 0} → SourceState A → FrameReader → SourceState A
 read_on reading reader = record { reader = reader; reassembly = reading.reassembly; answer = reading.answer }
 
-pub takes_after : {A : Type 0} (role : Role) (limits : Limits) (reading : EventReader A) (reader : FrameReader) (came : List ℕ) (given : List MeantEvent) (has : HasGiven role limits reading came given)
+pub takes_after : {A : Type 0} (role : Role) (limits : Limits) (reading : SourceState A) (reader : FrameReader) (came : List ℕ) (given : List MeantEvent) (has : HasGiven role limits reading came given)
     → TakesRun role limits reader came has.frames has.position → TakesEventsAfter role limits (read_on reading reader) came given
 takes_after role limits reading reader came given has took = grind arith
 
 -- a source that has taken events, or none, is at work
-pub at_work_after : {A : Type 0} (old new : EventReader A) (result : Bool) → IsAtWork old
+pub at_work_after : {A : Type 0} (old new : SourceState A) (result : Bool) → IsAtWork old
     → (result ≡ true → (role : Role) (limits : Limits) (came : List ℕ) (given : List MeantEvent) → HasGiven role limits old came given → TakesEventsAfter role limits new came given) → (result ≡ false → new ≡ old)
     → IsAtWork new
 at_work_after old new true b taken none = let took = taken refl b.role b.limits b.came b.given b.has in begun_sound b.role b.limits new b.came (b.given ++ took.events) took.has
-at_work_after {A} old new false b taken none = subst (λ (r : EventReader A). IsAtWork r) (sym (none refl)) b
+at_work_after {A} old new false b taken none = subst (λ (r : SourceState A). IsAtWork r) (sym (none refl)) b
 
 -- ---- what is written
 
 module _ {A : Type 0} (role : Role) (limits : Limits) (came : List ℕ) (given : List MeantEvent) (before : Outgoing) where
-  pub puts_none : (source : EventReader A) → before.failed ≡ false → HasGiven role limits source came given → PutsTaken role limits source came given before before (Ok tt)
+  pub puts_none : (source : SourceState A) → before.failed ≡ false → HasGiven role limits source came given → PutsTaken role limits source came given before before (Ok tt)
   puts_none source writable has = grind (arith, append-nil, Appends-nil)
 
-module _ {A : Type 0} (role : Role) (limits : Limits) (old mid : Incoming) (before after : Outgoing) (source next : EventReader A) (written : HasWritten role limits old mid before after source) where
+module _ {A : Type 0} (role : Role) (limits : Limits) (old mid : Incoming) (before after : Outgoing) (source next : SourceState A) (written : HasWritten role limits old mid before after source) where
   -- the events taken were written
   pub taken_written : (last : Outgoing) → PutsTaken role limits next written.came written.given after last (Ok tt) → HasWritten role limits old mid before last next
   taken_written last puts = record {
@@ -62,9 +61,9 @@ module _ {A : Type 0} (role : Role) (limits : Limits) (old mid : Incoming) (befo
   }
 
 -- A write failed in the normal form of the events taken, after that of the event before them.
-pub taken_failed : {A : Type 0} (role : Role) (limits : Limits) (old : Incoming) (before : Outgoing) (mid new : Incoming) (after : Outgoing) (source next : EventReader A) (written : HasWritten role limits old mid before after source)
+pub taken_failed : {A : Type 0} (role : Role) (limits : Limits) (old : Incoming) (before : Outgoing) (mid new : Incoming) (after : Outgoing) (source next : SourceState A) (written : HasWritten role limits old mid before after source)
     (answer : Next A) (event : Event A) (is : answer ≡ nexts.Event event) (goes : ReadsNextEvent role limits mid new next written.came written.given (Ok answer)) (put : Outgoing)
-    (wrote : IsWritten after put (frame_bytes (normal_frame role (meant event)))) (last : Outgoing) (taken : EventReader A) (stopped : Stop)
+    (wrote : IsWritten after put (frame_bytes (normal_frame role (meant event)))) (last : Outgoing) (taken : SourceState A) (stopped : Stop)
     → PutsTaken role limits taken (goes_on role limits old before mid new after source next written answer event is goes put wrote).came (goes_on role limits old before mid new after source next written answer event is goes put wrote).given put last (Err stopped)
     → IsNormalised role limits old new before last (Err stop.Write)
 unfolding goes_on

@@ -12,9 +12,9 @@ use Rattle.wsn_rules.specs.Meaning.{MeantEvent}
 use Rattle.wsn_rules.specs.SameMeaning.{DifferAt, IsFirstDifference, IsAnAccepted, all_events}
 use Rattle.wsn_rules.specs.declared.compared.Compared.{Compared, TheVariants.{Equal, Different, NotAccepted}}
 use Rattle.wsn_events.specs.declared.comparing.Round.{Round, TheVariants.{Alike, Unlike, Over}}
-use Rattle.wsn_events.specs.declared.event_reader.EventReader.{EventReader}
 use Rattle.wsn_events.specs.Sources.{IsLast, IsHalted}
 use Rattle.wsn_events.specs.LentMessages.{held_bytes}
+use Rattle.wsn_events.specs.SourceStates.{SourceState}
 use Rattle.wsn_events.specs.Turns.{MeantTurn, OfEvent, OfVerdict}
 
 -- The round that two turns make: the same event, two turns that differ, or both verdicts.
@@ -27,7 +27,7 @@ IsRoundOf (OfVerdict verdict) (OfVerdict other) (Over v w) = (v ≡ verdict) × 
 IsRoundOf turn other round = ⊥
 
 -- Both sources lend a message, and these are the same.
-pub record AreLentAlike {A : Type 0} (reading : EventReader A) (lent : Option Kind) (other : EventReader A)
+pub record AreLentAlike {A : Type 0} (reading : SourceState A) (lent : Option Kind) (other : SourceState A)
     (other_lent : Option Kind) : Type 0 where
   pub kind : Kind
   pub is : lent ≡ Some kind

@@ -16,10 +16,9 @@ use Rattle.wsn_rules.specs.ShownEvents.{IsShownAt}
 use Rattle.wsn_print.specs.DifferingPayloads.{event_in}
 use Rattle.wsn_print.specs.ShownParts.{event_of}
 use Rattle.wsn_events.specs.declared.comparing.Round.{Round, TheVariants.{Unlike}}
-use Rattle.wsn_events.specs.declared.event_reader.EventReader.{EventReader}
 use Rattle.wsn_events.specs.declared.excerpt.Excerpt.{Excerpt}
 use Rattle.wsn_events.specs.declared.first_difference.FirstDifference.{FirstDifference}
-use Rattle.wsn_events.specs.EventReaders.{offset_of, frames_of}
+use Rattle.wsn_events.specs.SourceStates.{SourceState, offset_of, frames_of}
 use Rattle.wsn_events.specs.Comparing.{IsComparedBy}
 use Rattle.wsn_events.specs.PayloadExcerpts.{event_given, ArePayloadsKept}
 use Rattle.wsn_events.specs.Turns.{MeantTurn, OfEvent, OfVerdict}
@@ -51,14 +50,14 @@ IsExcerptIn excerpt item = ⊥
 -- ---- of a source's turns
 
 -- This is kept of the source's last turn: its event, or nothing of a verdict.
-abbrev pub IsKeptOf : {A : Type 0} → EventReader A → MeantTurn → Option Excerpt → Type 0
+abbrev pub IsKeptOf : {A : Type 0} → SourceState A → MeantTurn → Option Excerpt → Type 0
 IsKeptOf reading (OfEvent event) (Some excerpt) =
     IsExcerptOf excerpt (offset_of reading) event (frames_of reading)
 IsKeptOf reading (OfVerdict verdict) None = ⊤
 IsKeptOf reading turn excerpt = ⊥
 
 -- This is kept of the last turns of both sources.
-pub record IsKeptOfBoth {A : Type 0} (index : ℕ) (reading : EventReader A) (turn : MeantTurn) (other : EventReader A)
+pub record IsKeptOfBoth {A : Type 0} (index : ℕ) (reading : SourceState A) (turn : MeantTurn) (other : SourceState A)
     (other_turn : MeantTurn) (difference : FirstDifference) : Type 0 where
   pub index_is : difference.index ≡ index
   pub first : IsKeptOf reading turn difference.first
@@ -66,21 +65,21 @@ pub record IsKeptOfBoth {A : Type 0} (index : ℕ) (reading : EventReader A) (tu
   pub payloads : ArePayloadsKept difference.payloads (event_given turn) (event_given other_turn)
 
 -- There is a difference, and this is kept of it.
-abbrev pub HasKept : {A : Type 0} → ℕ → EventReader A → MeantTurn → EventReader A → MeantTurn → Option FirstDifference →
+abbrev pub HasKept : {A : Type 0} → ℕ → SourceState A → MeantTurn → SourceState A → MeantTurn → Option FirstDifference →
     Type 0
 HasKept index reading turn other other_turn None = ⊥
 HasKept index reading turn other other_turn (Some difference) =
     IsKeptOfBoth index reading turn other other_turn difference
 
 -- A difference that was kept stays; otherwise this is kept.
-abbrev pub KeepsFirst : {A : Type 0} → ℕ → EventReader A → MeantTurn → EventReader A → MeantTurn → Option FirstDifference →
+abbrev pub KeepsFirst : {A : Type 0} → ℕ → SourceState A → MeantTurn → SourceState A → MeantTurn → Option FirstDifference →
     Option FirstDifference →
     Type 0
 KeepsFirst index reading turn other other_turn None now = HasKept index reading turn other other_turn now
 KeepsFirst index reading turn other other_turn (Some difference) now = now ≡ Some difference
 
 -- What is kept changes only in a round whose turns differ.
-abbrev pub KeepsOf : {A : Type 0} → Round → ℕ → EventReader A → MeantTurn → EventReader A → MeantTurn →
+abbrev pub KeepsOf : {A : Type 0} → Round → ℕ → SourceState A → MeantTurn → SourceState A → MeantTurn →
     Option FirstDifference →
     Option FirstDifference →
     Type 0

@@ -8,12 +8,11 @@ use Rattle.wsn_rules.specs.declared.without.Without.{Without}
 use Rattle.wsn_rules.specs.Limits.{Limits}
 use Rattle.wsn_rules.specs.LeftOut.{is_left_out, events_without}
 use Rattle.wsn_rules.specs.Meaning.{MeantEvent}
-use Rattle.wsn_events.specs.declared.event_reader.EventReader.{EventReader}
 use Rattle.wsn_events.specs.declared.source.Next.TheVariants as nexts
 use Rattle.wsn_events.specs.declared.turn.Turn.{Turn}
 use Rattle.wsn_events.specs.declared.turn.Turn.TheVariants as turns
 use Rattle.wsn_events.specs.EventsMeant.{meant}
-use Rattle.wsn_events.specs.EventReaders.{HasGiven, answered, events_ahead, next_of}
+use Rattle.wsn_events.specs.SourceStates.{SourceState, HasGiven, answered, events_ahead, next_of}
 use Rattle.wsn_events.specs.Turns.{TakesTurn, GivesEvent, own_turn}
 
 -- Whether it is an event that is left out.
@@ -24,14 +23,14 @@ is_turn_left_out without (turns.Own (nexts.Done verdict)) = false
 
 -- A call has passed over these events, which are all left out, and its turn is right after them.
 pub record TakesTurnWithout {A : Type 0} (without : Without) (role : Role) (limits : Limits) (old new : Incoming)
-    (reading : EventReader A) (came : List ℕ) (given : List MeantEvent) (result : Result (Turn A) Stop) : Type 0 where
+    (reading : SourceState A) (came : List ℕ) (given : List MeantEvent) (result : Result (Turn A) Stop) : Type 0 where
   pub passed : List MeantEvent
   pub left_out : events_without without passed ≡ []
   pub takes : TakesTurn role limits old new reading came (given ++ passed) result
 
 -- What a call of `turn_without` does: whatever the source has given, it goes on to the next event that isn't left out. A
 -- source that has ended stays as it is.
-pub record ReadsTurn {A : Type 0} (without : Without) (old new : Incoming) (before reading : EventReader A)
+pub record ReadsTurn {A : Type 0} (without : Without) (old new : Incoming) (before reading : SourceState A)
     (result : Result (Turn A) Stop) : Type 0 where
   pub next : (role : Role) (limits : Limits) (came : List ℕ) (given : List MeantEvent) →
       HasGiven role limits before came given

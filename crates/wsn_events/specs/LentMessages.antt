@@ -11,8 +11,7 @@ use Rattle.wsn_rules.specs.Meaning.{MeantEvent, Message, event_at, meaning}
 use Rattle.wsn_rules.specs.ShownStream.{event_offset, event_frames}
 use Rattle.wsn_scan.specs.Positions.{BetweenFrames}
 use Rattle.wsn_scan.specs.Judging.{chunk_size}
-use Rattle.wsn_events.specs.declared.event_reader.EventReader.{EventReader}
-use Rattle.wsn_events.specs.EventReaders.{HasGiven, answered, offset_of, frames_of, events_ahead}
+use Rattle.wsn_events.specs.SourceStates.{SourceState, HasGiven, answered, offset_of, frames_of, events_ahead}
 use Rattle.wsn_io.specs.declared.stop.Stop.{Stop}
 use Rattle.wsn_io.specs.Transfer.{Outgoing}
 use Rattle.wsn_io.specs.Stops.{IsWrittenOrStops}
@@ -20,11 +19,11 @@ use Rattle.wsn_rules.specs.NormalForm.{normal_form}
 use Rattle.wsn_scan.specs.FrameReaders.{held_payload}
 
 -- the bytes that a source holds of what came last
-abbrev pub held_bytes : {A : Type 0} → EventReader A → List ℕ
+abbrev pub held_bytes : {A : Type 0} → SourceState A → List ℕ
 held_bytes reading = held_payload reading.reader
 
 -- After the events given the source has given more events, and holds their normal form.
-pub record TakesEventsAfter {A : Type 0} (role : Role) (limits : Limits) (new : EventReader A) (came : List ℕ)
+pub record TakesEventsAfter {A : Type 0} (role : Role) (limits : Limits) (new : SourceState A) (came : List ℕ)
     (given : List MeantEvent) : Type 0 where
   pub events : List MeantEvent
   pub has : HasGiven role limits new came (given ++ events)
@@ -32,20 +31,20 @@ pub record TakesEventsAfter {A : Type 0} (role : Role) (limits : Limits) (new : 
 
 -- After the events given the source has given more events, or none, and their normal form was written; or the write
 -- failed.
-pub record PutsTaken {A : Type 0} (role : Role) (limits : Limits) (new : EventReader A) (came : List ℕ)
+pub record PutsTaken {A : Type 0} (role : Role) (limits : Limits) (new : SourceState A) (came : List ℕ)
     (given : List MeantEvent) (before after : Outgoing) (result : Result (Unit {0}) Stop) : Type 0 where
   pub events : List MeantEvent
   pub has : HasGiven role limits new came (given ++ events)
   pub written : IsWrittenOrStops before after (normal_form role events) result
 
 -- the message of this kind whose payload is the bytes that a source holds
-abbrev pub lent_message : {A : Type 0} → EventReader A → Kind → MeantEvent
+abbrev pub lent_message : {A : Type 0} → SourceState A → Kind → MeantEvent
 lent_message reading kind = Message kind (held_bytes reading)
 
 -- After the events given the source has given one more, which it lends: a message of this kind. It is lawful, and is the
 -- next event of the bytes that came, at the frame that ends it, which is the last that the source has taken; at most
 -- `chunk_size` bytes came after it. The source has its offset and the number of its frames.
-pub record LendsMessage {A : Type 0} (role : Role) (limits : Limits) (reading : EventReader A) (came : List ℕ)
+pub record LendsMessage {A : Type 0} (role : Role) (limits : Limits) (reading : SourceState A) (came : List ℕ)
     (given : List MeantEvent) (kind : Kind) : Type 0 where
   pub has : HasGiven role limits reading came (given ++ lent_message reading kind ∷ [])
   pub lawful : IsLawfulEvent (lent_message reading kind)
@@ -65,7 +64,7 @@ pub record LendsMessage {A : Type 0} (role : Role) (limits : Limits) (reading : 
   pub count : frames_of reading ≡ event_frames before frame
 
 -- What a call of `take_message` did: it lends the next event, a message, or nothing has changed.
-pub record MayLend {A : Type 0} (before reading : EventReader A) (lent : Option Kind) : Type 0 where
+pub record MayLend {A : Type 0} (before reading : SourceState A) (lent : Option Kind) : Type 0 where
   pub taken : IfSome lent (λ kind. (role : Role) (limits : Limits) (came : List ℕ) (given : List MeantEvent) →
       HasGiven role limits before came given → LendsMessage role limits reading came given kind)
   pub going : IfSome lent (λ _. answered before ≡ None)

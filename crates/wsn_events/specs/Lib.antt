@@ -2,7 +2,7 @@
 pub mod EventsMeant
 pub mod Reassembly
 pub mod Sources
-pub mod EventReaders
+pub mod SourceStates
 pub mod LentMessages
 pub mod Turns
 pub mod LeavingOut

@@ -7,13 +7,13 @@ use Rattle.wsn_rules.specs.declared.verdict.Verdict.{Verdict}
 use Rattle.wsn_rules.specs.Limits.{Limits}
 use Rattle.wsn_rules.specs.LawfulEvents.{IsLawfulEvent}
 use Rattle.wsn_rules.specs.Meaning.{MeantEvent}
-use Rattle.wsn_events.specs.declared.event_reader.EventReader.{EventReader}
 use Rattle.wsn_events.specs.declared.source.Next.{Next}
 use Rattle.wsn_events.specs.declared.source.Next.TheVariants as nexts
+use Rattle.wsn_events.specs.declared.turn.LastTurn.{LastTurn}
 use Rattle.wsn_events.specs.declared.turn.Turn.{Turn}
 use Rattle.wsn_events.specs.declared.turn.Turn.TheVariants as turns
 use Rattle.wsn_events.specs.EventsMeant.{meant}
-use Rattle.wsn_events.specs.EventReaders.{IsNextEvent, IsEvent}
+use Rattle.wsn_events.specs.SourceStates.{SourceState, IsNextEvent, IsEvent}
 use Rattle.wsn_events.specs.LentMessages.{LendsMessage, lent_message}
 
 -- An event, or the verdict.
@@ -27,9 +27,13 @@ meant_next (nexts.Event event) = OfEvent (meant event)
 meant_next (nexts.Done verdict) = OfVerdict verdict
 
 -- what a source's turn means; the source holds the payload of a message that it lends
-abbrev pub meant_turn : {A : Type 0} → EventReader A → Turn A → MeantTurn
+abbrev pub meant_turn : {A : Type 0} → SourceState A → Turn A → MeantTurn
 meant_turn reading (turns.Lent kind) = OfEvent (lent_message reading kind)
 meant_turn reading (turns.Own next) = meant_next next
+
+-- what the last turn of a source means
+abbrev pub meant_last : {A : Type 0} → LastTurn A → MeantTurn
+meant_last last = meant_turn last.source.now last.turn.now
 
 -- An event is lawful.
 abbrev pub IsLawfulTurn : MeantTurn → Type 0
@@ -48,7 +52,7 @@ GivesEvent (Ok (turns.Own next)) = IsEvent (Ok next)
 GivesEvent (Err halted) = ⊥
 
 -- The turn is right for the bytes that came: a message that the source lends, or what `next` would return.
-abbrev pub IsNextTurn : {A : Type 0} → Role → Limits → Incoming → EventReader A → List ℕ → List MeantEvent →
+abbrev pub IsNextTurn : {A : Type 0} → Role → Limits → Incoming → SourceState A → List ℕ → List MeantEvent →
     Result (Turn A) Stop → Type 0
 IsNextTurn role limits new reading came given (Ok (turns.Lent kind)) =
     LendsMessage role limits reading came given kind × (new.failed ≡ false)
@@ -58,7 +62,7 @@ IsNextTurn role limits new reading came given (Err halted) =
     IsNextEvent role limits new reading came given (Err halted)
 
 -- A call has read these bytes more, and its turn is right for all that came: at most one byte past the limit.
-pub record TakesTurn {A : Type 0} (role : Role) (limits : Limits) (old new : Incoming) (reading : EventReader A)
+pub record TakesTurn {A : Type 0} (role : Role) (limits : Limits) (old new : Incoming) (reading : SourceState A)
     (came : List ℕ) (given : List MeantEvent) (result : Result (Turn A) Stop) : Type 0 where
   pub more : List ℕ
   pub consumed : IsConsumed old new more

@@ -8,7 +8,7 @@ ghost use Rattle.wsn_rules.specs.LeftOut.{events_without};
 ghost use Rattle.wsn_events.specs.Excerpts.{IsContrasted, KeepsFirst, KeepsOf, index_in};
 ghost use Rattle.wsn_rules.specs.SameMeaning.{IsAnAccepted, IsComparisonOfBy, IsComparisonOf};
 ghost use Rattle.wsn_events.specs.Comparing.{IsComparisonOutcome, IsRoundOf, AreLentAlike, IsComparedBy, IsCompared};
-ghost use Rattle.wsn_events.specs.Turns.{OfEvent, IsLawfulTurn, meant_next, meant_turn};
+ghost use Rattle.wsn_events.specs.Turns.{OfEvent, IsLawfulTurn, meant_next, meant_last};
 ghost use Rattle.wsn_events.specs.LentMessages.{MayLend};
 
 use crate::equal_bytes::are_equal;
@@ -18,7 +18,7 @@ use crate::leaving_out::turn_after;
 use crate::payload::payload_of;
 use crate::payload_difference::PayloadDifference;
 use crate::source::{Next, Source};
-use crate::turn::{Turn, give_back};
+use crate::turn::{LastTurn, Turn, give_back};
 use std::alloc::Allocator;
 use std::io::Read;
 use wsn_io::{Input, Stop};
@@ -111,7 +111,18 @@ pub fn contrast<A: Allocator + Copy, R: Read, S: Read>(
         }
         let turn = turn_after(lent, &mut events, first, without)?;
         let other = turn_after(other_lent, &mut others, second, without)?;
-        let round = end_round(&mut difference, index, &events, &turn, &others, &other);
+        let round = end_round(
+            &mut difference,
+            index,
+            &LastTurn {
+                source: &events,
+                turn: &turn,
+            },
+            &LastTurn {
+                source: &others,
+                turn: &other,
+            },
+        );
         if let Round::Over(verdict, other) = round {
             let compared = outcome(verdict, other, index_of(&difference));
             return Ok((compared, difference));
@@ -150,25 +161,23 @@ fn are_alike<A: Allocator + Copy>(
     }
 }
 
-/// The round that these two turns make. It keeps of the first events that differ what shows them.
+/// The round that the last turns of both sources make. It keeps of the first events that differ what shows them.
 #[inline(always)]
 fn end_round<A: Allocator + Copy>(
     difference: &mut Option<FirstDifference>,
     index: u64,
-    events: &Source<A>,
-    turn: &Turn<A>,
-    others: &Source<A>,
-    other: &Turn<A>,
+    first: &LastTurn<'_, A>,
+    second: &LastTurn<'_, A>,
 ) -> Round
-    requires turn { IsLawfulTurn (meant_turn events.now turn.now) }
-    requires other { IsLawfulTurn (meant_turn others.now other.now) }
-    ensures round { IsRoundOf (meant_turn events.now turn.now) (meant_turn others.now other.now) result }
-    ensures kept { KeepsOf result index events.now (meant_turn events.now turn.now) others.now
-        (meant_turn others.now other.now) difference.old difference.new }
+    requires first { IsLawfulTurn (meant_last first.now) }
+    requires second { IsLawfulTurn (meant_last second.now) }
+    ensures round { IsRoundOf (meant_last first.now) (meant_last second.now) result }
+    ensures kept { KeepsOf result index first.now.source.now (meant_last first.now) second.now.source.now
+        (meant_last second.now) difference.old difference.new }
 {
-    let round = round_of(events, turn, others, other);
+    let round = round_of(first, second);
     if let Round::Unlike = round {
-        keep_first(difference, index, events, turn, others, other);
+        keep_first(difference, index, first, second);
     }
     round
 }
@@ -179,27 +188,22 @@ fn end_round<A: Allocator + Copy>(
 fn keep_first<A: Allocator + Copy>(
     difference: &mut Option<FirstDifference>,
     index: u64,
-    events: &Source<A>,
-    turn: &Turn<A>,
-    others: &Source<A>,
-    other: &Turn<A>,
+    first: &LastTurn<'_, A>,
+    second: &LastTurn<'_, A>,
 )
-    requires turn { IsLawfulTurn (meant_turn events.now turn.now) }
-    requires other { IsLawfulTurn (meant_turn others.now other.now) }
-    ensures { KeepsFirst index events.now (meant_turn events.now turn.now) others.now
-        (meant_turn others.now other.now) difference.old difference.new }
+    requires first { IsLawfulTurn (meant_last first.now) }
+    requires second { IsLawfulTurn (meant_last second.now) }
+    ensures { KeepsFirst index first.now.source.now (meant_last first.now) second.now.source.now
+        (meant_last second.now) difference.old difference.new }
 {
     if difference.is_some() {
         return;
     }
-    let payloads = PayloadDifference::between(
-        &payload_of(events, turn),
-        &payload_of(others, other),
-    );
+    let payloads = PayloadDifference::between(&payload_of(first), &payload_of(second));
     *difference = Some(FirstDifference {
         index,
-        first: excerpt_of(events, turn),
-        second: excerpt_of(others, other),
+        first: excerpt_of(first),
+        second: excerpt_of(second),
         payloads,
     });
 }
@@ -228,20 +232,15 @@ enum Round {
 
 /// The round that these two turns make.
 #[inline(always)]
-fn round_of<A: Allocator + Copy>(
-    events: &Source<A>,
-    turn: &Turn<A>,
-    others: &Source<A>,
-    other: &Turn<A>,
-) -> Round
-    ensures { IsRoundOf (meant_turn events.now turn.now) (meant_turn others.now other.now) result }
+fn round_of<A: Allocator + Copy>(first: &LastTurn<'_, A>, second: &LastTurn<'_, A>) -> Round
+    ensures { IsRoundOf (meant_last first.now) (meant_last second.now) result }
 {
-    match (turn, other) {
+    match (first.turn, second.turn) {
         (Turn::Own(next), Turn::Own(other)) => round_of_own(next, other),
-        (Turn::Own(next), Turn::Lent(kind)) => round_with(next, *kind, others.taken()),
-        (Turn::Lent(kind), Turn::Own(next)) => round_with(next, *kind, events.taken()),
+        (Turn::Own(next), Turn::Lent(kind)) => round_with(next, *kind, second.source.taken()),
+        (Turn::Lent(kind), Turn::Own(next)) => round_with(next, *kind, first.source.taken()),
         (Turn::Lent(kind), Turn::Lent(other)) => {
-            if kind == other && are_equal(events.taken(), others.taken()) {
+            if kind == other && are_equal(first.source.taken(), second.source.taken()) {
                 Round::Alike
             } else {
                 Round::Unlike

@@ -5,12 +5,12 @@ ghost use Rattle.wsn_print.specs.DifferingPayloads.{event_in, StandsForPlace, St
 ghost use Rattle.wsn_print.specs.ShownParts.{StandsFor};
 ghost use Rattle.wsn_events.specs.Excerpts.{IsExcerptIn, IsKeptOf};
 ghost use Rattle.wsn_events.specs.PayloadExcerpts.{ArePartsKept, ArePayloadsKept};
-ghost use Rattle.wsn_events.specs.Turns.{IsLawfulTurn, meant_turn};
+ghost use Rattle.wsn_events.specs.Turns.{IsLawfulTurn, meant_last};
 
 use crate::excerpt::Excerpt;
 use crate::payload_difference::PayloadDifference;
-use crate::source::{Next, Source};
-use crate::turn::Turn;
+use crate::source::Next;
+use crate::turn::{LastTurn, Turn};
 use std::alloc::Allocator;
 use wsn_print::{Difference, DifferingPayloads, PlacedEvent};
 
@@ -69,13 +69,14 @@ fn shown_payloads(payloads: &Option<PayloadDifference>) -> Option<DifferingPaylo
     }
 }
 
-/// What is kept of the source's last turn.
-pub(crate) fn excerpt_of<A: Allocator + Copy>(source: &Source<A>, turn: &Turn<A>) -> Option<Excerpt>
-    requires { IsLawfulTurn (meant_turn source.now turn.now) }
-    ensures { IsKeptOf source.now (meant_turn source.now turn.now) result }
+/// What is kept of a source's last turn.
+pub(crate) fn excerpt_of<A: Allocator + Copy>(last: &LastTurn<'_, A>) -> Option<Excerpt>
+    requires { IsLawfulTurn (meant_last last.now) }
+    ensures { IsKeptOf last.now.source.now (meant_last last.now) result }
 {
+    let source = last.source;
     let (offset, frames) = (source.offset(), source.frames());
-    match turn {
+    match last.turn {
         Turn::Lent(kind) => Some(Excerpt::of_message(*kind, source.taken(), offset, frames)),
         Turn::Own(Next::Event(event)) => Some(Excerpt::new(event, offset, frames)),
         Turn::Own(Next::Done(_)) => None,

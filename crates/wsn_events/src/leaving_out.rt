@@ -3,7 +3,7 @@ ghost use Rattle.wsn_rules.specs.Meaning.{MeantEvent};
 ghost use Rattle.wsn_wire.specs.declared.endpoint.Role.{Role};
 ghost use Rattle.wsn_rules.specs.declared.verdict.Verdict.{Verdict};
 ghost use Rattle.wsn_io.specs.declared.stop.Stop.{Stop};
-ghost use Rattle.wsn_events.specs.EventReaders.{HasGiven, answered, events_ahead, next_of, HasBegunOrEnded};
+ghost use Rattle.wsn_events.specs.SourceStates.{HasGiven, answered, events_ahead, next_of, HasBegunOrEnded};
 ghost use Rattle.wsn_events.specs.Turns.{GivesEvent, own_turn};
 ghost use Rattle.wsn_events.specs.LeavingOut.{is_turn_left_out, ReadsTurn, TakesTurnWithout};
 

@@ -18,7 +18,6 @@
 mod comparing;
 mod equal_bytes;
 mod event;
-mod event_reader;
 mod excerpt;
 mod first_difference;
 mod framing;

@@ -1,7 +1,7 @@
 ghost use Rattle.std.specs.Prelude.{◌≡◌, ◌≤◌, false, ℕ, List, None, Some};
 ghost use Rattle.wsn_wire.specs.declared.endpoint.Role.{Role};
 ghost use Rattle.wsn_rules.specs.Meaning.{MeantEvent};
-ghost use Rattle.wsn_events.specs.EventReaders.{HasGiven, answered, events_ahead};
+ghost use Rattle.wsn_events.specs.SourceStates.{HasGiven, answered, events_ahead};
 ghost use Rattle.wsn_events.specs.LentMessages.{PutsTaken};
 ghost use Rattle.wsn_events.specs.Normalised.{IsNormalised, IsNormalisedWhole};
 

@@ -3,12 +3,12 @@ ghost use Rattle.wsn_rules.specs.Meaning.{Control, payload_in};
 ghost use Rattle.wsn_print.specs.DifferingPayloads.{is_text};
 ghost use Rattle.wsn_events.specs.EventsMeant.{meant};
 ghost use Rattle.wsn_events.specs.PayloadExcerpts.{meant_payload, meant_payloads, event_given};
-ghost use Rattle.wsn_events.specs.Turns.{IsLawfulTurn, meant_turn};
+ghost use Rattle.wsn_events.specs.Turns.{IsLawfulTurn, meant_last};
 
 use crate::event::{Event, Small};
 use crate::normal_form::control_of;
-use crate::source::{Next, Source};
-use crate::turn::Turn;
+use crate::source::Next;
+use crate::turn::{LastTurn, Turn};
 use std::alloc::Allocator;
 use wsn_wire::{Kind, Op};
 
@@ -44,16 +44,13 @@ impl Payload<'_> {
     }
 }
 
-/// The payload of the source's last turn; `None` if that is a verdict.
-pub(crate) fn payload_of<'a, A: Allocator + Copy>(
-    source: &'a Source<A>,
-    turn: &'a Turn<A>,
-) -> Option<Payload<'a>>
-    requires { IsLawfulTurn (meant_turn source.now turn.now) }
-    ensures { meant_payloads result ≡ event_given (meant_turn source.now turn.now) }
+/// The payload of a source's last turn; `None` if that is a verdict.
+pub(crate) fn payload_of<'a, A: Allocator + Copy>(last: &LastTurn<'a, A>) -> Option<Payload<'a>>
+    requires { IsLawfulTurn (meant_last last.now) }
+    ensures { meant_payloads result ≡ event_given (meant_last last.now) }
 {
-    match turn {
-        Turn::Lent(kind) => Some(Payload::Message(*kind, source.taken())),
+    match last.turn {
+        Turn::Lent(kind) => Some(Payload::Message(*kind, last.source.taken())),
         Turn::Own(Next::Event(Event::Message(kind, text))) => {
             Some(Payload::Message(*kind, text.as_slice()))
         }

@@ -1,4 +1,4 @@
-ghost use Rattle.wsn_events.specs.EventReaders.{IsAsBefore};
+ghost use Rattle.wsn_events.specs.SourceStates.{IsAsBefore};
 
 use crate::source::{Next, Source};
 use std::alloc::Allocator;
@@ -11,6 +11,15 @@ pub enum Turn<A: Allocator> {
     Lent(Kind),
     /// An event of its own, or the verdict.
     Own(Next<A>),
+}
+
+/// What a source gave last.
+#[derive(Drop)]
+pub struct LastTurn<'a, A: Allocator> {
+    /// The source, which holds the bytes of a message that it lends.
+    pub source: &'a Source<A>,
+    /// Its turn.
+    pub turn: &'a Turn<A>,
 }
 
 /// Gives the source the room of an event that it has given, for the next message.

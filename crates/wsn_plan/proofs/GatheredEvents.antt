@@ -12,12 +12,11 @@ use Rattle.wsn_io.specs.declared.stop.Stop.TheVariants as stop
 use Rattle.wsn_scan.specs.Positions.{IsTakenOf}
 use Rattle.wsn_scan.proofs.ReaderReports.{reported_of}
 use Rattle.wsn_events.specs.declared.event.Event.{Event}
-use Rattle.wsn_events.specs.declared.event_reader.EventReader.{EventReader}
 use Rattle.wsn_events.specs.declared.source.Next.TheVariants as nexts
 use Rattle.wsn_events.specs.EventsMeant.{meant}
 use Rattle.wsn_events.specs.declared.turn.Turn.{Turn}
 use Rattle.wsn_events.specs.declared.turn.Turn.TheVariants as turns
-use Rattle.wsn_events.specs.EventReaders.{HasGiven, IsAsBefore}
+use Rattle.wsn_events.specs.SourceStates.{SourceState, HasGiven, IsAsBefore}
 use Rattle.wsn_events.specs.LentMessages.{LendsMessage, MayLend, lent_message}
 use Rattle.wsn_events.specs.Sources.{IsLast}
 use Rattle.wsn_events.specs.Turns.{TakesTurn, GivesEvent}
@@ -26,7 +25,7 @@ use Rattle.wsn_plan.specs.declared.kept.Kept.{Kept}
 use Rattle.wsn_plan.specs.Gathering.{kept_meant, HasWholeFrame, IsStoppedAfter, IsGathered}
 
 -- The source has read all that came, and these are the events that it gave.
-pub record HasGathered {A B : Type 0} (role : Role) (limits : Limits) (old new : Incoming) (source : EventReader A) (events : List (Kept B)) : Type 0 where
+pub record HasGathered {A B : Type 0} (role : Role) (limits : Limits) (old new : Incoming) (source : SourceState A) (events : List (Kept B)) : Type 0 where
   pub came : List ℕ
   pub has : HasGiven role limits source came (map kept_meant events)
   pub received : IsReceived (limits.input + 1) old new came
@@ -37,7 +36,7 @@ nothing_is_meant [] e is = cc
 nothing_is_meant (b ∷ before) e is = cc
 
 -- an event was given: the bytes within the limit have a whole frame
-frame_within : {A : Type 0} (role : Role) (limits : Limits) (source : EventReader A) (came : List ℕ) (given : List MeantEvent) (event : MeantEvent) → HasGiven role limits source came (given ++ event ∷ [])
+frame_within : {A : Type 0} (role : Role) (limits : Limits) (source : SourceState A) (came : List ℕ) (given : List MeantEvent) (event : MeantEvent) → HasGiven role limits source came (given ++ event ∷ [])
     → HasWholeFrame role limits (take limits.input came)
 frame_within role limits source came given event has =
     let is : IsTakenOf role limits came has.frames has.position = reported_of role limits source.reader came has.frames has.position has.has_taken in
@@ -57,10 +56,10 @@ pub gives_own : {A : Type 0} (turn : Turn A) (event : Event A) → turn ≡ turn
 gives_own {A} turn event is = subst (λ (t : Turn A). GivesEvent (Ok t)) (sym is) tt
 
 module _ {A B : Type 0} (role : Role) (limits : Limits) (old : Incoming) where
-  pub begins : (source : EventReader A) → HasGiven role limits source [] [] → old.failed ≡ false → HasGathered {B = B} role limits old old source []
+  pub begins : (source : SourceState A) → HasGiven role limits source [] [] → old.failed ≡ false → HasGathered {B = B} role limits old old source []
   begins source has readable = grind (arith, received_none)
 
-  pub given_back : (mid : Incoming) (source next : EventReader A) (events : List (Kept B)) → IsAsBefore source next → HasGathered role limits old mid source events → HasGathered role limits old mid next events
+  pub given_back : (mid : Incoming) (source next : SourceState A) (events : List (Kept B)) → IsAsBefore source next → HasGathered role limits old mid source events → HasGathered role limits old mid next events
   given_back mid source next events same gathered = record {
     came = gathered.came;
     has = same.given role limits gathered.came (map kept_meant events) gathered.has;
@@ -69,11 +68,11 @@ module _ {A B : Type 0} (role : Role) (limits : Limits) (old : Incoming) where
   }
 
   -- nothing has changed
-  pub still : (mid : Incoming) (source next : EventReader A) (events : List (Kept B)) → next ≡ source → HasGathered role limits old mid source events → HasGathered role limits old mid next events
-  still mid source next events same gathered = subst (λ (s : EventReader A). HasGathered role limits old mid s events) (sym same) gathered
+  pub still : (mid : Incoming) (source next : SourceState A) (events : List (Kept B)) → next ≡ source → HasGathered role limits old mid source events → HasGathered role limits old mid next events
+  still mid source next events same gathered = subst (λ (s : SourceState A). HasGathered role limits old mid s events) (sym same) gathered
 
   -- the source lends a message at once
-  pub lends_at_once : (mid : Incoming) (source next : EventReader A) (events : List (Kept B)) (gathered : HasGathered role limits old mid source events) (lent : Option Kind) → MayLend source next lent → (kind : Kind) → lent ≡ Some kind
+  pub lends_at_once : (mid : Incoming) (source next : SourceState A) (events : List (Kept B)) (gathered : HasGathered role limits old mid source events) (lent : Option Kind) → MayLend source next lent → (kind : Kind) → lent ≡ Some kind
       → TakesTurn role limits mid mid next gathered.came (map kept_meant events) (Ok (turns.Lent kind))
   lends_at_once mid source next events gathered lent may kind is =
       let taken = subst (λ (l : Option Kind). IfSome l (λ k. (r : Role) (b : Limits) (came : List ℕ) (given : List MeantEvent) → HasGiven r b source came given → LendsMessage r b next came given k)) is may.taken in
@@ -85,7 +84,7 @@ module _ {A B : Type 0} (role : Role) (limits : Limits) (old : Incoming) where
         next = (subst (λ (bs : List ℕ). LendsMessage role limits next bs (map kept_meant events) kind) (sym (append-nil gathered.came)) lends, gathered.readable);
       }
 
-  module _ (mid new : Incoming) (source next : EventReader A) (events : List (Kept B)) (gathered : HasGathered role limits old mid source events) where
+  module _ (mid new : Incoming) (source next : SourceState A) (events : List (Kept B)) (gathered : HasGathered role limits old mid source events) where
     -- the source's next turn, after the bytes that had come
     abbrev Answers : Result (Turn A) Stop → Type 0
     Answers result = TakesTurn role limits mid new next gathered.came (map kept_meant events) result

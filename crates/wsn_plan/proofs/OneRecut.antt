@@ -15,7 +15,6 @@ use Rattle.wsn_rules.proofs.PlanTheory.Faults.{not_both, one_fault}
 use Rattle.wsn_io.specs.declared.stop.Stop.{Stop}
 use Rattle.wsn_io.specs.declared.stop.Stop.TheVariants as stop
 use Rattle.wsn_plan.specs.declared.planning.PlanAnswer.{PlanAnswer}
-use Rattle.wsn_plan.specs.declared.planning.PlanAnswer.TheVariants as plans
 use Rattle.wsn_plan.specs.declared.recutting.RecutAnswer.{RecutAnswer}
 use Rattle.wsn_plan.specs.declared.recutting.RecutAnswer.TheVariants.{Done, NotAccepted, Fault}
 use Rattle.wsn_io.specs.Stops.{HasNoFailure}

@@ -1,5 +1,5 @@
 -- The uniform plan, event by event, with the controls before the next message counted.
-use Rattle.std.proofs.Common.{◌≡◌, ℕ, ◌+◌, ◌-◌, zero, suc, Bool, Option, List, [], ◌∷◌, ◌++◌, length, replicate, take, drop, min, Result, Ok, IfOk, refl, ap, ◌∙◌, append_assoc, arith}
+use Rattle.std.proofs.Common.{◌≡◌, ℕ, ◌+◌, ◌-◌, zero, suc, Bool, Option, List, [], ◌∷◌, ◌++◌, length, replicate, take, drop, min, Result, IfOk, refl, ap, ◌∙◌, append_assoc, arith}
 use Rattle.wsn_wire.specs.declared.length_encoding.Form.TheVariants.{Shortest}
 use Rattle.wsn_rules.specs.declared.step.Step.{Step}
 use Rattle.wsn_rules.specs.declared.step.Step.TheVariants.{Piece, Last, Control}

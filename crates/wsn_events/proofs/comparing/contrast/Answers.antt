@@ -74,12 +74,12 @@ returns-in_err-other g c =
 
 pub end_round-round-requires : goal.end_round-round-requires
 end_round-round-requires g c = record {
-  turn = let at = c.loop-lent.invariant in
+  first = let at = c.loop-lent.invariant in
       let e = c.take_message-lent.ensures in
       let reads : ReadsTurn c.args.without c.loop-lent.first c.turn_after.new.input c.loop-lent.events c.turn_after.new.source c.turn_after.result = turn_reads c.loop-lent.events c.take_message-lent.new.self c.take_message-lent.result e c.args.without c.loop-lent.first (readable c.args.without c.args.role c.args.limits c.args.first.now c.loop-lent.first c.loop-lent.events at.came at.given at.followed) c.turn_after.new.input c.turn_after.new.source c.turn_after.result c.turn_after.ensures.lent c.turn_after.ensures.own in
       let one = gives_turn c.args.without c.args.role c.args.limits c.args.first.now c.loop-lent.first c.turn_after.new.input c.loop-lent.events c.turn_after.new.source at.came at.given c.turn_after.result at.followed reads c.in_ok-turn.turn c.in_ok-turn.was in
       one.lawful;
-  other = let at = c.loop-lent.invariant in
+  second = let at = c.loop-lent.invariant in
       let d = c.take_other-other_lent.ensures in
       let other_reads : ReadsTurn c.args.without c.loop-lent.second c.turn_after-in-loop-lent.new.input c.loop-lent.others c.turn_after-in-loop-lent.new.source c.turn_after-in-loop-lent.result = turn_reads c.loop-lent.others c.take_other-other_lent.new.others c.take_other-other_lent.result d c.args.without c.loop-lent.second (readable c.args.without c.args.role c.args.limits c.args.second.now c.loop-lent.second c.loop-lent.others at.other_came at.other_given at.other_followed) c.turn_after-in-loop-lent.new.input c.turn_after-in-loop-lent.new.source c.turn_after-in-loop-lent.result c.turn_after-in-loop-lent.ensures.lent c.turn_after-in-loop-lent.ensures.own in
       let two = gives_turn c.args.without c.args.role c.args.limits c.args.second.now c.loop-lent.second c.turn_after-in-loop-lent.new.input c.loop-lent.others c.turn_after-in-loop-lent.new.source at.other_came at.other_given c.turn_after-in-loop-lent.result at.other_followed other_reads c.in_ok-other.other c.in_ok-other.was in

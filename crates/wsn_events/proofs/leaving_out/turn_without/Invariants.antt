@@ -4,7 +4,7 @@ use Rattle.wsn_io.specs.declared.stop.Stop.{Stop}
 use Rattle.wsn_rules.specs.declared.verdict.Verdict.{Verdict}
 use Rattle.wsn_rules.specs.Limits.{Limits}
 use Rattle.wsn_rules.specs.Meaning.{MeantEvent}
-use Rattle.wsn_events.specs.EventReaders.{HasGiven, HasBegunOrEnded, answered, events_ahead}
+use Rattle.wsn_events.specs.SourceStates.{HasGiven, HasBegunOrEnded, answered, events_ahead}
 use Rattle.wsn_events.proofs.PassedOver.{HasPassed}
 use Rattle.wsn_events.proofs.leaving_out.turn_without.Given as goal
 

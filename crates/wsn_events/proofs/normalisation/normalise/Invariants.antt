@@ -1,4 +1,4 @@
-use Rattle.wsn_events.specs.EventReaders.{events_ahead}
+use Rattle.wsn_events.specs.SourceStates.{events_ahead}
 use Rattle.wsn_events.proofs.Normalising.{HasWritten}
 use Rattle.wsn_events.proofs.normalisation.normalise.Given as goal
 

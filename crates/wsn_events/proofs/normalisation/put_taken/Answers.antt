@@ -1,8 +1,8 @@
 use Rattle.std.proofs.Common.{◌≡◌, ℕ, true, false, Ok, List, take, refl, sym, ◌∙◌, subst, rules}
 use Rattle.std.specs.Io.KnownBytes.{Appends}
 use Rattle.wsn_events.proofs.TakenEvents.{puts_none}
-use Rattle.wsn_events.specs.declared.event_reader.EventReader.{EventReader}
 use Rattle.wsn_events.specs.LentMessages.{PutsTaken}
+use Rattle.wsn_events.specs.SourceStates.{SourceState}
 use Rattle.wsn_events.proofs.normalisation.put_taken.Goals as goal
 
 pub take_events-requires : goal.take_events-requires
@@ -11,7 +11,7 @@ take_events-requires g c = search rules
 pub returns-then-not-take_events-clause-put : goal.returns-then-not-take_events-clause-put
 returns-then-not-take_events-clause-put g c role limits came given has =
     let not_taken : c.take_events.result ≡ false = search rules in
-    subst (λ (source : EventReader g.row.A.Denot). PutsTaken role limits source came given c.args.output.now c.args.output.now (Ok tt)) (sym (c.take_events.ensures.none not_taken))
+    subst (λ (source : SourceState g.row.A.Denot). PutsTaken role limits source came given c.args.output.now c.args.output.now (Ok tt)) (sym (c.take_events.ensures.none not_taken))
     (puts_none role limits came given c.args.output.now c.args.source.now c.requires.writable has)
 
 pub returns-then-put-clause-put : goal.returns-then-put-clause-put

@@ -4,7 +4,7 @@ use Rattle.wsn_rules.specs.Meaning.{Message}
 use Rattle.wsn_io.specs.declared.stop.Stop.TheVariants as stop
 use Rattle.wsn_events.specs.declared.source.Next.TheVariants as nexts
 use Rattle.wsn_events.specs.declared.turn.Turn.TheVariants as turns
-use Rattle.wsn_events.specs.EventReaders.{events_ahead}
+use Rattle.wsn_events.specs.SourceStates.{events_ahead}
 use Rattle.wsn_plan.specs.Gathering.{kept_meant}
 use Rattle.wsn_plan.proofs.GatheredEvents.{gives_lent, gives_own, given_back, begins, still, lends_at_once, is_done, is_stopped, goes_on, no_memory, goes_on_lent, no_memory_lent}
 use Rattle.wsn_plan.proofs.gathering.gather.Goals as goal

@@ -1,4 +1,4 @@
-use Rattle.wsn_events.specs.EventReaders.{events_ahead}
+use Rattle.wsn_events.specs.SourceStates.{events_ahead}
 use Rattle.wsn_plan.proofs.GatheredEvents.{HasGathered}
 use Rattle.wsn_plan.proofs.gathering.gather.Given as goal
 
