@@ -3,6 +3,7 @@ a test of tests/program, as those of printed.py are.
 
 A row has the words after `wsn`, the input, and how the hint begins; None if there is no hint.
 """
+import random
 from typing import NamedTuple
 
 from printed import Group
@@ -19,6 +20,7 @@ GZIP = "this is compressed by gzip: "
 TLS = "this is TLS: "
 MARK = "this begins with a byte order mark: "
 COMPRESSED_FRAME = "compressed: "
+STREAM = "this is what one endpoint sent, and no capture: "
 TEXT = "this looks like text; "
 OF_A_CLIENT = "masked, as a client's frames are: "
 OF_A_SERVER = "not masked, as a server's frames: "
@@ -101,6 +103,12 @@ OTHERS = (
     "c98001", "f18001", "8801", "89fe", "0080",
 )
 
+# Streams where a capture is read: of each endpoint; one byte, and bytes with which no stream begins.
+SENT = (("810548", STREAM), ("818537", STREAM), ("81", None), ("ff85", None))
+
+# What a plan begins with.
+PLANS = ((b"\xef\xbb\xbfl", MARK), (b"last -\r\n", None), (b"\xd4\xc3\xb2\xa1", None), (b"\xef\xbb", None), (b"", None))
+
 # A server's ping and a client's, an empty stream, and an HTTP head: two streams, and the hint on them.
 PING, MASKED = bytes.fromhex("8900"), bytes.fromhex("8980")
 STREAMS = (
@@ -137,12 +145,14 @@ LATE = (
 
 
 class HintRow(NamedTuple):
-    """A run, and how its hint begins. The files, if there are any, are named after the words, in place of an input."""
+    """A run, and how its hint begins. The files, if there are any, are named after the words, in place of an input.
+    Standard output has these lines, perhaps among others."""
 
     words: list
     given: bytes
     hint: object
     files: tuple = ()
+    lines: tuple = ()
 
 
 def bytes_of(given):
@@ -179,6 +189,31 @@ def frames():
         yield from both(bytes.fromhex(digits), None)
 
 
+def is_head(first, second):
+    """By RFC 6455, 5.2, whether a stream may begin with these two bytes, but for the MASK bit."""
+    length = second & 0x7F
+    if first == 0x88:
+        return length < 126 and length != 1
+    return length < 126 if first in (0x89, 0x8A) else first in (0x01, 0x02, 0x81, 0x82)
+
+
+def random_streams():
+    """Streams until a thousand are refused by their first two bytes, read as a client's. Only those have a hint that begin
+    with a server's frame, or with a client's that has RSV1."""
+    numbers, refused = random.Random(20_261_125), 0
+    while refused < 1_000:
+        given = numbers.randbytes(16)
+        first, second = given[:2]
+        is_client = second >= 0x80
+        hint = None
+        if is_head(first, second) and not is_client:
+            hint = OF_A_SERVER
+        elif first & 0x78 == 0x40 and is_head(first & 0xBF, second) and is_client:
+            hint = COMPRESSED_FRAME
+        refused += not (is_head(first, second) and is_client)
+        yield stream(given, "client", hint)
+
+
 def compared(table, *options):
     """Two inputs; in JSON no hint is printed."""
     for first, second, hint in table:
@@ -205,6 +240,12 @@ GROUPS = (
     Group("an_empty_input_has_a_hint", "no byte came; a capture without bytes of an endpoint has none",
           [stream("", "server", EMPTY), capture("", EMPTY), capture("# no bytes\nC.\nS.\n", None)]),
     Group("frames_are_compressed_or_of_the_other_endpoint", "the hint is by the first frame", list(frames())),
+    Group("a_stream_is_no_capture", "it begins as that of an endpoint may",
+          [capture(bytes.fromhex(digits), hint) for digits, hint in SENT]),
+    Group("a_plan_has_a_hint_for_a_byte_order_mark_alone", "what else it begins with has none",
+          [HintRow(["recut", "--role", "server", "-", "--plan"], PING, hint, (plan,)) for plan, hint in PLANS]),
+    Group("random_streams_have_the_hints_of_their_first_bytes", "of the other endpoint, compressed, or none",
+          list(random_streams())),
     Group("a_frame_past_the_limit_has_no_hint", "it is longer than a message may be, whoever sent it",
           [stream(b"\x81\x05", role, None, "--limit", "4") for role in ("server", "client")]),
     Group("a_hint_at_a_capture_suits_the_command",
