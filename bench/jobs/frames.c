@@ -19,7 +19,7 @@ static void put_head(struct frame frame, struct bytes *into)
 {
     size_t length = frame.payload.size;
     unsigned mask = frame.role == WSN_CLIENT ? 0x80 : 0;
-    put_byte(into, frame.opcode | (frame.is_begun ? 0 : 0x80));
+    put_byte(into, frame.opcode | (frame.has_more ? 0 : 0x80));
     if (length < 126 && !frame.is_longer) {
         put_byte(into, mask | (unsigned)length);
     } else if (length < 65536) {
@@ -56,7 +56,7 @@ void put_fragments(struct chance *chance, struct frame message, struct cut cut, 
 {
     while (message.payload.size > cut.most) {
         struct frame fragment = message;
-        fragment.is_begun = 1;
+        fragment.has_more = 1;
         fragment.payload.size = cut.most;
         put_frame(chance, fragment, into);
         if (cut.pings > 0 && below(chance, cut.pings) == 0)

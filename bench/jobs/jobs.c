@@ -35,7 +35,7 @@ int main(int count, char **words)
     struct printed printed = {new_room(), {0}, 0, 0, 0};
     size_t at, found = 0;
     if (count != 4)
-        fail("WORKLOAD SEED ROUNDS");
+        fail("it takes WORKLOAD SEED ROUNDS");
     uint64_t seed = number_of(words[2], UINT64_MAX);
     size_t rounds = (size_t)number_of(words[3], 1000000);
     for (at = 0; at < sizeof workloads / sizeof workloads[0]; at++)

@@ -69,7 +69,7 @@ enum { CONTINUATION = 0, TEXT = 1, BINARY = 2, PING = 9 };
 struct frame {
     uint8_t role;
     uint8_t opcode;
-    uint8_t is_begun;  /* 1 if fragments follow */
+    uint8_t has_more;  /* 1 if fragments follow */
     uint8_t is_longer; /* 1 if a length below 126 takes two bytes */
     struct part payload;
 };
