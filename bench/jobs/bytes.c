@@ -46,9 +46,11 @@ void put_text(struct bytes *into, const char *text)
 
 void put_number(struct bytes *into, size_t number)
 {
-    char digits[32];
-    snprintf(digits, sizeof digits, "%zu", number);
-    put_text(into, digits);
+    unsigned char digits[32], *first = digits + sizeof digits;
+    do
+        *--first = (unsigned char)('0' + number % 10);
+    while ((number /= 10) > 0);
+    put(into, (struct part){first, (size_t)(digits + sizeof digits - first)});
 }
 
 /* Adds a number in so many bytes, the lowest first. */
@@ -58,19 +60,10 @@ void put_little_endian(struct bytes *into, uint64_t number, unsigned count)
         put_byte(into, number & 0xff);
 }
 
-/* Makes a recording: the bytes of a session, and then those of its end. */
-struct part recorded(struct bytes *recording, struct part session, struct part end)
-{
-    recording->size = 0;
-    put(recording, session);
-    put(recording, end);
-    return part_of(recording);
-}
-
 /* A pool of at most so many blocks. */
 struct pool new_pool(size_t most)
 {
-    struct pool pool = {{NULL, 0, 0}, calloc(most, sizeof(size_t)), 0, most};
+    struct pool pool = {{NULL, 0, 0}, calloc(most, sizeof(size_t)), 0, most, {0}, 0, 0};
     if (pool.starts == NULL)
         fail("no memory");
     return pool;
@@ -90,11 +83,30 @@ static size_t start_of(const struct pool *pool, size_t block)
     return block < pool->blocks ? pool->starts[block] : pool->bytes.size;
 }
 
-/* The bytes of `count` blocks from this one on, or of as many as there are. */
-struct part window(const struct pool *pool, size_t first, size_t count)
+/* Puts back what the end of the last recording covers. */
+static void uncover(struct pool *pool)
 {
-    size_t start = start_of(pool, first);
-    return (struct part){pool->bytes.at + start, start_of(pool, first + count) - start};
+    memcpy(pool->bytes.at + pool->covered_at, pool->covered, pool->covered_size);
+}
+
+/*
+ * Makes a recording: the bytes of `count` blocks from this one on, or of as many as there are, and then those of the end,
+ * which cover the next block's until the next recording.
+ */
+struct part recording(struct pool *pool, size_t first, size_t count, struct part end)
+{
+    size_t start = start_of(pool, first), stop = start_of(pool, first + count);
+    if (end.size > sizeof pool->covered)
+        fail("an end is too long");
+    /* room behind the last block */
+    more(&pool->bytes, end.size);
+    pool->bytes.size -= end.size;
+    uncover(pool);
+    memcpy(pool->covered, pool->bytes.at + stop, end.size);
+    memcpy(pool->bytes.at + stop, end.at, end.size);
+    pool->covered_at = stop;
+    pool->covered_size = end.size;
+    return (struct part){pool->bytes.at + start, stop - start + end.size};
 }
 
 void free_pool(struct pool *pool)

@@ -28,7 +28,6 @@ struct bytes {
 
 void fail(const char *why);
 struct part part_of(const struct bytes *bytes);
-struct part recorded(struct bytes *recording, struct part session, struct part end);
 unsigned char *more(struct bytes *into, size_t size);
 void put(struct bytes *into, struct part part);
 void put_byte(struct bytes *into, unsigned byte);
@@ -41,11 +40,13 @@ struct pool {
     struct bytes bytes;
     size_t *starts; /* the offset of each block's first byte */
     size_t blocks, most;
+    unsigned char covered[64]; /* what the end of the last recording covers, and where */
+    size_t covered_at, covered_size;
 };
 
 struct pool new_pool(size_t most);
 void begin_block(struct pool *pool);
-struct part window(const struct pool *pool, size_t first, size_t count);
+struct part recording(struct pool *pool, size_t first, size_t count, struct part end);
 void free_pool(struct pool *pool);
 
 /* Numbers that look random and follow from a seed. */

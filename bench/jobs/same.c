@@ -86,18 +86,15 @@ void same(uint64_t seed, size_t rounds, struct printed *printed)
     struct chance chance = {seed};
     struct pair of_texts = texts(&chance, rounds + BLOCKS);
     struct pair of_binaries = binaries(&chance, rounds / 3 + BINARIES);
-    struct bytes before = {NULL, 0, 0}, after = {NULL, 0, 0};
     size_t round;
     for (round = 0; round < rounds; round++) {
         int is_binary = round % 3 == 2;
-        const struct pair *pair = is_binary ? &of_binaries : &of_texts;
+        struct pair *pair = is_binary ? &of_binaries : &of_texts;
         size_t first = is_binary ? round / 3 : round, count = is_binary ? BINARIES : BLOCKS;
-        recorded(&before, window(&pair->before, first, count), CLIENT_CLOSE);
-        recorded(&after, window(&pair->after, first, count), round % 4 == 3 ? OTHER_END : CLIENT_CLOSE);
-        run_same(printed, options_of(WSN_CLIENT, WSN_TEXT), part_of(&before), part_of(&after));
+        struct part before = recording(&pair->before, first, count, CLIENT_CLOSE);
+        struct part after = recording(&pair->after, first, count, round % 4 == 3 ? OTHER_END : CLIENT_CLOSE);
+        run_same(printed, options_of(WSN_CLIENT, WSN_TEXT), before, after);
     }
     free_pair(&of_texts);
     free_pair(&of_binaries);
-    free(before.at);
-    free(after.at);
 }

@@ -17,14 +17,16 @@ enum { MESSAGES = 64, SEGMENT = 1448 };
 static void put_line(uint8_t role, uint64_t time, struct part line, struct bytes *into)
 {
     const char *digits = "0123456789abcdef";
+    unsigned char *pairs;
     char seconds[64];
     size_t at;
     snprintf(seconds, sizeof seconds, "# %llu.%06llu\n", (unsigned long long)time / 1000000, (unsigned long long)time % 1000000);
     put_text(into, seconds);
     put_text(into, role == WSN_CLIENT ? "C " : "S ");
+    pairs = more(into, 2 * line.size);
     for (at = 0; at < line.size; at++) {
-        put_byte(into, (unsigned char)digits[line.at[at] >> 4]);
-        put_byte(into, (unsigned char)digits[line.at[at] & 15]);
+        pairs[2 * at] = (unsigned char)digits[line.at[at] >> 4];
+        pairs[2 * at + 1] = (unsigned char)digits[line.at[at] & 15];
     }
     put_byte(into, '\n');
 }
@@ -82,13 +84,10 @@ void show(uint64_t seed, size_t rounds, struct printed *printed)
 {
     struct chance chance = {seed};
     struct pool pool = captures(&chance, rounds + BLOCKS);
-    struct bytes capture = {NULL, 0, 0}, side = new_room();
+    struct bytes side = new_room();
     size_t round;
-    for (round = 0; round < rounds; round++) {
-        recorded(&capture, window(&pool, round, BLOCKS), CAPTURE_END);
-        read_capture(round % 6, part_of(&capture), &side, printed);
-    }
+    for (round = 0; round < rounds; round++)
+        read_capture(round % 6, recording(&pool, round, BLOCKS, CAPTURE_END), &side, printed);
     free_pool(&pool);
-    free(capture.at);
     free(side.at);
 }

@@ -6,13 +6,11 @@
 /* Judges streams of a client, and writes them in their normal form, by turns. */
 static void judge_or_normalise(wsn_options options, struct pool *streams, size_t rounds, struct printed *printed)
 {
-    struct bytes stream = {NULL, 0, 0};
     size_t round;
     for (round = 0; round < rounds; round++) {
-        command *call = round % 2 == 0 ? wsn_judge : wsn_normal;
-        run(printed, call, options, recorded(&stream, window(streams, round, BLOCKS), CLIENT_CLOSE));
+        struct part stream = recording(streams, round, BLOCKS, CLIENT_CLOSE);
+        run(printed, round % 2 == 0 ? wsn_judge : wsn_normal, options, stream);
     }
-    free(stream.at);
 }
 
 /*
@@ -112,18 +110,16 @@ void frames(uint64_t seed, size_t rounds, struct printed *printed)
     struct chance chance = {seed};
     struct pool of_client = ticks(&chance, WSN_CLIENT, rounds + BLOCKS);
     struct pool of_server = ticks(&chance, WSN_SERVER, rounds + BLOCKS);
-    struct bytes stream = {NULL, 0, 0};
     size_t round;
     for (round = 0; round < rounds; round++) {
         uint8_t format = round % 4 == 3 ? WSN_JSON : WSN_TEXT;
-        struct part client = recorded(&stream, window(&of_client, round, BLOCKS), CLIENT_CLOSE);
+        struct part client = recording(&of_client, round, BLOCKS, CLIENT_CLOSE);
+        struct part server = recording(&of_server, round, BLOCKS, SERVER_CLOSE);
         run(printed, wsn_frames, options_of(WSN_CLIENT, format), client);
-        struct part server = recorded(&stream, window(&of_server, round, BLOCKS), SERVER_CLOSE);
         run(printed, wsn_frames, options_of(WSN_SERVER, format), server);
     }
     free_pool(&of_client);
     free_pool(&of_server);
-    free(stream.at);
 }
 
 /* Blocks of 64 JSON messages of a client, with pings. */
@@ -151,11 +147,11 @@ void recut(uint64_t seed, size_t rounds, struct printed *printed)
 {
     struct chance chance = {seed};
     struct pool streams = chats(&chance, rounds + BLOCKS);
-    struct bytes recording = {NULL, 0, 0}, plan = new_room(), there = new_room();
+    struct bytes plan = new_room(), there = new_room();
     wsn_options options = options_of(WSN_CLIENT, WSN_TEXT);
     size_t round;
     for (round = 0; round < rounds; round++) {
-        struct part stream = recorded(&recording, window(&streams, round, BLOCKS), CLIENT_CLOSE);
+        struct part stream = recording(&streams, round, BLOCKS, CLIENT_CLOSE);
         run(printed, wsn_plan, options, stream);
         swap_rooms(printed, &plan);
         run_recut_by_size(printed, options, 100, LITERAL("\x37\xfa\x21\x3d"), stream);
@@ -163,7 +159,6 @@ void recut(uint64_t seed, size_t rounds, struct printed *printed)
         run_recut(printed, options, part_of(&plan), part_of(&there));
     }
     free_pool(&streams);
-    free(recording.at);
     free(plan.at);
     free(there.at);
 }
