@@ -4,6 +4,7 @@
  */
 #include "jobs.h"
 
+#include <inttypes.h>
 #include <stdio.h>
 #include <stdlib.h>
 
@@ -20,7 +21,7 @@ static void put_line(uint8_t role, uint64_t time, struct part line, struct bytes
     unsigned char *pairs;
     char seconds[64];
     size_t at;
-    snprintf(seconds, sizeof seconds, "# %llu.%06llu\n", (unsigned long long)time / 1000000, (unsigned long long)time % 1000000);
+    snprintf(seconds, sizeof seconds, "# %" PRIu64 ".%06" PRIu64 "\n", time / 1000000, time % 1000000);
     put_text(into, seconds);
     put_text(into, role == WSN_CLIENT ? "C " : "S ");
     pairs = more(into, 2 * line.size);
