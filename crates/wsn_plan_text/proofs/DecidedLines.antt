@@ -9,7 +9,7 @@ use Rattle.hex.specs.declared.error.FromHexError.{FromHexError}
 use Rattle.wsn_wire.specs.declared.length_encoding.Form.{Form}
 use Rattle.wsn_wire.specs.declared.length_encoding.Form.TheVariants.{Shortest, Two, Eight}
 use Rattle.wsn_rules.specs.declared.step.Step.{Step}
-use Rattle.wsn_print.specs.Fields.{form_text}
+use Rattle.wsn_print.specs.HeadText.{form_text}
 use Rattle.wsn_rules.proofs.Computed.{less_or_not, same_or_not as equal_or_not}
 use Rattle.wsn_rules.proofs.Prefixes.{head_same, tail_same, cons_same, nil-cons}
 use Rattle.wsn_plan_text.specs.declared.plan_fault.LineWhy.{LineWhy}

@@ -10,7 +10,7 @@ use Rattle.hex.specs.Hex.{is_hex_digit}
 use Rattle.hex.proofs.HexLemmas.{decode_of-ok}
 use Rattle.wsn_wire.specs.declared.length_encoding.Form.{Form}
 use Rattle.wsn_wire.specs.declared.length_encoding.Form.TheVariants.{Shortest, Two, Eight}
-use Rattle.wsn_print.specs.Fields.{form_text}
+use Rattle.wsn_print.specs.HeadText.{form_text}
 use Rattle.wsn_rules.proofs.Prefixes.{nil-cons}
 use Rattle.wsn_plan_text.specs.PlanText.{HasNo, preceded_by, IsField, EncodesNumber, EncodesKey}
 

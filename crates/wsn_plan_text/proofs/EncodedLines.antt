@@ -3,7 +3,7 @@ use Rattle.std.proofs.Common.{◌≡◌, ℕ, List, ◌++◌, codes, refl, sym, 
 use Rattle.wsn_wire.specs.declared.length_encoding.Form.TheVariants.{Shortest}
 use Rattle.wsn_rules.specs.declared.step.Step.{Step}
 use Rattle.wsn_rules.specs.declared.step.Step.TheVariants as step
-use Rattle.wsn_print.specs.Fields.{form_text}
+use Rattle.wsn_print.specs.HeadText.{form_text}
 use Rattle.wsn_plan_text.specs.PlanText.{preceded_by, Fields, OfPiece, OfLast, OfControl, HasFields, HasNumber, HasKey, HasForm, EncodesNumber, EncodesKey, EncodesStep}
 use Rattle.wsn_plan_text.proofs.FieldsOfLine.{one_list_of_fields}
 use Rattle.wsn_plan_text.proofs.EncodedFields.{number_is_field, key_is_field, field_of, form_as_field, form_is_field, one_number, one_key, one_form}

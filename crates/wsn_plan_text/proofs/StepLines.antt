@@ -2,7 +2,7 @@
 use Rattle.std.proofs.Common.{◌≡◌, ℕ, Option, List, ◌++◌, sym, ap, ◌∙◌, codes, decimal, append_assoc}
 use Rattle.wsn_wire.specs.declared.length_encoding.Form.{Form}
 use Rattle.wsn_rules.specs.declared.step.Step.TheVariants as step
-use Rattle.wsn_print.specs.Fields.{key_text, form_text}
+use Rattle.wsn_print.specs.HeadText.{key_text, form_text}
 use Rattle.wsn_print.proofs.Appended.{two, three, four}
 use Rattle.wsn_plan_text.specs.PlanText.{step_line}
 

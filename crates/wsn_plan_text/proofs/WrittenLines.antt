@@ -9,7 +9,7 @@ use Rattle.wsn_wire.specs.Frame.{IsBytes, IsKey}
 use Rattle.wsn_rules.specs.declared.step.Step.{Step}
 use Rattle.wsn_rules.specs.declared.step.Step.TheVariants as step
 use Rattle.wsn_rules.specs.Plan.{IsPlan, key_of, piece_length}
-use Rattle.wsn_print.specs.Fields.{key_text, form_text}
+use Rattle.wsn_print.specs.HeadText.{key_text, form_text}
 use Rattle.wsn_rules.specs.TextLines.{ended}
 use Rattle.wsn_plan_text.specs.PlanText.{HasNo, EncodesKey, EncodesStep, EncodesPlan, step_line, plan_text}
 use Rattle.wsn_plan_text.proofs.EncodedFields.{number_has_no, key_has_no, form_has_no_lf}

@@ -6,7 +6,7 @@ use Rattle.hex.specs.Hex.{decode_of}
 use Rattle.wsn_wire.specs.declared.length_encoding.Form.{Form}
 use Rattle.wsn_rules.specs.declared.step.Step.{Step}
 use Rattle.wsn_rules.specs.declared.step.Step.TheVariants as step
-use Rattle.wsn_print.specs.Fields.{key_text, form_text}
+use Rattle.wsn_print.specs.HeadText.{key_text, form_text}
 use Rattle.wsn_rules.specs.TextLines.{AreLines}
 use Rattle.wsn_plan_text.specs.declared.plan_fault.LineWhy.{LineWhy, TheVariants.{BadForm, BadNumber, BadKey, BadLength}}
 use Rattle.wsn_plan_text.specs.declared.plan_fault.PlanFault.{PlanFault}

@@ -1,7 +1,7 @@
 ghost use Rattle.std.specs.Prelude.{◌≡◌, ◌≢◌, ◌<◌, ◌↔◌, ◌⊎◌, ℕ, [], codes, slice_index, IsTrue, MatchResult, Option, List};
 ghost use Rattle.std.specs.Option.{option_copied};
 ghost use Rattle.wsn_wire.specs.declared.length_encoding.Form.{Form};
-ghost use Rattle.wsn_print.specs.Fields.{form_text};
+ghost use Rattle.wsn_print.specs.HeadText.{form_text};
 ghost use Rattle.wsn_plan_text.specs.declared.plan_fault.LineWhy.TheVariants.{BadKey, BadLength, BadNumber};
 ghost use Rattle.wsn_plan_text.specs.PlanText.{preceded_by, IsLineFault, IsReadPlan, EncodesKey, EncodesNumber, EncodesStep};
 ghost use Rattle.wsn_plan_text.specs.Splits.{IsNextLine};

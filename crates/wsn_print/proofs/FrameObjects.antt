@@ -1,7 +1,7 @@
 -- The object of a frame, whose members are written from the first to the last.
 use Rattle.std.proofs.Common.{◌≡◌, ℕ, List, ◌++◌, sym, ap, ◌∙◌, codes, decimal, append_assoc}
 use Rattle.wsn_rules.specs.declared.head_info.HeadInfo.{HeadInfo}
-use Rattle.wsn_print.specs.Fields.{op_word}
+use Rattle.wsn_print.specs.HeadText.{op_word}
 use Rattle.wsn_print.specs.Json.{field, string_field, number_field, boolean}
 use Rattle.wsn_print.specs.Objects.{key_value, form_word, head_members, frame_object}
 use Rattle.wsn_print.proofs.Appended.{two}

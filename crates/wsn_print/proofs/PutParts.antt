@@ -6,8 +6,7 @@ use Rattle.std.proofs.lemmas.List.{take-append-le, take_all}
 use Rattle.std.proofs.lemmas.Fmt.{decimal_digit}
 use Rattle.hex.specs.Hex.{encode_with, encode_lower}
 use Rattle.wsn_rules.specs.declared.head_info.HeadInfo.{HeadInfo}
-use Rattle.wsn_print.specs.Fields.{fin_word, op_word, key_text, form_text}
-use Rattle.wsn_print.specs.HeadText.{head_fields, head_line}
+use Rattle.wsn_print.specs.HeadText.{fin_word, op_word, key_text, form_text, head_fields, head_line}
 use Rattle.itoa.proofs.Decimal.{decimal_two, decimal_pair, decimal_four}
 use Rattle.wsn_print.proofs.Appended.{two, four}
 

@@ -12,7 +12,7 @@ use Rattle.wsn_rules.specs.declared.closing_handshake.Side.TheVariants as side
 use Rattle.wsn_rules.specs.declared.verdict.Refusal.{Refusal}
 use Rattle.wsn_rules.specs.declared.verdict.Summary.{Summary}
 use Rattle.wsn_rules.specs.declared.verdict.Verdict.{Verdict, TheVariants.{Accepted, Cut, Refused}}
-use Rattle.wsn_print.specs.Fields.{op_word}
+use Rattle.wsn_print.specs.HeadText.{op_word}
 use Rattle.wsn_print.specs.Json.{string_of, number_or_null, boolean, field, string_field, number_field, number_or_null_field}
 use Rattle.wsn_print.specs.ReportText.{outcome_word}
 

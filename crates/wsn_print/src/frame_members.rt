@@ -1,7 +1,7 @@
 //! The members of a frame's object after its offset, written from the first to the last.
 ghost use Rattle.std.specs.Prelude.{◌≡◌, ◌+◌, ◌≤◌, ◌++◌, codes, length, take};
 ghost use Rattle.wsn_print.specs.Json.{field, string_field, boolean};
-ghost use Rattle.wsn_print.specs.Fields.{op_word};
+ghost use Rattle.wsn_print.specs.HeadText.{op_word};
 ghost use Rattle.wsn_print.specs.Objects.{key_value, form_word, head_members};
 
 use crate::parts::{put, put_key_digits, put_number};

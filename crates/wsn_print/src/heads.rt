@@ -1,8 +1,7 @@
 //! The fields of a frame's head, as they are written in a line.
 
 ghost use Rattle.std.specs.Prelude.{◌≡◌, ◌+◌, ◌≤◌, ◌++◌, length, take, codes};
-ghost use Rattle.wsn_print.specs.Fields.{fin_word, op_word};
-ghost use Rattle.wsn_print.specs.HeadText.{head_fields};
+ghost use Rattle.wsn_print.specs.HeadText.{fin_word, op_word, head_fields};
 
 use crate::parts::{put, put_form, put_key, put_number};
 use wsn_rules::HeadInfo;

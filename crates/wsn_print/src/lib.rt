@@ -17,7 +17,7 @@
 //! escaped. A [`Style`] says how a stream or a capture is shown, an [`EntryFront`] where an entry is, and a [`Difference`]
 //! where two streams differ first.
 //!
-//! `specs/Fields.antt` defines the fields of lines; `VerdictText`, `HeadText`, `ReportText`, `FaultText`, `PayloadText`
+//! `specs/Fields.antt` defines the fields of verdicts; `VerdictText`, `HeadText`, `ReportText`, `FaultText`, `PayloadText`
 //! and `NamedReportText` define the lines, `PeopleReport` and `Sentences` what a report says to people, `EscapedText`
 //! quoted texts and comments, `Json` and `Objects` the objects, `Formats` the texts in each format, and `Statuses` the
 //! exit statuses. `ShownParts` says what the arguments of the functions that show an entry represent, and

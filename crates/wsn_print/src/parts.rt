@@ -1,6 +1,6 @@
 ghost use Rattle.std.specs.Prelude.{◌≡◌, ◌+◌, ◌/◌, ◌%◌, ◌<◌, ◌≤◌, [], ◌∷◌, ◌++◌, length, take, drop, codes, decimal};
 ghost use Rattle.hex.specs.Hex.{encode_lower};
-ghost use Rattle.wsn_print.specs.Fields.{key_text, form_text};
+ghost use Rattle.wsn_print.specs.HeadText.{key_text, form_text};
 
 use itoa::write_digits;
 use wsn_wire::Form;

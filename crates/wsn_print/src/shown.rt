@@ -1,12 +1,9 @@
 use std::marker::Model;
 use wsn_rules::Limits;
-use wsn_wire::{Op, Role};
+use wsn_wire::{CONTROL_MAX, Op, Role};
 
 /// The greatest limit on the bytes of a payload that is given as a number.
 pub const VIEW_MAX: u16 = 4_096;
-
-/// The most bytes in the body of a control (RFC 6455 section 5.5).
-const CONTROL_MAX: u32 = 125;
 
 /// The most bytes of a payload that an entry shows: 0 to 4,096, or as many as show each payload whole.
 #[derive(Clone, Copy)]
@@ -49,7 +46,7 @@ impl ViewLimit {
     pub fn whole(limits: Limits) -> ViewLimit
         ensures { result ≡ whole_view limits }
     {
-        let greatest = limits.message().max(CONTROL_MAX);
+        let greatest = limits.message().max(CONTROL_MAX as u32);
         let bytes = greatest * 2;
         ViewLimit { bytes }
     }

@@ -6,7 +6,7 @@ use Rattle.wsn_wire.specs.declared.opcode.Op.TheVariants as ops
 use Rattle.wsn_wire.specs.declared.length_encoding.Form.{Form}
 use Rattle.wsn_wire.specs.declared.length_encoding.Form.TheVariants as forms
 use Rattle.wsn_rules.specs.declared.head_info.HeadInfo.{HeadInfo}
-use Rattle.wsn_print.specs.Fields.{op_word}
+use Rattle.wsn_print.specs.HeadText.{op_word}
 use Rattle.wsn_print.specs.Json.{boolean, field, string_field, number_field}
 use Rattle.wsn_print.specs.Objects.{key_value, form_word, head_members, frame_fields, frame_object}
 use Rattle.wsn_print_laws.specs.JsonText.{String, Object, Members, End, Member}

@@ -16,7 +16,7 @@ use Rattle.wsn_shown_text.specs.declared.fields.Shape.TheVariants as shapes
 use Rattle.wsn_print.specs.declared.shown.ShownEvent.{ShownEvent}
 use Rattle.wsn_print.specs.declared.shown.Remainder.{Remainder}
 use Rattle.wsn_print.specs.declared.shown.Remainder.TheVariants as remainders
-use Rattle.wsn_print.specs.Fields.{op_word}
+use Rattle.wsn_print.specs.HeadText.{op_word}
 use Rattle.wsn_print.specs.EscapedText.{quoted}
 use Rattle.wsn_print.specs.ShownParts.{EntryPosition, time_at, event_of, Represents, remainder_word, item_of_remainder}
 use Rattle.wsn_shown_text.specs.Members.{Member, event_word, event_size, item_type, members}

@@ -11,7 +11,7 @@ use Rattle.wsn_rules.specs.ShownStream.{Item}
 use Rattle.wsn_rules.specs.ShownStream.Item.{Event, Head, Unfinished, UnfinishedHead, RefusedFrame}
 use Rattle.wsn_print.specs.declared.shown.Remainder.{Remainder}
 use Rattle.wsn_print.specs.declared.shown.Remainder.TheVariants as remainders
-use Rattle.wsn_print.specs.Fields.{op_word}
+use Rattle.wsn_print.specs.HeadText.{op_word}
 use Rattle.wsn_print.specs.EscapedText.{comment_text}
 use Rattle.wsn_print.specs.ShownParts.{remainder_word, item_of_remainder}
 use Rattle.wsn_shown_text.specs.Members.{event_word, event_size}

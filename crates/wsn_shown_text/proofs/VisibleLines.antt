@@ -26,8 +26,8 @@ use Rattle.wsn_rules.specs.Meaning.{MeantEvent, Message, Control, payload_in}
 use Rattle.wsn_rules.specs.ShownStream.{Item}
 use Rattle.wsn_rules.specs.ShownStream.Item.{Event, Head, Unfinished, UnfinishedHead, RefusedFrame, Unread, Tail}
 use Rattle.wsn_rules.specs.ShownOffsets.{offset_of}
-use Rattle.wsn_print.specs.Fields.{number_text, refusal_text, fin_word, op_word, key_text, form_text}
-use Rattle.wsn_print.specs.HeadText.{head_fields}
+use Rattle.wsn_print.specs.Fields.{number_text, refusal_text}
+use Rattle.wsn_print.specs.HeadText.{fin_word, op_word, key_text, form_text, head_fields}
 use Rattle.wsn_print.specs.EscapedText.{is_from, quoted_character, quoted, comment_line, comment_text}
 use Rattle.wsn_shown_text.specs.ShownText.{hex_text, end_view, reason_text, shown_text, seen_text, view_text, member_text, role_letter, time_text, front_text, item_line, end_line}
 use Rattle.wsn_shown_text.specs.Members.{Member, event_word, event_size, members, end_members}

@@ -17,7 +17,7 @@ use Rattle.wsn_rules.specs.BadCharacter.{BadCharacter}
 use Rattle.wsn_rules.specs.ShownStream.{Item}
 use Rattle.wsn_rules.specs.ShownStream.Item.{Event, Head, Unfinished, UnfinishedHead, RefusedFrame, Unread, Tail}
 use Rattle.wsn_rules.specs.ShownOffsets.{offset_of}
-use Rattle.wsn_print.specs.Fields.{op_word}
+use Rattle.wsn_print.specs.HeadText.{op_word}
 use Rattle.wsn_print.specs.EscapedText.{comment_text}
 use Rattle.wsn_print.specs.ShownParts.{EntryPosition, time_at}
 use Rattle.wsn_print.specs.ShownParts.EntryPosition.{InLine, AtEnd, InStream}

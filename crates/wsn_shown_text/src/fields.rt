@@ -1,6 +1,6 @@
 //! The fields of an entry in a shape, which are put in one line.
 ghost use Rattle.std.specs.Prelude.{◌≡◌, ◌+◌, ◌≤◌, ◌++◌, Option, None, [], ◌∷◌, codes, length};
-ghost use Rattle.wsn_print.specs.Fields.{op_word};
+ghost use Rattle.wsn_print.specs.HeadText.{op_word};
 ghost use Rattle.wsn_print.specs.ShownParts.{remainder_word};
 ghost use Rattle.wsn_shown_text.specs.Members.{event_members, unfinished_members};
 ghost use Rattle.wsn_shown_text.specs.Members.Member.{Mark, Word, Number, Lacks, Frame, Refused};

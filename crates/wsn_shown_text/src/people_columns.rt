@@ -1,6 +1,6 @@
 //! The columns of an entry for people, and what follows them, which are put in one line.
 ghost use Rattle.std.specs.Prelude.{◌≡◌, ◌+◌, ◌-◌, ◌≤◌, ◌++◌, codes, length, replicate, decimal};
-ghost use Rattle.wsn_print.specs.Fields.{op_word};
+ghost use Rattle.wsn_print.specs.HeadText.{op_word};
 ghost use Rattle.wsn_print.specs.ShownParts.{remainder_word};
 ghost use Rattle.wsn_shown_text.specs.PeopleText.{right, left, offset_column, columns, last_text, mask_text, length_text, people_head, frames_text, missing_text, people_lacks, sentence};
 

@@ -4,7 +4,7 @@ use Rattle.wsn_rules.specs.ShownStream.{Item}
 use Rattle.wsn_rules.specs.ShownStream.Item.{Event, Head, Unfinished, UnfinishedHead, RefusedFrame}
 use Rattle.wsn_rules.specs.ShownOffsets.{offset_of}
 use Rattle.wsn_shown_text.specs.declared.fields.Shape.{Shape}
-use Rattle.wsn_print.specs.Fields.{op_word}
+use Rattle.wsn_print.specs.HeadText.{op_word}
 use Rattle.wsn_print.specs.ShownParts.{EntryPosition, time_at, remainder_word, character_in, item_of_remainder}
 use Rattle.wsn_shown_text.specs.declared.items.Rest.{Rest}
 use Rattle.wsn_shown_text.specs.declared.items.Rest.TheVariants as rest

@@ -6,7 +6,7 @@ use Rattle.wsn_rules.specs.Meaning.{MeantEvent}
 use Rattle.wsn_rules.specs.ShownStream.Item.{Event}
 use Rattle.wsn_shown_text.specs.declared.fields.Shape.{Shape}
 use Rattle.wsn_print.specs.declared.shown.PlacedEvent.{PlacedEvent}
-use Rattle.wsn_print.specs.Fields.{op_word}
+use Rattle.wsn_print.specs.HeadText.{op_word}
 use Rattle.wsn_print.specs.ShownParts.{IsPlaced}
 use Rattle.wsn_print.specs.ShownParts.EntryPosition.{InStream}
 use Rattle.wsn_wire.specs.declared.endpoint.Role.{Role}

@@ -1,7 +1,7 @@
 use Rattle.std.proofs.Common.{◌≡◌, ℕ, false, None, List, [], ◌++◌, length, codes, refl, sym, ap, ◌∙◌, subst}
 use Rattle.wsn_rules.specs.ShownStream.{Item}
 use Rattle.wsn_rules.specs.ShownStream.Item.{Event, Head, Unfinished, UnfinishedHead, RefusedFrame}
-use Rattle.wsn_print.specs.Fields.{op_word}
+use Rattle.wsn_print.specs.HeadText.{op_word}
 use Rattle.wsn_print.specs.ShownParts.{remainder_word, character_in, item_of_remainder}
 use Rattle.wsn_shown_text.specs.declared.items.Rest.{Rest}
 use Rattle.wsn_shown_text.specs.declared.items.Rest.TheVariants as rest
