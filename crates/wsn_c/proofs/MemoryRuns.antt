@@ -10,8 +10,8 @@ use Rattle.wsn_job.specs.Work.{IsRun}
 use Rattle.wsn_io.specs.declared.stop.Stop.{Stop}
 use Rattle.wsn_rules.specs.declared.compared.Compared.{Compared}
 use Rattle.wsn_print.specs.Statuses.{comparison_status}
-use Rattle.wsn_job.specs.Channels.{channels, compared_channels}
-use Rattle.wsn_job.specs.Comparisons.{IsComparisonPrinted}
+use Rattle.wsn_job.specs.Channels.{channels}
+use Rattle.wsn_job.specs.Comparisons.{compared_channels, IsComparisonPrinted}
 use Rattle.wsn_job.specs.Diagnostics.{IsStopDiagnosed}
 use Rattle.wsn_command.specs.declared.comparison.Comparison.{Comparison}
 use Rattle.wsn_c.specs.declared.options.Options.{Options}

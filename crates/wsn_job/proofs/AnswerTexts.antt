@@ -16,8 +16,7 @@ use Rattle.wsn_print.specs.ShownParts.{StandsFor}
 use Rattle.wsn_events.specs.declared.first_difference.FirstDifference.{FirstDifference}
 use Rattle.wsn_events.specs.Excerpts.{IsExcerptIn, HasExcerpts}
 use Rattle.wsn_command.specs.declared.comparison.Comparison.{Comparison}
-use Rattle.wsn_job.specs.Channels.{ComparedChannels}
-use Rattle.wsn_job.specs.Comparisons.{IsComparisonAnswer, IsDifferenceText, IsAnswerText, IsComparisonPrinted}
+use Rattle.wsn_job.specs.Comparisons.{ComparedChannels, IsComparisonAnswer, IsDifferenceText, IsAnswerText, IsComparisonPrinted}
 
 -- The answer's text was written, or a prefix of it.
 abbrev pub PutsAnswer : Comparison → List ℕ → List ℕ → Compared → Outgoing → Outgoing → Result (Unit {0}) Stop → Type 0

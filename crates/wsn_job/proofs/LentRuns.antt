@@ -18,9 +18,9 @@ use Rattle.wsn_command.specs.declared.comparison.Comparison.{Comparison}
 use Rattle.wsn_command.specs.declared.answered.Ran.{Ran}
 use Rattle.wsn_command.specs.declared.job.Job.{Job}
 use Rattle.wsn_command.specs.declared.job.Job.TheVariants.{Judge, Frames, Normal, Redact, Plan, Recut, Payload, ShowStream, Closing, Show, RedactCapture}
-use Rattle.wsn_job.specs.Channels.{Channels, ComparedChannels}
+use Rattle.wsn_job.specs.Channels.{Channels}
 use Rattle.wsn_job.specs.Closings.{IsReportPrinted}
-use Rattle.wsn_job.specs.Comparisons.{IsComparisonPrinted}
+use Rattle.wsn_job.specs.Comparisons.{ComparedChannels, IsComparisonPrinted}
 use Rattle.wsn_job.specs.Plans.{IsPlanPrinted}
 use Rattle.wsn_job.specs.Verdicts.{IsVerdictPrinted}
 use Rattle.wsn_job.specs.Work.{IsDone, IsMemoryRefused, IsRun}

@@ -1,6 +1,6 @@
 -- What `same` prints.
 use Rattle.std.specs.Prelude.{◌≡◌, ℕ, Option, None, Some, Result, Ok, Err, List}
-use Rattle.wsn_io.specs.Transfer.{IsWritten, IsPartlyWritten}
+use Rattle.wsn_io.specs.Transfer.{Incoming, Outgoing, IsWritten, IsPartlyWritten}
 use Rattle.wsn_io.specs.declared.stop.Stop.{Stop}
 use Rattle.wsn_io.specs.declared.stop.Stop.TheVariants as stop
 use Rattle.wsn_print.specs.Formats.{comparison_text}
@@ -11,7 +11,16 @@ use Rattle.wsn_rules.specs.ShownEvents.{IsShownAt}
 use Rattle.wsn_rules.specs.declared.compared.Compared.{Compared, TheVariants.{Different}}
 use Rattle.wsn_events.specs.Comparing.{IsComparedBy}
 use Rattle.wsn_command.specs.declared.comparison.Comparison.{Comparison}
-use Rattle.wsn_job.specs.Channels.{ComparedChannels}
+
+-- The two inputs that are compared, and standard output.
+pub record ComparedChannels : Type 0 where
+  pub first : Incoming
+  pub second : Incoming
+  pub output : Outgoing
+
+-- the channels of a comparison, from each by itself
+abbrev pub compared_channels : Incoming → Incoming → Outgoing → ComparedChannels
+compared_channels first second output = record { first = first; second = second; output = output }
 
 -- This answer or stop is of the two inputs: of their meanings without what the comparison leaves out.
 abbrev pub IsComparisonAnswer : Comparison → ComparedChannels → ComparedChannels → Result Compared Stop → Type 0

@@ -1,9 +1,8 @@
 ghost use Rattle.std.specs.Prelude.{◌≡◌, ◌⊎◌, ℕ, false, true, List, Result, Ok, Some};
-ghost use Rattle.wsn_job.specs.Channels.{compared_channels};
 ghost use Rattle.wsn_io.specs.Stops.{IsWrittenOrStops};
 ghost use Rattle.wsn_events.specs.Excerpts.{HasExcerpts};
 ghost use Rattle.wsn_job.specs.Answers.{compared_answer, ran_with};
-ghost use Rattle.wsn_job.specs.Comparisons.{IsAnswerText, IsComparisonPrinted};
+ghost use Rattle.wsn_job.specs.Comparisons.{compared_channels, IsAnswerText, IsComparisonPrinted};
 ghost use Rattle.wsn_io.specs.declared.stop.Stop.{Stop};
 ghost use Rattle.wsn_rules.specs.declared.compared.Compared.{Compared};
 ghost use Rattle.wsn_print.specs.Statuses.{comparison_status};

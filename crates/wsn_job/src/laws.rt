@@ -7,8 +7,8 @@ ghost use Rattle.wsn_rules.specs.declared.compared.Compared.{Compared};
 ghost use Rattle.wsn_command.specs.declared.answered.Ran.{Ran};
 ghost use Rattle.wsn_command.specs.declared.comparison.Comparison.{Comparison};
 ghost use Rattle.wsn_command.specs.declared.job.Job.{Job};
-ghost use Rattle.wsn_job.specs.Channels.{Channels, ComparedChannels};
-ghost use Rattle.wsn_job.specs.Comparisons.{IsComparisonPrinted};
+ghost use Rattle.wsn_job.specs.Channels.{Channels};
+ghost use Rattle.wsn_job.specs.Comparisons.{ComparedChannels, IsComparisonPrinted};
 ghost use Rattle.wsn_job.specs.Work.{IsRun};
 
 /// In no run over bytes in memory does a read fail, whatever is asked.

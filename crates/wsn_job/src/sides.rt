@@ -1,9 +1,9 @@
 ghost use Rattle.std.specs.Prelude.{◌≡◌, ◌⊎◌, false, true, Result, IfSome};
-ghost use Rattle.wsn_job.specs.Channels.{channels, compared_channels};
+ghost use Rattle.wsn_job.specs.Channels.{channels};
 ghost use Rattle.wsn_job.specs.Sides.{MayRunOnSide, IsRunOnSide, IsFaultySide, IsFirstFaultySide, IsSameDiagnosed};
 ghost use Rattle.wsn_io.specs.declared.stop.Stop.{Stop};
 ghost use Rattle.wsn_rules.specs.declared.compared.Compared.{Compared};
-ghost use Rattle.wsn_job.specs.Comparisons.{IsComparisonPrinted};
+ghost use Rattle.wsn_job.specs.Comparisons.{compared_channels, IsComparisonPrinted};
 ghost use Rattle.wsn_print.specs.Statuses.{comparison_status};
 
 use crate::answers;

@@ -5,8 +5,7 @@ use Rattle.wsn_rules.specs.declared.compared.Compared.{Compared}
 use Rattle.wsn_events.specs.declared.first_difference.FirstDifference.{FirstDifference}
 use Rattle.wsn_events.specs.Excerpts.{IsContrasted}
 use Rattle.wsn_events.proofs.KeptExcerpts.{stopped_at}
-use Rattle.wsn_job.specs.Channels.{compared_channels}
-use Rattle.wsn_job.specs.Comparisons.{IsComparisonPrinted}
+use Rattle.wsn_job.specs.Comparisons.{compared_channels, IsComparisonPrinted}
 use Rattle.wsn_job.proofs.AnswerTexts.{stop_printed}
 use Rattle.wsn_job.proofs.comparisons.print_comparison.Goals as goal
 
