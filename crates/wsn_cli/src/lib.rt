@@ -32,9 +32,6 @@ pub use request::{Asked, EntryLayout, PlannedRecut, Request, Usage};
 pub use unread::{Unread, UnreadFile};
 pub use wsn_color::{ColorChoice, Layout, Terminal};
 pub use wsn_command::{Answer, Comparison, How, Job};
-pub use wsn_hint::{
-    CaptureStart, Charge, Hint, RefusedLines, RefusedSides, accusing_hint_of, after_close_hint_of,
-    capture_hint_of, handshake_hint_of, hint_of, plan_hint_of, sides_hint_of,
-};
+pub use wsn_hint::{CaptureStart, Hint, plan_hint_of};
 pub use wsn_print::Format;
 pub use wsn_rules::Without;
