@@ -111,6 +111,11 @@ abbrev pub more_in : Shape → Bool → List ℕ
 more_in Line more = if more then codes " .." else []
 more_in Object more = truncated_field more
 
+-- The first text in a line, the second in an object.
+abbrev pub piece_in : Shape → List ℕ → List ℕ → List ℕ
+piece_in Line line object = line
+piece_in Object line object = object
+
 -- The end.
 abbrev pub end_in : Shape → List ℕ
 end_in Line = codes "\n"

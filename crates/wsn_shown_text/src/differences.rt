@@ -1,16 +1,13 @@
-ghost use Rattle.std.specs.Prelude.{◌≡◌, ℕ, ◌++◌, false, IfOk, Option, Some, codes};
+ghost use Rattle.std.specs.Prelude.{◌≡◌, ◌++◌, false, IfOk, Option};
 ghost use Rattle.wsn_io.specs.Stops.{IsWrittenOrStops};
-ghost use Rattle.wsn_rules.specs.Meaning.{MeantEvent};
 ghost use Rattle.wsn_rules.specs.ShownStream.{Item};
-ghost use Rattle.wsn_rules.specs.ShownStream.Item.{Event};
-ghost use Rattle.wsn_shown_text.specs.DifferenceText.{event_line, difference_lines, event_value, difference_object, difference_text};
+ghost use Rattle.wsn_shown_text.specs.DifferenceText.{answer_in, compared_event_in, difference_in, difference_text};
+ghost use Rattle.wsn_shown_text.specs.declared.fields.Shape.TheVariants.{Object};
 ghost use Rattle.wsn_print.specs.DifferingPayloads.{StandsForPayloads};
-ghost use Rattle.wsn_print.specs.Json.{string_field, number_field};
-ghost use Rattle.wsn_print.specs.ShownParts.{IsPlaced, StandsFor};
+ghost use Rattle.wsn_print.specs.ShownParts.{StandsFor};
 
-use crate::differing::put_differ_line;
-use crate::differing_members::put_differ_field;
-use crate::fields::Shape;
+use crate::differing::{put_differing, put_piece};
+use crate::fields::{Shape, piece_of};
 use crate::items::put_placed;
 use std::io::Write;
 use wsn_io::{Output, Stop, put_line};
@@ -40,13 +37,14 @@ pub fn put_difference_as<W: Write>(
         IsWrittenOrStops to.old to.new (difference_text format view role difference.now.index one other) result }
 {
     match format {
-        Format::Text | Format::People => put_difference(to, view, role, difference),
-        Format::Json => put_difference_object(to, view, role, difference),
+        Format::Text | Format::People => put_difference(to, Shape::Line, view, role, difference),
+        Format::Json => put_difference(to, Shape::Object, view, role, difference),
     }
 }
 
 fn put_difference<W: Write>(
     to: &mut Output<W>,
+    shape: Shape,
     view: ViewLimit,
     role: Role,
     difference: &Difference<'_>,
@@ -54,71 +52,31 @@ fn put_difference<W: Write>(
     requires { to.old.failed ≡ false }
     ensures { (one other : Option Item) → StandsFor view difference.now.first one →
         StandsFor view difference.now.second other → StandsForPayloads view difference.now.payloads one other →
-        IsWrittenOrStops to.old to.new (difference_lines view role difference.now.index one other) result }
+        IsWrittenOrStops to.old to.new (difference_in shape view role difference.now.index one other) result }
 {
-    put_line(to, line_of_difference(difference.index).bytes())?;
-    put_event_line(to, "first ", view, role, &difference.first)?;
-    put_event_line(to, "second ", view, role, &difference.second)?;
-    put_differ_line(to, view, &difference.payloads)
+    put_answer(to, shape, difference.index)?;
+    let first = piece_of(shape, "first ", ",\"first\":");
+    put_event(to, shape, first, view, role, &difference.first)?;
+    let second = piece_of(shape, "second ", ",\"second\":");
+    put_event(to, shape, second, view, role, &difference.second)?;
+    put_differing(to, shape, view, &difference.payloads)?;
+    put_piece(to, shape, "", "}\n")
 }
 
-/// Writes which stream's event comes, and its line.
-fn put_event_line<W: Write>(
-    to: &mut Output<W>,
-    stream: &str,
-    view: ViewLimit,
-    role: Role,
-    event: &Option<PlacedEvent<'_>>,
-) -> Result<(), Stop>
+fn put_answer<W: Write>(to: &mut Output<W>, shape: Shape, index: u64) -> Result<(), Stop>
     requires { to.old.failed ≡ false }
-    ensures text { (item : Option Item) → StandsFor view event.now item →
-        IsWrittenOrStops to.old to.new (stream.now ++ event_line view role item) result }
+    ensures text { IsWrittenOrStops to.old to.new (answer_in shape index) result }
     ensures unfailed { IfOk result (λ done. to.new.failed ≡ false) }
 {
-    put_line(to, stream.as_bytes())?;
-    match event {
-        Some(placed) => put_placed_line(to, view, role, placed),
-        None => put_line(to, b"-\n"),
+    match shape {
+        Shape::Line => put_line(to, line_of_difference(index).bytes()),
+        Shape::Object => put_line(to, line_of_answer(index).bytes()),
     }
-}
-
-fn put_placed_line<W: Write>(
-    to: &mut Output<W>,
-    view: ViewLimit,
-    role: Role,
-    placed: &PlacedEvent<'_>,
-) -> Result<(), Stop>
-    requires { to.old.failed ≡ false }
-    ensures text { (offset : ℕ) (event : MeantEvent) (frames : ℕ) → IsPlaced view placed.now offset event frames →
-        IsWrittenOrStops to.old to.new (event_line view role (Some (Event offset event frames))) result }
-    ensures unfailed { IfOk result (λ done. to.new.failed ≡ false) }
-{
-    put_placed(to, Shape::Line, view, role, placed)?;
-    put_line(to, b"\n")
-}
-
-fn put_difference_object<W: Write>(
-    to: &mut Output<W>,
-    view: ViewLimit,
-    role: Role,
-    difference: &Difference<'_>,
-) -> Result<(), Stop>
-    requires { to.old.failed ≡ false }
-    ensures { (one other : Option Item) → StandsFor view difference.now.first one →
-        StandsFor view difference.now.second other → StandsForPayloads view difference.now.payloads one other →
-        IsWrittenOrStops to.old to.new (difference_object view role difference.now.index one other) result }
-{
-    put_line(to, line_of_answer(difference.index).bytes())?;
-    put_event_field(to, ",\"first\":", view, role, &difference.first)?;
-    put_event_field(to, ",\"second\":", view, role, &difference.second)?;
-    put_differ_field(to, view, &difference.payloads)?;
-    put_line(to, b"}\n")
 }
 
 /// The type and the answer.
 fn line_of_answer(index: u64) -> Line<ANSWER_MAX>
-    ensures { result ≡ codes "{\"type\":\"comparison\"" ++ string_field (codes "answer") (codes "different")
-        ++ number_field (codes "event") index }
+    ensures { result ≡ answer_in Object index }
 {
     let mut line = Line::new();
     line.push("{\"type\":\"comparison\"");
@@ -127,37 +85,26 @@ fn line_of_answer(index: u64) -> Line<ANSWER_MAX>
     line
 }
 
-/// Writes a key with its colon, and a stream's event.
-fn put_event_field<W: Write>(
+/// Writes which stream's event comes, and the event.
+fn put_event<W: Write>(
     to: &mut Output<W>,
-    key: &str,
+    shape: Shape,
+    stream: &str,
     view: ViewLimit,
     role: Role,
     event: &Option<PlacedEvent<'_>>,
 ) -> Result<(), Stop>
     requires { to.old.failed ≡ false }
     ensures text { (item : Option Item) → StandsFor view event.now item →
-        IsWrittenOrStops to.old to.new (key.now ++ event_value view role item) result }
+        IsWrittenOrStops to.old to.new (stream.now ++ compared_event_in shape view role item) result }
     ensures unfailed { IfOk result (λ done. to.new.failed ≡ false) }
 {
-    put_line(to, key.as_bytes())?;
+    put_line(to, stream.as_bytes())?;
     match event {
-        Some(placed) => put_placed_object(to, view, role, placed),
-        None => put_line(to, b"null"),
+        Some(placed) => {
+            put_placed(to, shape, view, role, placed)?;
+            put_piece(to, shape, "\n", "}")
+        }
+        None => put_piece(to, shape, "-\n", "null"),
     }
-}
-
-fn put_placed_object<W: Write>(
-    to: &mut Output<W>,
-    view: ViewLimit,
-    role: Role,
-    placed: &PlacedEvent<'_>,
-) -> Result<(), Stop>
-    requires { to.old.failed ≡ false }
-    ensures text { (offset : ℕ) (event : MeantEvent) (frames : ℕ) → IsPlaced view placed.now offset event frames →
-        IsWrittenOrStops to.old to.new (event_value view role (Some (Event offset event frames))) result }
-    ensures unfailed { IfOk result (λ done. to.new.failed ≡ false) }
-{
-    put_placed(to, Shape::Object, view, role, placed)?;
-    put_line(to, b"}")
 }

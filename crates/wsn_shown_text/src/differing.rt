@@ -2,55 +2,62 @@ ghost use Rattle.std.specs.Prelude.{◌≡◌, ℕ, ◌≤◌, ◌++◌, Option,
 ghost use Rattle.wsn_io.specs.Stops.{IsWrittenOrStops};
 ghost use Rattle.wsn_rules.specs.Meaning.{MeantEvent};
 ghost use Rattle.wsn_rules.specs.ShownStream.{Item};
-ghost use Rattle.wsn_shown_text.specs.DifferingText.{view_at, place_line, differ_line};
+ghost use Rattle.wsn_shown_text.specs.DifferingText.{start_in, part_in, parts_in, differ_in};
+ghost use Rattle.wsn_shown_text.specs.EntryFormats.{piece_in};
 ghost use Rattle.wsn_print.specs.DifferingPayloads.{IsPartOf, StandsForPayloads};
 
-use crate::line_views::{put_if, put_seen};
+use crate::fields::{Shape, piece_of};
+use crate::line_views::put_if;
+use crate::seen::put_shown;
 use crate::views::view_of_part;
 use std::io::Write;
 use wsn_io::{Output, Stop, put_line};
 use wsn_print::{DifferingPayloads, Line, PayloadPart, ViewLimit};
 
-/// The space for a word or key and a number of twenty digits in bytes.
-pub(crate) const PLACE_MAX: usize = 34;
+/// The space for a word or keys and a number of twenty digits in bytes.
+const PLACE_MAX: usize = 48;
 
-/// Writes where the payloads of two events differ: the line `differ-at PLACE VIEW VIEW`; nothing if they don't, or if
-/// there aren't two events.
-pub(crate) fn put_differ_line<W: Write>(
+/// Writes where the payloads of two events differ: the line `differ-at PLACE VIEW VIEW`, or the member. If they don't, or
+/// if there aren't two events, there is no line, and the member is null.
+pub(crate) fn put_differing<W: Write>(
     to: &mut Output<W>,
+    shape: Shape,
     view: ViewLimit,
     differing: &Option<DifferingPayloads<'_>>,
 ) -> Result<(), Stop>
     requires { to.old.failed ≡ false }
-    ensures { (one other : Option Item) → StandsForPayloads view differing.now one other →
-        IsWrittenOrStops to.old to.new (differ_line view one other) result }
+    ensures text { (one other : Option Item) → StandsForPayloads view differing.now one other →
+        IsWrittenOrStops to.old to.new (differ_in shape view one other) result }
+    ensures unfailed { IfOk result (λ done. to.new.failed ≡ false) }
 {
     match differing {
-        Some(differing) => put_place_line(to, view, differing),
-        None => Ok(()),
+        Some(differing) => put_place(to, shape, view, differing),
+        None => put_piece(to, shape, "", ",\"differ_at\":null"),
     }
 }
 
-#[tactic(none)]
-fn put_place_line<W: Write>(
+fn put_place<W: Write>(
     to: &mut Output<W>,
+    shape: Shape,
     view: ViewLimit,
     differing: &DifferingPayloads<'_>,
 ) -> Result<(), Stop>
     requires { to.old.failed ≡ false }
-    ensures { (event other : MeantEvent) → IsPartOf view differing.now.place differing.now.first event →
-        IsPartOf view differing.now.place differing.now.second other →
-        IsWrittenOrStops to.old to.new (place_line view (Some differing.now.place) (Some event) (Some other)) result }
+    ensures text { (event other : MeantEvent) → IsPartOf view differing.now.place differing.now.first event →
+        IsPartOf view differing.now.place differing.now.second other → IsWrittenOrStops to.old to.new
+        (parts_in shape view (Some differing.now.place) (Some event) (Some other)) result }
+    ensures unfailed { IfOk result (λ done. to.new.failed ≡ false) }
 {
-    put_line(to, line_of_number("differ-at ", differing.place).bytes())?;
-    put_next_view(to, view, &differing.first)?;
-    put_next_view(to, view, &differing.second)?;
-    put_line(to, b"\n")
+    let key = piece_of(shape, "differ-at ", ",\"differ_at\":{\"in_payload\":");
+    put_line(to, line_of_number(key, differing.place).bytes())?;
+    put_part(to, shape, ",\"first\":", view, &differing.first)?;
+    put_part(to, shape, ",\"second\":", view, &differing.second)?;
+    put_piece(to, shape, "\n", "}")
 }
 
-/// A word or key, and a number.
-pub(crate) fn line_of_number(key: &str, number: u64) -> Line<PLACE_MAX>
-    requires { length key.now ≤ 14 }
+/// A word or keys, and a number.
+fn line_of_number(key: &str, number: u64) -> Line<PLACE_MAX>
+    requires { length key.now ≤ 28 }
     ensures { result ≡ key.now ++ decimal number }
 {
     let mut line = Line::new();
@@ -59,37 +66,50 @@ pub(crate) fn line_of_number(key: &str, number: u64) -> Line<PLACE_MAX>
     line
 }
 
-/// Writes a space, and what is shown of a payload around a place.
-fn put_next_view<W: Write>(
+/// Writes a space or this key, and what is shown of a payload around a place; a dash or null if the view is 0.
+fn put_part<W: Write>(
     to: &mut Output<W>,
+    shape: Shape,
+    key: &'static str,
     view: ViewLimit,
     part: &PayloadPart<'_>,
 ) -> Result<(), Stop>
     requires { to.old.failed ≡ false }
     ensures text { (place : ℕ) (event : MeantEvent) → IsPartOf view place part.now event →
-        IsWrittenOrStops to.old to.new (codes " " ++ view_at view place event) result }
+        IsWrittenOrStops to.old to.new (piece_in shape (codes " ") key.now ++ part_in shape view place event) result }
     ensures unfailed { IfOk result (λ done. to.new.failed ≡ false) }
 {
-    put_line(to, b" ")?;
-    put_view_at(to, view, part)
+    put_piece(to, shape, " ", key)?;
+    if view.bytes() == 0 {
+        return put_piece(to, shape, "-", "null");
+    }
+    put_start(to, shape, part.from)?;
+    put_shown(to, shape, view, &view_of_part(view, part))?;
+    put_piece(to, shape, "", "}")
 }
 
-/// Writes what is shown of a payload around a place, with `..` in front if it doesn't begin with the payload; a dash if
-/// the view is 0.
-#[tactic(none)]
-fn put_view_at<W: Write>(
-    to: &mut Output<W>,
-    view: ViewLimit,
-    part: &PayloadPart<'_>,
-) -> Result<(), Stop>
+/// Writes `..` if what is shown doesn't begin with the payload; in an object, where it begins.
+fn put_start<W: Write>(to: &mut Output<W>, shape: Shape, from: u64) -> Result<(), Stop>
     requires { to.old.failed ≡ false }
-    ensures text { (place : ℕ) (event : MeantEvent) → IsPartOf view place part.now event →
-        IsWrittenOrStops to.old to.new (view_at view place event) result }
+    ensures text { IsWrittenOrStops to.old to.new (start_in shape from) result }
     ensures unfailed { IfOk result (λ done. to.new.failed ≡ false) }
 {
-    if view.bytes() == 0 {
-        return put_line(to, b"-");
+    match shape {
+        Shape::Line => put_if(to, from > 0, b".."),
+        Shape::Object => put_line(to, line_of_number("{\"from\":", from).bytes()),
     }
-    put_if(to, part.from > 0, b"..")?;
-    put_seen(to, &view_of_part(view, part))
+}
+
+/// Writes the first text in a line, the second in an object.
+pub(crate) fn put_piece<W: Write>(
+    to: &mut Output<W>,
+    shape: Shape,
+    in_line: &'static str,
+    in_object: &'static str,
+) -> Result<(), Stop>
+    requires { to.old.failed ≡ false }
+    ensures text { IsWrittenOrStops to.old to.new (piece_in shape in_line.now in_object.now) result }
+    ensures unfailed { IfOk result (λ done. to.new.failed ≡ false) }
+{
+    put_line(to, piece_of(shape, in_line, in_object).as_bytes())
 }

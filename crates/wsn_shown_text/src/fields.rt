@@ -4,7 +4,7 @@ ghost use Rattle.wsn_print.specs.HeadText.{op_word};
 ghost use Rattle.wsn_print.specs.ShownParts.{remainder_word};
 ghost use Rattle.wsn_shown_text.specs.Members.{event_members, unfinished_members};
 ghost use Rattle.wsn_shown_text.specs.Members.Member.{Mark, Word, Number, Lacks, Frame, Refused};
-ghost use Rattle.wsn_shown_text.specs.EntryFormats.{offset_in, member_in, members_in, space_in, end_in};
+ghost use Rattle.wsn_shown_text.specs.EntryFormats.{offset_in, member_in, members_in, space_in, piece_in, end_in};
 
 use wsn_print::{
     HELD_MAX, Line, Remainder, ShownEvent, op_word, push_number_field, push_number_or_null_field,
@@ -238,6 +238,16 @@ fn push_space(line: &mut Line<ENTRY_MAX>, shape: Shape)
     match shape {
         Shape::Line => line.push(" "),
         Shape::Object => {}
+    }
+}
+
+/// The first text in a line, the second in an object.
+pub(crate) fn piece_of(shape: Shape, in_line: &'static str, in_object: &'static str) -> &'static str
+    ensures { result.now ≡ piece_in shape in_line.now in_object.now }
+{
+    match shape {
+        Shape::Line => in_line,
+        Shape::Object => in_object,
     }
 }
 

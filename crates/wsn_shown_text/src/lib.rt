@@ -18,7 +18,6 @@ mod ascii_text;
 mod characters;
 mod differences;
 mod differing;
-mod differing_members;
 mod entry_formats;
 mod fields;
 mod frame_lines;

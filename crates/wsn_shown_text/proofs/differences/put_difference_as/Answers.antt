@@ -14,5 +14,5 @@ returns-in-Text g c = λ one other shows also differs.
 
 pub returns-in-Json : goal.returns-in-Json
 returns-in-Json g c = λ one other shows also differs.
-    subst (λ (f : Format). IsWrittenOrStops c.args.to.now c.put_difference_object.new.to (difference_text f c.args.view c.args.role c.args.difference.now.index one other) c.put_difference_object.result) (sym c.in-Json.is)
-    (c.put_difference_object.ensures one other shows also differs)
+    subst (λ (f : Format). IsWrittenOrStops c.args.to.now c.put_difference-in-Json.new.to (difference_text f c.args.view c.args.role c.args.difference.now.index one other) c.put_difference-in-Json.result) (sym c.in-Json.is)
+    (c.put_difference-in-Json.ensures one other shows also differs)
