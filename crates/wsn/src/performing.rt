@@ -13,8 +13,8 @@ use std::cell::RefCell;
 use std::io::{self, Read, Write};
 use std::rt::Runtime;
 use wsn_capture::SideReader;
-use wsn_cli::{CaptureStart, Job, hint_on_run};
-use wsn_io::{BlockReader, BlockWriter, Input, Output, Stop, TiedReader, TiedWriter};
+use wsn_cli::{Job, hint_on_run};
+use wsn_io::{BlockReader, BlockWriter, FirstBytes, Input, Output, Stop, TiedReader, TiedWriter};
 use wsn_job::{Ran, run, run_on_side};
 use wsn_wire::Role;
 
@@ -52,7 +52,7 @@ pub fn perform_on<R: Runtime + AllocGlobal, S: Read + Drop>(
     requires may_run { MayRun asked.now.job.now }
     requires own { IsOwnSide asked.now.job.now asked.now.side }
 {
-    let mut first = CaptureStart::new(input);
+    let mut first = FirstBytes::new(input);
     let mut diagnosed = OneLine::new();
     let mut output = Pipe::new(io::writer(rt));
     let done = work_in(

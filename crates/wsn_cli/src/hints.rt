@@ -209,16 +209,16 @@ pub fn hint_on_streams(
     ensures json { comparison.format ≡ Json → result ≡ None }
     ensures stopped { answer ≡ Stopped → result ≡ None }
     ensures fits { IfSome result (λ compared. IfSome compared.hint
-        (HintFits comparison.limits (if compared.is_second then second.now else first.now))) }
+        (HintFits comparison.limits (take 16 (if compared.is_second then second.now else first.now)))) }
 {
     if answer == Answer::Stopped || comparison.format == Format::Json {
         return None;
     }
     let Comparison { role, limits, .. } = comparison;
-    if let Some(hint) = hint_of(first, role, limits) {
+    if let Some(hint) = hint_of(mark_of(first), role, limits) {
         return Some(ComparedHint::looks(false, hint));
     }
-    let hint = hint_of(second, role, limits)?;
+    let hint = hint_of(mark_of(second), role, limits)?;
     Some(ComparedHint::looks(true, hint))
 }
 
@@ -234,12 +234,12 @@ pub fn hint_on_sides(
     ensures json { comparison.format ≡ Json → result ≡ None }
     ensures line { IsSome result → answer ≡ FaultyLine }
     ensures input { IfSome result (λ compared. compared.is_second ≡ is_second) }
-    ensures fits { IfSome result (λ compared. IfSome compared.hint (HintFits comparison.limits failed.now)) }
+    ensures fits { IfSome result (λ compared. IfSome compared.hint (HintFits comparison.limits (take 16 failed.now))) }
 {
     if comparison.format == Format::Json || answer != Answer::FaultyLine {
         return None;
     }
-    match capture_hint_of(failed) {
+    match capture_hint_of(mark_of(failed)) {
         Some(hint) => Some(ComparedHint::looks(is_second, hint)),
         None => Some(ComparedHint::has_line(is_second)),
     }

@@ -32,6 +32,6 @@ pub use request::{Asked, EntryLayout, PlannedRecut, Request, Usage};
 pub use unread::{Unread, UnreadFile};
 pub use wsn_color::{ColorChoice, Layout, Terminal};
 pub use wsn_command::{Answer, Comparison, How, Job};
-pub use wsn_hint::{CaptureStart, Hint, plan_hint_of};
+pub use wsn_hint::{Hint, plan_hint_of};
 pub use wsn_print::Format;
 pub use wsn_rules::Without;

@@ -4,14 +4,13 @@
 //! accepted, [`sides_hint_of`] and [`handshake_hint_of`] for any other capture, [`after_close_hint_of`] and
 //! [`accusing_hint_of`] by what was read of it, and [`plan_hint_of`] for an input that is read as a plan. A [`Hint`] has
 //! a line that says what to do next. A hint changes no answer: it goes by the answer, and by bytes that were read in
-//! passing ([`CaptureStart`], `wsn_io::FirstBytes`).
+//! passing (`wsn_io::FirstBytes`).
 //!
 //! `specs/Hints.antt` defines which hint a stream or a faulty capture has, `specs/SideHints.antt` which the sides of a
 //! capture have, and `specs/Comments.antt` what a capture's comments say.
 #![tactic(auto)]
 
 mod accusations;
-mod capture_start;
 mod captures;
 mod charge;
 mod comments;
@@ -25,7 +24,6 @@ mod sides;
 mod streams;
 
 pub use accusations::accusing_hint_of;
-pub use capture_start::CaptureStart;
 pub use captures::capture_hint_of;
 pub use charge::Charge;
 pub use hint::Hint;

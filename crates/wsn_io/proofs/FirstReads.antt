@@ -1,6 +1,7 @@
 -- The first of some bytes after more came.
 use Rattle.std.proofs.Common.{◌≡◌, ℕ, true≢false, ◌+◌, Result, Ok, Err, List, ◌++◌, length, take, min, inl, inr, sym, ap, ◌∙◌, append-nil, arith}
-use Rattle.std.specs.Prelude.{◌↔◌, IsOk, OnOk}
+use Rattle.std.specs.Prelude.{◌↔◌, IsOk, IsErr, OnOk}
+use Rattle.wsn_io.specs.FirstReads.{returned_in}
 use Rattle.std.proofs.lemmas.Bool.{cases_lt}
 use Rattle.std.proofs.lemmas.List.{take_all, take-append-le, take_min, length-take}
 use Rattle.std.proofs.Math.Seq.{take-append-add}
@@ -24,3 +25,7 @@ first_more most room n kept came more is fits few =
           let none : room ≡ 0 = omega (arith, size) in
           ap (λ (bs : List ℕ). kept ++ bs) (front ∙ ap (λ (m : ℕ). take m more) none) ∙ append-nil kept ∙ is ∙ sym (take-append-le most came more full)
     ]
+
+-- a read that failed returned nothing
+pub kept_at_error : {E : Type 0} (most : ℕ) (kept came buffer : List ℕ) (result : Result ℕ E) → IsErr result → kept ≡ take most came → kept ≡ take most (came ++ returned_in result buffer)
+kept_at_error most kept came buffer result failed is = grind (arith, true≢false, append-nil)

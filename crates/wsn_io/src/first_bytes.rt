@@ -2,10 +2,10 @@ use arrayvec::ArrayVec;
 use std::io::{self, Read};
 use std::marker::Model;
 
-/// The maximum number of bytes that a `FirstBytes` keeps.
-const KEPT: usize = 16;
+/// The maximum number of bytes that a `FirstBytes` keeps: eight lines of a capture of the greatest length.
+const KEPT: usize = 65_536;
 
-/// A reader that returns what another reader returns, and keeps the first 16 bytes of it. `BlockReader::new(&mut first)`
+/// A reader that returns what another reader returns, and keeps the first 65,536 bytes of it. `BlockReader::new(&mut first)`
 /// borrows it, so that the bytes can be looked at afterwards.
 #[derive(Drop)]
 pub struct FirstBytes<R: Read> {
@@ -35,7 +35,7 @@ impl<R: Read> FirstBytes<R> {
         }
     }
 
-    /// The first 16 bytes that were returned, or all of them if there are fewer.
+    /// The first 65,536 bytes that were returned, or all of them if there are fewer.
     pub fn kept(&self) -> &[u8]
         ensures { result.now ≡ self.now.kept }
     {
@@ -45,8 +45,8 @@ impl<R: Read> FirstBytes<R> {
     /// Keeps as many of these bytes as there is room for. They come after all that were returned.
     fn keep(&mut self, bytes: &[u8])
         ensures remaining { self.new.remaining ≡ self.old.remaining }
-        ensures kept { (returned : List ℕ) → self.old.kept ≡ take 16 returned →
-            self.new.kept ≡ take 16 (returned ++ bytes.now) }
+        ensures kept { (returned : List ℕ) → self.old.kept ≡ take 65536 returned →
+            self.new.kept ≡ take 65536 (returned ++ bytes.now) }
     {
         let room = self.kept.remaining_capacity();
         let _fits = self
@@ -66,8 +66,8 @@ impl<R: Read> Read for FirstBytes<R> {
     fn read(&mut self, into: &mut [u8]) -> io::Result<usize>
         ensures bound { ReadsAtMost result into.new }
         ensures bytes { ReadConsumes self.old.remaining self.new.remaining result into.new }
-        ensures kept { (returned : List ℕ) → self.old.kept ≡ take 16 returned →
-            self.new.kept ≡ take 16 (returned ++ returned_in result into.new) }
+        ensures kept { (returned : List ℕ) → self.old.kept ≡ take 65536 returned →
+            self.new.kept ≡ take 65536 (returned ++ returned_in result into.new) }
     {
         let count = self.reader.read(into)?;
         self.keep(&into[..count]);

@@ -11,4 +11,4 @@ returns-clause-kept g c returned first =
     let room = c.remaining_capacity-room.ensures in
     let few = c.min.ensures in
     extended c.try_extend_from_slice-fits.result c.try_extend_from_slice-fits.ensures.variant (omega (arith, room, few, length-take c.min.result bytes)) c.try_extend_from_slice-fits.ensures.ok
-    ∙ first_more 16 c.remaining_capacity-room.result c.min.result kept returned bytes (ap (λ (r : FirstRead). r.kept) c.self.view_is ∙ first) room few
+    ∙ first_more 65536 c.remaining_capacity-room.result c.min.result kept returned bytes (ap (λ (r : FirstRead). r.kept) c.self.view_is ∙ first) room few

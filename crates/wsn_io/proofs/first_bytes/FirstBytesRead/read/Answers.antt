@@ -1,7 +1,7 @@
 use Rattle.std.proofs.Common.{ap, ◌∙◌}
 use Rattle.wsn_io.specs.FirstReads.{FirstRead}
-use Rattle.wsn_hint.proofs.KeptBytes.{kept_at_error}
-use Rattle.wsn_hint.proofs.capture_start.CaptureStartRead.read.Goals as goal
+use Rattle.wsn_io.proofs.FirstReads.{kept_at_error}
+use Rattle.wsn_io.proofs.first_bytes.FirstBytesRead.read.Goals as goal
 
 pub returns-in_err-count-clause-kept : goal.returns-in_err-count-clause-kept
 returns-in_err-count-clause-kept g c returned first =
