@@ -10,7 +10,7 @@ from printed_captures import (
     BAD_CHARACTERS, COMMENTS, CONTROLS_AND_TAILS, ENDED_BY, EVENTS, FRAMES, HIDDEN, LEFT_OVER, OPEN, REFUSALS,
     TIMES_AT_THE_END, VIEWS_OF_BYTES, VIEWS_OF_TEXT,
 )
-from printed_plans import FAULTS as PLAN_FAULTS, RECUTS
+from printed_plans import FAULTS as PLAN_FAULTS, FITTING, PLANS, RECUTS, SIZED, UNFIT
 from printed_streams import BAD_CHARACTERS_OF_STREAMS, CLOSES, HEADS, LENGTHS, STREAMS, WRITTEN
 
 
@@ -270,6 +270,18 @@ def of_plans():
         yield Row(["recut", "--role", role, "--lengths", "any", "-", "--plan"], given, status, out, error, (plan,))
 
 
+def of_recuts():
+    """Plans of streams, recuts by plans and by sizes, and why there is none."""
+    for role, options, given, plan, error in PLANS:
+        yield Row(["plan", "--role", role, *options], given, 1 if error else 0, plan, error)
+    for role, options, given, plan, out in FITTING:
+        yield Row(["recut", "--role", role, *options, "-", "--plan"], given, 0, out, "", (plan,))
+    for role, options, given, plan, error in UNFIT:
+        yield Row(["recut", "--role", role, *options, "-", "--plan"], given, 1, b"", error, (plan,))
+    for role, options, given, out, error in SIZED:
+        yield Row(["recut", "--role", role, *options], given, 1 if error else 0, out, error)
+
+
 GROUPS = (
     Group("an_event_is_in_the_line_of_its_last_byte", "each event is printed in the line with its last byte",
           of_captures(EVENTS)),
@@ -311,6 +323,8 @@ GROUPS = (
     Group("a_verdict_has_the_code_of_the_close", "the code in the verdict's object", list(of_closes())),
     Group("plans_are_read_line_by_line", "the first malformed line of a plan; encodings and keys that a plan asks for",
           list(of_plans())),
+    Group("streams_are_planned_and_recut", "a stream's plan, its recut, or the line that says why there is none",
+          list(of_recuts())),
     Group("commands_on_a_side_answer_as_on_its_bytes", "each command on both sides of a capture, and on their bytes",
           list(of_both())),
     Group("commands_on_a_side_stop_at_faulty_lines",
