@@ -10,6 +10,9 @@ from printed_captures import (
     BAD_CHARACTERS, COMMENTS, CONTROLS_AND_TAILS, ENDED_BY, EVENTS, FRAMES, HIDDEN, LEFT_OVER, OPEN, REFUSALS,
     TIMES_AT_THE_END, VIEWS_OF_BYTES, VIEWS_OF_TEXT,
 )
+from printed_payloads import (
+    PAYLOADS, masked_messages, verdicts_after_each_byte, verdicts_of_a_long_text, verdicts_of_codes, verdicts_of_texts,
+)
 from printed_plans import FAULTS as PLAN_FAULTS, FITTING, PLANS, RECUTS, SIZED, UNFIT
 from printed_streams import BAD_CHARACTERS_OF_STREAMS, CLOSES, HEADS, LENGTHS, STREAMS, WRITTEN
 
@@ -282,6 +285,17 @@ def of_recuts():
         yield Row(["recut", "--role", role, *options], given, 1 if error else 0, out, error)
 
 
+def judged(verdicts):
+    """A server's streams, and the lines of their verdicts."""
+    return [Row(["judge", "--role", "server"], data, 0 if line.startswith("accepted") else 1, line)
+            for data, line in verdicts]  # fmt: skip
+
+
+def of_payloads():
+    for role, given, at, status, out, error in PAYLOADS:
+        yield Row(["payload", "--role", role, "--at", str(at)], given, status, out, error)
+
+
 GROUPS = (
     Group("an_event_is_in_the_line_of_its_last_byte", "each event is printed in the line with its last byte",
           of_captures(EVENTS)),
@@ -321,6 +335,15 @@ GROUPS = (
     Group("each_byte_of_a_head_counts", "heads are read byte by byte, and lengths in each encoding", list(of_heads())),
     Group("heads_have_the_shortest_lengths", "a normal form has the shortest encoding of lengths", list(of_lengths())),
     Group("a_verdict_has_the_code_of_the_close", "the code in the verdict's object", list(of_closes())),
+    Group("a_text_is_refused_at_its_first_bad_byte", "texts in one frame, with each byte in a frame, and as a Close's reason",
+          judged([*verdicts_of_texts(), *verdicts_of_a_long_text()])),
+    Group("a_close_has_one_of_the_accepted_codes", "the first and the last code of each range; reasons",
+          judged(verdicts_of_codes())),
+    Group("each_prefix_has_a_verdict", "the verdicts after each byte", judged(verdicts_after_each_byte())),
+    Group("each_length_is_unmasked", "messages of each length, under a key, have their normal form",
+          [Row(["normal", "--role", "client"], masked_messages()[0], 0, masked_messages()[1])]),
+    Group("a_payload_is_written_as_far_as_it_came", "the payload of the event at an offset, or what is there instead",
+          list(of_payloads())),
     Group("plans_are_read_line_by_line", "the first malformed line of a plan; encodings and keys that a plan asks for",
           list(of_plans())),
     Group("streams_are_planned_and_recut", "a stream's plan, its recut, or the line that says why there is none",
