@@ -10,6 +10,7 @@ from printed_captures import (
     BAD_CHARACTERS, COMMENTS, CONTROLS_AND_TAILS, ENDED_BY, EVENTS, FRAMES, HIDDEN, LEFT_OVER, OPEN, REFUSALS,
     TIMES_AT_THE_END, VIEWS_OF_BYTES, VIEWS_OF_TEXT,
 )
+from printed_objects import COMPARISONS, ENTRIES, LONG_FRAMES, LONG_FRAMES_OBJECTS, REPORTS, VERDICTS
 from printed_payloads import (
     PAYLOADS, masked_messages, verdicts_after_each_byte, verdicts_of_a_long_text, verdicts_of_codes, verdicts_of_texts,
 )
@@ -285,6 +286,19 @@ def of_recuts():
         yield Row(["recut", "--role", role, *options], given, 1 if error else 0, out, error)
 
 
+def of_objects():
+    """Entries of `show`, reports, verdicts, frames and comparisons, with --json."""
+    for words, given, entries, report in ENTRIES:
+        yield Row(["show", "--json", *words], given, 1, entries + report)
+    for given, status, report in REPORTS:
+        yield Row(["closing", "--json"], given, status, report)
+    for given, status, verdict in VERDICTS:
+        yield Row(["judge", "--role", "server", "--json"], given, status, verdict)
+    yield Row(["frames", "--role", "server", "--lengths", "any", "--json"], LONG_FRAMES, 0, LONG_FRAMES_OBJECTS)
+    for first, second, status, answer in COMPARISONS:
+        yield Row(["same", "--role", "server", "--json"], "", status, answer, "", (first, second))
+
+
 def judged(verdicts):
     """A server's streams, and the lines of their verdicts."""
     return [Row(["judge", "--role", "server"], data, 0 if line.startswith("accepted") else 1, line)
@@ -325,7 +339,7 @@ GROUPS = (
               *of_views(CONTROLS_AND_TAILS),
           ]),
     Group("payloads_are_shown_whole", "with --view all nothing of a payload is left out", WHOLE),
-    Group("objects_are_printed_one_a_line", "with --json each line is an object", OBJECTS),
+    Group("objects_are_printed_one_a_line", "with --json each line is an object", [*OBJECTS, *of_objects()]),
     Group("a_stream_is_shown_with_its_verdict", "with --role the verdict follows what is shown, in place of a report", [
         *[Row(["show", "--role", role], bytes.fromhex(digits), status, lines + verdict)
           for role, digits, status, lines, verdict in STREAMS],
