@@ -1,10 +1,8 @@
-//! The lines that answers and frames are printed as, built by the tests themselves.
+//! The lines that answers are printed as, built by the tests themselves.
 
-use std::alloc::{AllocError, Allocator, Global};
+use std::alloc::{AllocError, Global};
 use wsn_canon::Compared;
-use wsn_plan::{PlanAnswer, RecutAnswer, Why};
-use wsn_scan::{HeadInfo, Refusal, Stop, Summary, Verdict};
-use wsn_wire::{Form, Op};
+use wsn_scan::{Refusal, Stop, Summary, Verdict};
 
 /// A copy of these words.
 pub fn line_of(alloc: Global, words: &str) -> Result<String, AllocError> {
@@ -56,46 +54,6 @@ fn different_line(alloc: Global, index: u64) -> Result<String, AllocError> {
     format!(in alloc; "different {index}")
 }
 
-/// The line of a planning's answer, or of the stop before it.
-pub fn planned_line<A: Allocator>(
-    alloc: Global,
-    answer: &Result<PlanAnswer<A>, Stop>,
-) -> Result<String, AllocError> {
-    match answer {
-        Ok(PlanAnswer::Plan(_)) => line_of(alloc, "plan"),
-        Ok(PlanAnswer::Unfinished) => line_of(alloc, "unfinished"),
-        Ok(PlanAnswer::NotAccepted(verdict)) => verdict_line(alloc, verdict),
-        Err(stop) => stop_line(alloc, *stop),
-    }
-}
-
-/// The line of a recut's answer, or of the stop before it.
-pub fn recut_line(alloc: Global, answer: &Result<RecutAnswer, Stop>) -> Result<String, AllocError> {
-    match answer {
-        Ok(RecutAnswer::Done) => line_of(alloc, "done"),
-        Ok(RecutAnswer::NotAccepted(verdict)) => verdict_line(alloc, verdict),
-        Ok(RecutAnswer::Fault { step, why }) => {
-            let word = word_of_fault(*why);
-            format!(in alloc; "fault {step} {word}")
-        }
-        Err(stop) => stop_line(alloc, *stop),
-    }
-}
-
-fn word_of_fault(why: Why) -> &'static str {
-    match why {
-        Why::KeyMismatch => "key-mismatch",
-        Why::StepsLeft => "steps-left",
-        Why::NoMessage => "no-message",
-        Why::PieceTooLong => "piece-too-long",
-        Why::TooManyPieces => "too-many-pieces",
-        Why::NotAControl => "not-a-control",
-        Why::NotAMessage => "not-a-message",
-        Why::WrongForm => "wrong-form",
-        Why::EventsLeft => "events-left",
-    }
-}
-
 fn cut_line(alloc: Global, used: u64) -> Result<String, AllocError> {
     format!(in alloc; "cut {used}")
 }
@@ -114,44 +72,4 @@ fn refused_line(alloc: Global, refusal: &Refusal) -> Result<String, AllocError> 
     let word = refusal.reason.word();
     let code = refusal.reason.code();
     format!(in alloc; "refused {offset} {word} {code}")
-}
-
-/// The line of a frame, with its LF.
-pub fn frame_line(alloc: Global, head: &HeadInfo) -> Result<String, AllocError> {
-    let offset = head.offset;
-    let fin = if head.fin { "fin" } else { "more" };
-    let word = word_of(head.op);
-    let key = key_word(alloc, head.key)?;
-    let len = head.len;
-    let form = form_word(head.form);
-    format!(in alloc; "{offset} {fin} {word} {key} {len}{form}\n")
-}
-
-fn word_of(op: Op) -> &'static str {
-    match op {
-        Op::Continue => "cont",
-        Op::Text => "text",
-        Op::Binary => "binary",
-        Op::Close => "close",
-        Op::Ping => "ping",
-        Op::Pong => "pong",
-    }
-}
-
-fn key_word(alloc: Global, key: Option<[u8; 4]>) -> Result<String, AllocError> {
-    match key {
-        Some(key) => {
-            let digits = u32::from_be_bytes(key);
-            format!(in alloc; "{digits:08x}")
-        }
-        None => line_of(alloc, "-"),
-    }
-}
-
-fn form_word(form: Form) -> &'static str {
-    match form {
-        Form::Shortest => "",
-        Form::Two => " two",
-        Form::Eight => " eight",
-    }
 }

@@ -1,7 +1,4 @@
 //! The engines, each applied to a stream and a reader of the tests.
-ghost use Rattle.std.specs.Prelude.{◌≡◌, ◌↔◌, IsSome};
-ghost use Rattle.wsn_wire.specs.declared.endpoint.Role.TheVariants.{Client};
-
 use crate::readers::Chopped;
 use crate::vectors::Stream;
 use std::alloc::{AllocError, Allocator, Global};
@@ -9,7 +6,6 @@ use std::io::{Read, Write};
 use wsn_canon::{Compared, normalise, same};
 use wsn_io::{Input, Output};
 use wsn_list::list;
-use wsn_plan::{Plan, PlanAnswer, RecutAnswer, UniformFrames, plan_of, recut, recut_uniform};
 use wsn_scan::{Limits, Stop, Verdict, judge};
 use wsn_wire::Role;
 
@@ -21,9 +17,6 @@ pub enum Engine {
     Normalise,
 }
 
-/// Every engine whose answer is a verdict.
-pub const ENGINES: [Engine; 3] = [Engine::Judge, Engine::List, Engine::Normalise];
-
 impl Engine {
     /// The answer for a vector's stream, which comes from this reader. The engine writes to this writer and allocates from
     /// this heap.
@@ -34,19 +27,8 @@ impl Engine {
         mut reader: R,
         writer: &mut W,
     ) -> Result<Verdict, Stop> {
-        self.run_on(heap, stream, &mut reader, writer)
-    }
-
-    /// The same of a reader that is lent.
-    pub fn run_on<A: Allocator + Copy, R: Read, W: Write>(
-        self,
-        heap: A,
-        stream: &Stream,
-        reader: &mut R,
-        writer: &mut W,
-    ) -> Result<Verdict, Stop> {
         let (role, limits) = (stream.role, stream.limits);
-        let mut input = Input::new(reader);
+        let mut input = Input::new(&mut reader);
         let mut output = Output::new(writer);
         match self {
             Engine::Judge => judge(&mut input, role, limits),
@@ -89,103 +71,5 @@ pub fn compared<A: Allocator + Copy>(
         &mut Input::new(&mut second),
         role,
         limits,
-    )
-}
-
-/// A stream that comes from the endpoint of this role, under these limits.
-#[derive(Drop)]
-pub struct SentStream<'a> {
-    pub role: Role,
-    pub limits: Limits,
-    pub reader: Chopped<'a>,
-}
-
-impl<'a> SentStream<'a> {
-    /// A stream of a vector's endpoint, under the vector's limits.
-    pub fn of(stream: &Stream, reader: Chopped<'a>) -> Self {
-        SentStream {
-            role: stream.role,
-            limits: stream.limits,
-            reader,
-        }
-    }
-}
-
-/// The answer of `plan_of`, which allocates from this heap.
-pub fn planned<A: Allocator + Copy>(heap: A, stream: SentStream) -> Result<PlanAnswer<A>, Stop> {
-    let SentStream {
-        role,
-        limits,
-        mut reader,
-    } = stream;
-    plan_of(heap, &mut Input::new(&mut reader), role, limits)
-}
-
-/// The answer of a recut by this plan, which writes to this writer and allocates from this heap.
-pub fn recut_by<A: Allocator + Copy, W: Write>(
-    heap: A,
-    stream: SentStream,
-    plan: &Plan<A>,
-    writer: &mut W,
-) -> Result<RecutAnswer, Stop> {
-    let SentStream {
-        role,
-        limits,
-        mut reader,
-    } = stream;
-    recut(
-        heap,
-        &mut Input::new(&mut reader),
-        &mut Output::new(writer),
-        role,
-        limits,
-        plan,
-    )
-}
-
-/// The key of a client's frames in a recut by size.
-pub const KEY: [u8; 4] = [1, 2, 3, 4];
-
-/// The key of an endpoint's frames in a recut by size: a client masks its frames, and a server doesn't.
-pub fn key_of(role: Role) -> Option<[u8; 4]>
-    ensures { IsSome result ↔ (role ≡ Client) }
-{
-    match role {
-        Role::Client => Some(KEY),
-        Role::Server => None,
-    }
-}
-
-/// The size of frames, at least one byte, and whether the controls before a message are interleaved with its frames.
-#[derive(Clone, Copy, Debug)]
-pub struct Sizes {
-    pub size: u32,
-    pub weave: bool,
-}
-
-/// The answer of a recut in frames of one size, which writes to this writer and allocates from this heap.
-pub fn recut_uniformly<A: Allocator + Copy, W: Write>(
-    heap: A,
-    stream: SentStream,
-    sizes: Sizes,
-    writer: &mut W,
-) -> Result<RecutAnswer, Stop> {
-    let SentStream {
-        role,
-        limits,
-        mut reader,
-    } = stream;
-    let frames = UniformFrames {
-        size: sizes.size.max(1),
-        weave: sizes.weave,
-        key: key_of(role),
-    };
-    recut_uniform(
-        heap,
-        &mut Input::new(&mut reader),
-        &mut Output::new(writer),
-        role,
-        limits,
-        frames,
     )
 }

@@ -16,19 +16,3 @@ pub fn heap_of(alloc: Global, blocks: usize) -> Result<LocalHeap, AllocError> {
     }
     Ok(heap)
 }
-
-/// Allocates all that is left of a heap, until the result is dropped.
-pub fn fill(alloc: Global, heap: &LocalHeap) -> Result<Vec<Vec<u8, &LocalHeap>>, AllocError> {
-    let mut ballast = Vec::new(alloc);
-    let mut size = 1usize << 20;
-    for _ in 0..u64::MAX {
-        if size < BLOCK {
-            break;
-        }
-        match Vec::with_capacity(heap, size) {
-            Ok(block) => ballast.push(block)?,
-            Err(_) => size /= 2,
-        }
-    }
-    Ok(ballast)
-}

@@ -163,22 +163,6 @@ impl Stream {
         }
     }
 
-    /// The offset of the byte that decides the answer, whatever follows: the offending byte, or the first byte past
-    /// the input limit.
-    fn decided_at(&self) -> Option<u64> {
-        if self.is_too_long() {
-            return Some(self.limits.input());
-        }
-        let offset = self.verdict.strip_prefix("refused ")?.split(' ').next()?;
-        offset.parse::<u64>().ok()
-    }
-
-    /// Whether the first `count` bytes decide the answer, whatever follows.
-    pub fn is_decided_by(&self, count: usize) -> bool {
-        self.decided_at()
-            .is_some_and(|offset| offset < count as u64)
-    }
-
     /// Prefixes of the stream: those of at most 200 bytes, and the three longest.
     pub fn prefixes(&self, alloc: Global) -> Result<Vec<&[u8]>, AllocError> {
         let len = self.bytes.len();
@@ -225,13 +209,4 @@ pub fn stream_named(alloc: Global, name: &str) -> Option<Stream> {
     streams(alloc)?
         .into_iter()
         .find(|stream| stream.name == name)
-}
-
-/// The line of the answer where a read fails after this prefix.
-pub fn line_after(stream: &Stream, prefix: &[u8]) -> &'static str {
-    if stream.is_decided_by(prefix.len()) {
-        stream.verdict
-    } else {
-        "read failed"
-    }
 }
