@@ -133,7 +133,7 @@ fn expect_calls(rt: &impl Abort, alloc: Global, scan: &mut Scan, chunk: &Chunk, 
         let words = words_of(found, &part);
         expect_of(rt, taken == call.0 && words == call.1, &(name, call, words));
         if let Taken::Part = found {
-            let payload = rest[..taken].get(part.start..);
+            let payload = rest.get(part.start..taken);
             expect_of(rt, payload == Some(call.2), &(name, call, payload));
         }
         at = at.saturating_add(taken);

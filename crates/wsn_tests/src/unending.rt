@@ -38,12 +38,6 @@ static UNENDING: [Unending; 3] = [
     ),
 ];
 
-const FRAMES: UniformFrames = UniformFrames {
-    size: 2,
-    weave: false,
-    key: None,
-};
-
 /// Fails unless a call stopped at the limit, and read and wrote no more than it should.
 fn expect_stopped<T>(
     rt: &impl Abort,
@@ -81,7 +75,12 @@ fn expect_each_stopped(rt: &impl Abort, alloc: Global, unending: &Unending) {
     expect_stopped(rt, &answer, &reader, limit, true);
     let (mut reader, mut out) = (Endless::new(first, again), Vec::new(alloc));
     let (mut input, mut output) = (Input::new(&mut reader), Output::new(&mut out));
-    let answer = recut_uniform(alloc, &mut input, &mut output, Role::Server, limits, FRAMES);
+    let frames = UniformFrames {
+        size: 2,
+        weave: false,
+        key: None,
+    };
+    let answer = recut_uniform(alloc, &mut input, &mut output, Role::Server, limits, frames);
     expect_stopped(rt, &answer, &reader, limit, out.is_empty());
 }
 
