@@ -51,8 +51,7 @@ def events_of(frames, normal):
 
 
 def of_vectors():
-    """The vectors of wsn_doubles."""
-    for it in read()[0]:
+    for it in read():
         line = f"{it.verdict}\n"
         for command, pieces, error in (
             ("judge", [(END, line)], ""),

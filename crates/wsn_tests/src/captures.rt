@@ -2,6 +2,7 @@
 //! as a reader.
 
 use crate::expecting::expect_of;
+use crate::readers::Chopped;
 use std::alloc::Global;
 use std::io::{ErrorKind, Read};
 use std::process::Abort;
@@ -9,7 +10,6 @@ use wsn_canon::{
     Capture, CaptureStop, Input, Limits, LineFault, MESSAGE_MAX, Outcome, Report, Role, Side,
     SideReader, Stop, judge_capture, same,
 };
-use wsn_doubles::readers::Chopped;
 
 /// An input limit, and lines with their faults.
 type Lines = (u64, &'static [(&'static [u8], Option<LineFault>)]);
