@@ -73,3 +73,14 @@ FAULTS = (
     ("C.\n#\nC.\n", 3, "after-end"),
     ("C.\nC zz", 2, "bad-hex"),
 )
+
+
+def report(words):
+    """The lines of a report with these words."""
+    names = ("client", "server", "first", "echo", "client-sees", "server-sees", "outcome")
+    return "".join(f"{name} {word}\n" for name, word in zip(names, words.split(", ")))
+
+
+def status_of(words):
+    """0 where both endpoints sent a Close and neither stream is refused."""
+    return 0 if words.count("closed ") == 2 else 1

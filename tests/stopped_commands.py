@@ -1,7 +1,7 @@
 """Rows of tests/failing-calls: commands on streams and on captures."""
 import re
 
-from captures import FAULTS, REPORTS
+from captures import FAULTS, REPORTS, report, status_of
 from stopped import END, Row
 from vectors import read
 
@@ -51,8 +51,7 @@ def events_of(frames, normal):
 
 
 def of_vectors():
-    """The vectors of wsn_doubles."""
-    for it in read()[0]:
+    for it in read():
         line = f"{it.verdict}\n"
         for command, pieces, error in (
             ("judge", [(END, line)], ""),
@@ -126,16 +125,10 @@ def end_of_line(text, number):
     return len("\n".join(lines[:number])) + 1 if number < len(lines) else END
 
 
-def report(words):
-    names = ("client", "server", "first", "echo", "client-sees", "server-sees", "outcome")
-    return "".join(f"{name} {word}\n" for name, word in zip(names, words.split(", ")))
-
-
 def of_closing():
     """A malformed line is reported before a read that fails, if it is complete."""
     for name, text, words in REPORTS:
-        status = 0 if words.count("closed ") == 2 else 1
-        yield Row(name, ["closing"], text.encode(), [(END, report(words))], status, by_turns=True)
+        yield Row(name, ["closing"], text.encode(), [(END, report(words))], status_of(words), by_turns=True)
     for text, number, fault in FAULTS:
         error = f"line {number}: {fault}\n"
         yield Row(repr(text), ["closing"], text.encode(), [], 2, error, end_of_line(text, number))

@@ -70,7 +70,7 @@ def in_pairs(normal):
 
 def of_vectors():
     """Plans, and recuts in frames of two bytes, of the vectors that are short."""
-    for it in read()[0]:
+    for it in read():
         if len(it.data) > 200:
             continue
         error = "" if it.is_accepted() else f"{it.verdict}\n"

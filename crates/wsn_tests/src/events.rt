@@ -3,9 +3,9 @@
 
 use crate::expecting::{expect, expect_of};
 use std::alloc::Global;
+use std::io::{self, Write};
 use std::process::Abort;
 use wsn_canon::{Event, Kind, Output, Role, Small, Stop, is_lawful, put_event};
-use wsn_doubles::writers::{Full, Narrow};
 
 /// An event: its word, the code of a Close that has one, and its bytes.
 pub type EventRow = (&'static str, u16, &'static [u8]);
@@ -74,6 +74,26 @@ fn event_of(alloc: Global, (word, code, bytes): EventRow) -> Option<Event> {
     }
 }
 
+/// A writer that takes at most seven bytes a call, and none once it is full.
+#[derive(Drop)]
+struct Narrow {
+    taken: Vec<u8>,
+    room: usize,
+}
+
+impl Write for Narrow {
+    fn write(&mut self, buf: &[u8]) -> io::Result<usize> {
+        let count = buf.len().min(self.room).min(7);
+        self.taken.extend_from_slice(&buf[..count])?;
+        self.room -= count;
+        Ok(count)
+    }
+
+    fn flush(&mut self) -> io::Result<()> {
+        Ok(())
+    }
+}
+
 /// Fails unless this is written of a lawful event, or the prefix for which the writer has room.
 fn expect_put(
     rt: &impl Abort,
@@ -84,7 +104,10 @@ fn expect_put(
     room: usize,
 ) {
     expect(rt, is_lawful(event));
-    let mut writer = Narrow::new(alloc, 7, room, Full::TakesNothing);
+    let mut writer = Narrow {
+        taken: Vec::new(alloc),
+        room,
+    };
     let put = put_event(&mut Output::new(&mut writer), role, event);
     let is_answered = if room < whole.len() {
         put == Err(Stop::Write)

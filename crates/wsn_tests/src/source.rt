@@ -3,11 +3,10 @@
 
 use crate::events::{EventRow, parts_of};
 use crate::expecting::{expect, expect_of};
+use crate::readers::{Chopped, READS};
 use std::alloc::Global;
 use std::process::Abort;
-use wsn_canon::{INPUT_MAX, Input, Limits, MESSAGE_MAX, Next, Role, Source};
-use wsn_doubles::answer_lines::answer_line;
-use wsn_doubles::readers::{Chopped, READS};
+use wsn_canon::{INPUT_MAX, Input, Limits, MESSAGE_MAX, Next, Output, Role, Source, put_verdict};
 
 /// A stream, its events, how many bytes of an open message are held after each, and the answer after them.
 #[derive(Clone, Copy)]
@@ -159,13 +158,20 @@ fn expect_answer(
     row: &SourceRow,
 ) {
     expect(rt, !input.failed());
-    let answer = match source.next(input) {
-        Ok(Next::Done(verdict)) => Ok(verdict),
+    let mut line = Vec::new(alloc);
+    match source.next(input) {
+        Ok(Next::Done(verdict)) => {
+            put_verdict(&mut Output::new(&mut line), &verdict).expect(rt, "memory");
+        }
         Ok(Next::Event(_)) => panic!(rt; "an event after the last"),
-        Err(stop) => Err(stop),
-    };
-    let line = answer_line(alloc, &answer).expect(rt, "memory");
-    expect_of(rt, line.as_str() == row.answer, &(row.bytes, line));
+        Err(stop) => {
+            let words = format!(in alloc; "{stop}\n").expect(rt, "memory");
+            line.extend_from_slice(words.as_bytes())
+                .expect(rt, "memory");
+        }
+    }
+    let said = line.as_slice().strip_suffix(b"\n");
+    expect_of(rt, said == Some(row.answer.as_bytes()), &(row.bytes, &line));
 }
 
 /// Fails unless a source reports the stream's events, and then its answer, which it repeats without a read.

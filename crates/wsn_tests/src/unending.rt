@@ -1,13 +1,13 @@
 //! Inputs without an end: each call stops at the input limit, with at most one byte more read, and what was due is written.
 
 use crate::expecting::expect_of;
+use crate::readers::Endless;
 use std::alloc::Global;
 use std::process::Abort;
 use wsn_canon::{
     Input, Limits, MESSAGE_MAX, Output, Role, Stop, UniformFrames, judge, list, normalise, plan_of,
     recut_uniform,
 };
-use wsn_doubles::readers::Endless;
 
 /// What a server sends first, what it then repeats without an end, the input limit, the lines of the frames whose heads come
 /// within that, and the normal form of the events.

@@ -1,4 +1,4 @@
-//! Doubles of input: readers with short reads, readers that fail, and readers without an end.
+//! Readers with short reads, readers that fail, and readers without an end.
 
 use std::io::{self, Error, ErrorKind, Read};
 
