@@ -62,8 +62,8 @@ def of_vectors():
                       offending(it.verdict), by_turns=True)  # fmt: skip
 
 
-# Two streams of a server, the line of their comparison, and the greatest number of messages that are held at a time, where
-# the first comes in reads of a byte, and the second of three. A message that comes whole in one read isn't held.
+# Two streams of a server, the line of their comparison, and the greatest number of messages that are held at a time,
+# where the first comes in reads of a byte, and the second of three. A message that comes whole in one read isn't held.
 PAIRS = (
     (FRAGMENTS, b"\x89\x00\x81\x05Hello", "equal", 2),
     (b"\x01\x03Hel\x88\x02\x03\xe8", b"\x88\x02\x03\xe8\x81\x01A", "equal", 1),
@@ -309,8 +309,8 @@ RICH_CAPTURE = b"S 8178" + b"22" * 120 + b"\nS 810a5ce280ae61c285220a7f\n" + (
 ).encode() + b'#\xff"\\ bytes\nS 880703e822226f6b22\n'  # fmt: skip
 # A server's frames, empty ones among them.
 RICH_STREAM = (
-    b"\x89\x00\x81\x00\x89\x02hi\x01\x01a\x00\x00\x89\x00\x80\x01b\x81\x05hello\x8a\x00\x8a\x00\x82\x03\x00\x01\x02\x81\x7e\x00\x7e"
-    + b"a" * 126 + b"\x89\x00\x81\x00\x81\x00\x88\x02\x03\xe8"
+    b"\x89\x00\x81\x00\x89\x02hi\x01\x01a\x00\x00\x89\x00\x80\x01b\x81\x05hello\x8a\x00\x8a\x00\x82\x03\x00\x01\x02"
+    + b"\x81\x7e\x00\x7e" + b"a" * 126 + b"\x89\x00\x81\x00\x81\x00\x88\x02\x03\xe8"
 )  # fmt: skip
 
 

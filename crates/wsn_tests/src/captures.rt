@@ -79,14 +79,10 @@ fn lines_are_passed_one_by_one(rt: HostRuntime) {
     }
     expect_of(&rt, reported == Some(REPORT), &reported);
     let text = b"C 81\nS 81\nS 00\n".as_slice();
-    let stop = judge_capture(&mut Input::new(text), limits_of(&rt, 1)).err();
-    let number = 3;
-    let fault = LineFault::InputLimit;
-    expect_of(
-        &rt,
-        stop == Some(CaptureStop::Line { number, fault }),
-        &stop,
-    );
+    let judged = judge_capture(&mut Input::new(text), limits_of(&rt, 1));
+    let stop = judged.err().expect(&rt, "a line past the limit");
+    let words = format!(in rt.alloc(); "{stop}").expect(&rt, "memory");
+    expect_of(&rt, words.as_str() == "line 3: input-limit", &words);
 }
 
 /// A Close, exactly as long as the input limit, and one byte past it.
