@@ -10,7 +10,11 @@ from printed_captures import (
     BAD_CHARACTERS, COMMENTS, CONTROLS_AND_TAILS, ENDED_BY, EVENTS, FRAMES, HIDDEN, LEFT_OVER, OPEN, REFUSALS,
     TIMES_AT_THE_END, VIEWS_OF_BYTES, VIEWS_OF_TEXT,
 )
-from printed_plans import FAULTS as PLAN_FAULTS, RECUTS
+from printed_objects import COMPARISONS, ENTRIES, LONG_FRAMES, LONG_FRAMES_OBJECTS, REPORTS, VERDICTS
+from printed_payloads import (
+    PAYLOADS, masked_messages, verdicts_after_each_byte, verdicts_of_a_long_text, verdicts_of_codes, verdicts_of_texts,
+)
+from printed_plans import FAULTS as PLAN_FAULTS, FITTING, PLANS, RECUTS, SIZED, UNFIT
 from printed_streams import BAD_CHARACTERS_OF_STREAMS, CLOSES, HEADS, LENGTHS, STREAMS, WRITTEN
 
 
@@ -270,6 +274,42 @@ def of_plans():
         yield Row(["recut", "--role", role, "--lengths", "any", "-", "--plan"], given, status, out, error, (plan,))
 
 
+def of_recuts():
+    """Plans of streams, recuts by plans and by sizes, and why there is none."""
+    for role, options, given, plan, error in PLANS:
+        yield Row(["plan", "--role", role, *options], given, 1 if error else 0, plan, error)
+    for role, options, given, plan, out in FITTING:
+        yield Row(["recut", "--role", role, *options, "-", "--plan"], given, 0, out, "", (plan,))
+    for role, options, given, plan, error in UNFIT:
+        yield Row(["recut", "--role", role, *options, "-", "--plan"], given, 1, b"", error, (plan,))
+    for role, options, given, out, error in SIZED:
+        yield Row(["recut", "--role", role, *options], given, 1 if error else 0, out, error)
+
+
+def of_objects():
+    """Entries of `show`, reports, verdicts, frames and comparisons, with --json."""
+    for words, given, entries, report in ENTRIES:
+        yield Row(["show", "--json", *words], given, 1, entries + report)
+    for given, status, report in REPORTS:
+        yield Row(["closing", "--json"], given, status, report)
+    for given, status, verdict in VERDICTS:
+        yield Row(["judge", "--role", "server", "--json"], given, status, verdict)
+    yield Row(["frames", "--role", "server", "--lengths", "any", "--json"], LONG_FRAMES, 0, LONG_FRAMES_OBJECTS)
+    for first, second, status, answer in COMPARISONS:
+        yield Row(["same", "--role", "server", "--json"], "", status, answer, "", (first, second))
+
+
+def judged(verdicts):
+    """A server's streams, and the lines of their verdicts."""
+    return [Row(["judge", "--role", "server"], data, 0 if line.startswith("accepted") else 1, line)
+            for data, line in verdicts]  # fmt: skip
+
+
+def of_payloads():
+    for role, given, at, status, out, error in PAYLOADS:
+        yield Row(["payload", "--role", role, "--at", str(at)], given, status, out, error)
+
+
 GROUPS = (
     Group("an_event_is_in_the_line_of_its_last_byte", "each event is printed in the line with its last byte",
           of_captures(EVENTS)),
@@ -299,7 +339,7 @@ GROUPS = (
               *of_views(CONTROLS_AND_TAILS),
           ]),
     Group("payloads_are_shown_whole", "with --view all nothing of a payload is left out", WHOLE),
-    Group("objects_are_printed_one_a_line", "with --json each line is an object", OBJECTS),
+    Group("objects_are_printed_one_a_line", "with --json each line is an object", [*OBJECTS, *of_objects()]),
     Group("a_stream_is_shown_with_its_verdict", "with --role the verdict follows what is shown, in place of a report", [
         *[Row(["show", "--role", role], bytes.fromhex(digits), status, lines + verdict)
           for role, digits, status, lines, verdict in STREAMS],
@@ -309,8 +349,19 @@ GROUPS = (
     Group("each_byte_of_a_head_counts", "heads are read byte by byte, and lengths in each encoding", list(of_heads())),
     Group("heads_have_the_shortest_lengths", "a normal form has the shortest encoding of lengths", list(of_lengths())),
     Group("a_verdict_has_the_code_of_the_close", "the code in the verdict's object", list(of_closes())),
+    Group("a_text_is_refused_at_its_first_bad_byte", "texts in one frame, with each byte in a frame, and as a Close's reason",
+          judged([*verdicts_of_texts(), *verdicts_of_a_long_text()])),
+    Group("a_close_has_one_of_the_accepted_codes", "the first and the last code of each range; reasons",
+          judged(verdicts_of_codes())),
+    Group("each_prefix_has_a_verdict", "the verdicts after each byte", judged(verdicts_after_each_byte())),
+    Group("each_length_is_unmasked", "messages of each length, under a key, have their normal form",
+          [Row(["normal", "--role", "client"], masked_messages()[0], 0, masked_messages()[1])]),
+    Group("a_payload_is_written_as_far_as_it_came", "the payload of the event at an offset, or what is there instead",
+          list(of_payloads())),
     Group("plans_are_read_line_by_line", "the first malformed line of a plan; encodings and keys that a plan asks for",
           list(of_plans())),
+    Group("streams_are_planned_and_recut", "a stream's plan, its recut, or the line that says why there is none",
+          list(of_recuts())),
     Group("commands_on_a_side_answer_as_on_its_bytes", "each command on both sides of a capture, and on their bytes",
           list(of_both())),
     Group("commands_on_a_side_stop_at_faulty_lines",

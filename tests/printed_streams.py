@@ -1,5 +1,5 @@
 """Tables of streams, in hexadecimal, and what `wsn show --role`, `frames` and `normal` print of them (printed.py makes
-tests of them); and some of the vectors of wsn_doubles with their verdicts.
+tests of them); and some of the vectors (vectors.py) with their verdicts.
 """
 # A stream of an endpoint, the status, what is shown, and the line of the verdict.
 STREAMS = (
@@ -112,7 +112,7 @@ BAD_CHARACTERS_OF_STREAMS = (
 
 # Some streams of a server for each rule, under short names. The number of a name is a group of Autobahn's: 1 framing,
 # 2 pings and pongs, 3 reserved bits, 4 opcodes, 5 fragmentation, 6 UTF-8, 7 closing. In each line the short name, the
-# name of the vector in wsn_doubles, and after `=>` the line of its verdict.
+# name of the vector, and after `=>` the line of its verdict.
 CONFORMANCE = """\
 1.a an empty text => accepted 2 tail 0 unfinished -
 1.b a binary message of 125 bytes => accepted 127 tail 0 unfinished -

@@ -1,52 +1,30 @@
-//! Tests of streams, and of printed lines, in `printing`. The readers, writers, heaps and vectors are those of
-//! `wsn_doubles`. (Plans and recuts: `wsn_recut_tests`. Captures and commands: `wsn_command_tests`.)
+//! Tests of what only a caller of the libraries sees. What the program shows is tested as it is run (`tests/program`,
+//! `tests/failing-calls`, `tests/refused-memory`).
 //!
-//! A rule's test is found by its printed word: reasons of refusals (`text-bad`) in `refusal_reasons` and the names of
-//! vectors, `close_code` in `close_codes`. (The bytes of heads: `tests/printed_streams.py`.)
-//!
-//! `every_way` reads each vector in every way. (`tests/program` judges some of them under short names.) `scanner`,
-//! `source`, `events` and `limit_ranges` test what commands are made of.
-//!
-//! Hostile use: streams without an end in `stream_endings`; failing readers and writers in `stops`, `failed_writes` and
-//! `interruptions`.
-//!
-//! Parts: `masking` of frames, `utf8` and `close_codes` of payloads, `payloads` of the payload at an offset,
-//! `inputs_and_outputs` and `tied_streams` of input and output. `expecting` has the assertions.
+//! `scanner`: what each call of a `Scan` consumes and finds. `source`: the events of a `Source`, what it holds, and its
+//! answers after the end. `events`: which events are lawful, and how they are written. `plans`: a plan's text, and the plan
+//! of given events. `captures`: lines that are passed one by one, and a side as a reader. `inputs_and_outputs`: after a
+//! read or write that failed. `unending`: an input without an end stops at its limit, which no command line asks for.
+//! `peer`: another implementation, the kit's `tungstenite`. `readers` split and fail, and `expecting` has the assertions.
 #![tactic(auto)]
 
 #[cfg(test)]
-mod close_codes;
+mod captures;
 #[cfg(test)]
 mod events;
 #[cfg(test)]
-mod every_way;
-#[cfg(test)]
 mod expecting;
-#[cfg(test)]
-mod failed_writes;
 #[cfg(test)]
 mod inputs_and_outputs;
 #[cfg(test)]
-mod interruptions;
+mod peer;
 #[cfg(test)]
-mod limit_ranges;
+mod plans;
 #[cfg(test)]
-mod masking;
-#[cfg(test)]
-mod payloads;
-#[cfg(test)]
-mod printing;
-#[cfg(test)]
-mod refusal_reasons;
+mod readers;
 #[cfg(test)]
 mod scanner;
 #[cfg(test)]
 mod source;
 #[cfg(test)]
-mod stops;
-#[cfg(test)]
-mod stream_endings;
-#[cfg(test)]
-mod tied_streams;
-#[cfg(test)]
-mod utf8;
+mod unending;

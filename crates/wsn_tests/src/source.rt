@@ -1,20 +1,12 @@
 //! `Source`: the events of streams, whatever the size of reads, how much of an open message it holds, and its answers
 //! after the end.
 
-use crate::expecting::{
-    expect, expect_again, expect_bytes, expect_count, expect_last, expect_line, expect_of,
-};
-use std::alloc::{Allocator, Global};
+use crate::events::{EventRow, parts_of};
+use crate::expecting::{expect, expect_of};
+use crate::readers::{Chopped, READS};
+use std::alloc::Global;
 use std::process::Abort;
-use wsn_canon::{Event, Next, Source};
-use wsn_doubles::readers::{Chopped, READS};
-use wsn_doubles::vectors::{Stream, filled, stream_named};
-use wsn_io::Input;
-use wsn_scan::{INPUT_MAX, Limits, MESSAGE_MAX};
-use wsn_wire::{Kind, Role};
-
-/// An event: its word, the code of a Close that has one, and its bytes.
-type EventRow = (&'static str, u16, &'static [u8]);
+use wsn_canon::{INPUT_MAX, Input, Limits, MESSAGE_MAX, Next, Output, Role, Source, put_verdict};
 
 /// A stream, its events, how many bytes of an open message are held after each, and the answer after them.
 #[derive(Clone, Copy)]
@@ -157,129 +149,62 @@ static ROWS: [SourceRow; 19] = [
     },
 ];
 
-/// An event's word, its code and its bytes.
-fn parts_of<A: Allocator>(event: &Event<A>) -> (&'static str, u16, &[u8]) {
-    match event {
-        Event::Message(Kind::Text, text) => ("text", 0, text.as_slice()),
-        Event::Message(Kind::Binary, bytes) => ("binary", 0, bytes.as_slice()),
-        Event::Ping(body) => ("ping", 0, body.as_slice()),
-        Event::Pong(body) => ("pong", 0, body.as_slice()),
-        Event::Close(None) => ("empty close", 0, &[]),
-        Event::Close(Some((code, reason))) => ("close", *code, reason.as_slice()),
-    }
-}
-
-/// Fails unless this is the expected event.
-fn expect_event<A: Allocator>(rt: &impl Abort, event: &Event<A>, event_row: &EventRow) {
-    let (word, code, bytes) = parts_of(event);
-    let (expected, expected_code, expected_bytes) = *event_row;
-    expect_line(rt, word, expected);
-    expect_count(rt, usize::from(code), usize::from(expected_code));
-    expect_bytes(rt, bytes, expected_bytes);
-}
-
-/// Fails unless this is the next event of a source, which then holds `held` bytes of an open message.
-fn expect_next(
-    rt: &impl Abort,
-    source: &mut Source,
-    input: &mut Input<&mut Chopped>,
-    event_row: &EventRow,
-    held: usize,
-) {
-    expect(rt, !input.failed());
-    match source.next(input) {
-        Ok(Next::Event(event)) => expect_event(rt, &event, event_row),
-        _ => panic!(rt; "no event where a {} is expected", event_row.0),
-    }
-    expect_count(rt, source.held(), held);
-}
-
-/// Fails unless this is the line of a source's answer, then and at each later call.
-fn expect_end(
+/// Fails unless this is a source's answer after its events.
+fn expect_answer(
     rt: &impl Abort,
     alloc: Global,
     source: &mut Source,
     input: &mut Input<&mut Chopped>,
-    line: &str,
+    row: &SourceRow,
 ) {
     expect(rt, !input.failed());
-    let last = source.next(input);
-    expect_last(rt, alloc, &last, line);
-    expect_again(rt, alloc, source, line);
+    let mut line = Vec::new(alloc);
+    match source.next(input) {
+        Ok(Next::Done(verdict)) => {
+            put_verdict(&mut Output::new(&mut line), &verdict).expect(rt, "memory");
+        }
+        Ok(Next::Event(_)) => panic!(rt; "an event after the last"),
+        Err(stop) => {
+            let words = format!(in alloc; "{stop}\n").expect(rt, "memory");
+            line.extend_from_slice(words.as_bytes())
+                .expect(rt, "memory");
+        }
+    }
+    let said = line.as_slice().strip_suffix(b"\n");
+    expect_of(rt, said == Some(row.answer.as_bytes()), &(row.bytes, &line));
 }
 
-/// Fails unless a source reports the stream's events, and then its answer.
+/// Fails unless a source reports the stream's events, and then its answer, which it repeats without a read.
 fn expect_source(rt: &impl Abort, alloc: Global, row: &SourceRow, mut reader: Chopped) {
     let limits = Limits::new(MESSAGE_MAX, row.input).expect(rt, "limits in range");
     let mut input = Input::new(&mut reader);
     let mut source = Source::new(alloc, row.role, limits);
     for (event_row, held) in row.events.iter() {
-        expect_next(rt, &mut source, &mut input, event_row, *held);
+        expect(rt, !input.failed());
+        match source.next(&mut input) {
+            Ok(Next::Event(event)) => expect_of(rt, parts_of(&event) == *event_row, event_row),
+            _ => panic!(rt; "no event where a {} is expected", event_row.0),
+        }
+        expect_of(rt, source.held() == *held, event_row);
     }
-    expect_end(rt, alloc, &mut source, &mut input, row.answer);
-}
-
-/// A reader of the stream, with reads of at most `at_most` bytes.
-fn reader_of(row: &SourceRow, at_most: usize) -> Chopped<'static> {
-    if row.breaks {
-        Chopped::breaking(row.bytes, at_most)
-    } else {
-        Chopped::new(row.bytes, at_most)
+    expect_answer(rt, alloc, &mut source, &mut input, row);
+    let mut more = Chopped::new(&[0x89, 0x00], 2);
+    for _ in 0..2u8 {
+        expect_answer(rt, alloc, &mut source, &mut Input::new(&mut more), row);
     }
+    expect_of(rt, more.left() == 2, &row.bytes);
 }
 
 #[test]
 fn events_come_in_order_and_then_the_answer(rt: HostRuntime) {
-    let alloc = rt.alloc();
     for row in ROWS.iter() {
         for at_most in READS {
-            expect_source(&rt, alloc, row, reader_of(row, at_most));
+            let reader = if row.breaks {
+                Chopped::breaking(row.bytes, at_most)
+            } else {
+                Chopped::new(row.bytes, at_most)
+            };
+            expect_source(&rt, rt.alloc(), row, reader);
         }
-    }
-}
-
-/// Fails unless the next event of a source is a binary message of these bytes.
-fn expect_binary(
-    rt: &impl Abort,
-    source: &mut Source,
-    input: &mut Input<&mut Chopped>,
-    expected: &[u8],
-    at_most: usize,
-) {
-    expect(rt, !input.failed());
-    let is_expected = match source.next(input) {
-        Ok(Next::Event(Event::Message(Kind::Binary, bytes))) => bytes.as_slice() == expected,
-        _ => panic!(rt; "no binary message"),
-    };
-    expect_of(rt, is_expected, &at_most);
-    expect_count(rt, source.held(), 0);
-}
-
-/// Fails unless a source reports one binary message, of these bytes.
-fn expect_one_binary(
-    rt: &impl Abort,
-    alloc: Global,
-    stream: &Stream,
-    expected: &[u8],
-    at_most: usize,
-) {
-    let mut reader = Chopped::new(stream.bytes.as_slice(), at_most);
-    let mut input = Input::new(&mut reader);
-    let mut source = Source::new(alloc, stream.role, stream.limits);
-    expect_binary(rt, &mut source, &mut input, expected, at_most);
-    let line = "accepted 65542 tail 0 unfinished -";
-    expect_end(rt, alloc, &mut source, &mut input, line);
-}
-
-#[test]
-fn a_message_of_65_536_bytes_in_two_fragments(rt: HostRuntime) {
-    let alloc = rt.alloc();
-    let stream = stream_named(alloc, "fragments of 65,535 bytes and of one").expect(
-        &rt,
-        "a vector of this name",
-    );
-    let expected = filled(alloc, &[], 0x2a, 65_536).expect(&rt, "memory");
-    for at_most in READS {
-        expect_one_binary(&rt, alloc, &stream, expected.as_slice(), at_most);
     }
 }
