@@ -1,4 +1,7 @@
 //! What the printed words mean: the texts of `wsn explain`.
+//!
+//! Each entry is borrowed by itself, and no static has all of a file: proving what reads a static takes a time that grows
+//! with the square of its bytes.
 
 mod codes;
 mod comments;
@@ -22,54 +25,86 @@ pub struct Entry {
     text: &'static str,
 }
 
-/// Words that are listed under one title.
-#[derive(Clone, Copy)]
-struct Group {
-    title: &'static str,
-    entries: &'static [Entry],
+/// What is done with the words, a group at a time.
+trait Visitor {
+    /// Does it with the words that are listed under this title.
+    fn visit(&mut self, title: &'static str, entries: &[&'static Entry]);
 }
 
-/// All words, in the order in which they are listed.
-fn groups() -> [Group; 12] {
-    [
-        Group::new("Verdicts", verdicts::verdict_entries()),
-        Group::new("Reasons of a refusal", reasons::reason_entries()),
-        Group::new("Lists of frames", frames::frame_entries()),
-        Group::new("What both sides said", shown::shown_entries()),
-        Group::new("Comparisons", verdicts::comparison_entries()),
-        Group::new(
-            "Reports on how a connection closed",
-            reports::report_entries(),
-        ),
-        Group::new("Outcomes", reports::outcome_entries()),
-        Group::new("Close codes", codes::code_entries()),
-        Group::new("Comments in captures", comments::comment_entries()),
-        Group::new("Plans, and why one doesn't fit", plans::plan_entries()),
-        Group::new("Malformed captures and plans", lines::line_entries()),
-        Group::new("Errors", errors::error_entries()),
-    ]
+/// Shows a visitor all words, in the order in which they are listed.
+fn visit_groups(visitor: &mut impl Visitor) {
+    visitor.visit("Verdicts", &verdicts::verdict_entries());
+    visitor.visit("Reasons of a refusal", &reasons::reason_entries());
+    visitor.visit("Lists of frames", &frames::frame_entries());
+    visitor.visit("What both sides said", &shown::shown_entries());
+    visitor.visit("Comparisons", &verdicts::comparison_entries());
+    visitor.visit(
+        "Reports on how a connection closed",
+        &reports::report_entries(),
+    );
+    visitor.visit("Outcomes", &reports::outcome_entries());
+    visitor.visit("Close codes", &codes::code_entries());
+    visitor.visit("Comments in captures", &comments::comment_entries());
+    visitor.visit("Plans, and why one doesn't fit", &plans::plan_entries());
+    visitor.visit("Malformed captures and plans", &lines::line_entries());
+    visitor.visit("Errors", &errors::error_entries());
 }
 
 /// The explanation of a printed word, such as `cut`, of words such as `read failed`, or of a close code; `None` if there
 /// is none.
 pub fn explanation(words: &str) -> Option<&'static str> {
-    let words = listed_words(words);
-    for group in &groups() {
-        if let Some(text) = group.find(words) {
-            return Some(text);
+    let mut search = TextSearch {
+        words: listed_words(words),
+        text: None,
+    };
+    visit_groups(&mut search);
+    search.text
+}
+
+/// Looks for the text of words.
+#[derive(Drop)]
+struct TextSearch<'a> {
+    words: &'a str,
+    text: Option<&'static str>,
+}
+
+impl Visitor for TextSearch<'_> {
+    fn visit(&mut self, _title: &'static str, entries: &[&'static Entry]) {
+        for entry in entries {
+            if self.text.is_none() && entry.words.contains(&self.words) {
+                self.text = Some(entry.text);
+            }
         }
     }
-    None
 }
 
 /// The printed words that differ from these in capitals alone, or in `_` or a space for `-`; `None` if there are none.
 pub fn similar_words(words: &str) -> Option<&'static str> {
-    for group in &groups() {
-        if let Some(printed) = group.find_similar(words) {
-            return Some(printed);
+    let mut search = SimilarSearch {
+        words,
+        printed: None,
+    };
+    visit_groups(&mut search);
+    search.printed
+}
+
+/// Looks for printed words that are similar to these.
+#[derive(Drop)]
+struct SimilarSearch<'a> {
+    words: &'a str,
+    printed: Option<&'static str>,
+}
+
+impl Visitor for SimilarSearch<'_> {
+    fn visit(&mut self, _title: &'static str, entries: &[&'static Entry]) {
+        for entry in entries {
+            for printed in entry.words {
+                if self.printed.is_none() && are_similar(printed, self.words) {
+                    self.printed = Some(printed);
+                }
+            }
         }
     }
-    None
 }
 
 /// Whether the words are the same but for capitals, and for `-`, `_` and spaces.
@@ -98,42 +133,47 @@ fn listed_words(words: &str) -> &str {
     }
 }
 
-impl Group {
-    fn new(title: &'static str, entries: &'static [Entry]) -> Self {
-        Group { title, entries }
-    }
+/// The list of the words that are explained, in groups.
+pub fn list_of_words(alloc: Global) -> Result<String, AllocError> {
+    let text = String::from_str(alloc, "wsn explain WORD explains a word that wsn prints:\n")?;
+    let mut list = List {
+        text,
+        outcome: Ok(()),
+    };
+    visit_groups(&mut list);
+    let List { text, outcome } = list;
+    outcome?;
+    Ok(text)
+}
 
-    fn find(&self, words: &str) -> Option<&'static str> {
-        for entry in self.entries {
-            if entry.words.contains(&words) {
-                return Some(entry.text);
-            }
-        }
-        None
-    }
+/// The list so far, unless memory ran out.
+struct List {
+    text: String,
+    outcome: Result<(), AllocError>,
+}
 
-    fn find_similar(&self, words: &str) -> Option<&'static str> {
-        for entry in self.entries {
-            for printed in entry.words {
-                if are_similar(printed, words) {
-                    return Some(printed);
-                }
-            }
+impl Visitor for List {
+    fn visit(&mut self, title: &'static str, entries: &[&'static Entry]) {
+        if self.outcome.is_ok() {
+            self.outcome = push_group(&mut self.text, title, entries);
         }
-        None
     }
+}
 
-    /// Appends an empty line, the title, and the words in lines of at most 80 columns.
-    fn push_to(&self, text: &mut String) -> Result<(), AllocError> {
-        text.push_str("\n")?;
-        text.push_str(self.title)?;
-        let mut column = WIDTH;
-        for entry in self.entries {
-            column = push_words(text, column, entry.words)?;
-        }
-        text.push_str("\n")?;
-        Ok(())
+/// Appends an empty line, the title, and the words in lines of at most 80 columns.
+fn push_group(
+    text: &mut String,
+    title: &str,
+    entries: &[&'static Entry],
+) -> Result<(), AllocError> {
+    text.push_str("\n")?;
+    text.push_str(title)?;
+    let mut column = WIDTH;
+    for entry in entries {
+        column = push_words(text, column, entry.words)?;
     }
+    text.push_str("\n")?;
+    Ok(())
 }
 
 /// Appends words to a line that has `column` columns so far, and returns the columns of the last line.
@@ -150,13 +190,4 @@ fn push_words(text: &mut String, column: usize, words: &[&str]) -> Result<usize,
         text.push_str(word)?;
     }
     Ok(column)
-}
-
-/// The list of the words that are explained, in groups.
-pub fn list_of_words(alloc: Global) -> Result<String, AllocError> {
-    let mut text = String::from_str(alloc, "wsn explain WORD explains a word that wsn prints:\n")?;
-    for group in &groups() {
-        group.push_to(&mut text)?;
-    }
-    Ok(text)
 }

@@ -1,10 +1,12 @@
 //! The reasons of a refusal, in their order.
 use super::Entry;
 
-static REASONS: [Entry; 17] = [
-    Entry {
-        words: &["reserved-bits"],
-        text: "\
+/// The reasons of a refusal, in their order.
+pub fn reason_entries() -> [&'static Entry; 17] {
+    [
+        &Entry {
+            words: &["reserved-bits"],
+            text: "\
 reserved-bits, code 1002: a reserved bit (hex 40, 20 or 10) is set in the byte
 where a frame should begin.
 RFC 6455, 5.2: these bits are 0 unless an agreed extension gives them a meaning.
@@ -16,10 +18,10 @@ CAPTURE, or record with recipes/record --plain. A pcap: recipes/pcap2wsn or
 wsn-pcap. A capture: add --capture. An HTTP head: LC_ALL=C sed '1,/^\\r$/d' FILE.
 7 of 36 implementations accept it (Poco, em-websocket): see docs/PEERS.md.
 ",
-    },
-    Entry {
-        words: &["reserved-opcode"],
-        text: "\
+        },
+        &Entry {
+            words: &["reserved-opcode"],
+            text: "\
 reserved-opcode, code 1002: the opcode, the low four bits of a frame's first
 byte, is 3 to 7 or 11 to 15.
 RFC 6455, 5.2: these have no meaning yet; a receiver must fail the connection.
@@ -30,10 +32,10 @@ Next: 'wsn frames' lists the frame before this one. Is its length what the
 sender meant? See the bytes around: xxd -s OFFSET -l 32 FILE.
 5 of 36 implementations accept it (Mojolicious, civetweb): see docs/PEERS.md.
 ",
-    },
-    Entry {
-        words: &["control-not-final"],
-        text: "\
+        },
+        &Entry {
+            words: &["control-not-final"],
+            text: "\
 control-not-final, code 1002: a Close, ping or pong (opcode 8, 9 or 10) without
 FIN, so its first byte is hex 08, 09 or 0a.
 RFC 6455, 5.5: a control frame must not be fragmented.
@@ -45,10 +47,10 @@ socket past its WebSocket library. For a pcapng file, run recipes/pcap2wsn or
 wsn-pcap.
 6 of 36 implementations accept some (Poco, Mojolicious): see docs/PEERS.md.
 ",
-    },
-    Entry {
-        words: &["nothing-to-continue"],
-        text: "\
+        },
+        &Entry {
+            words: &["nothing-to-continue"],
+            text: "\
 nothing-to-continue, code 1002: a continuation (opcode 0), but no message is
 open.
 RFC 6455, 5.4: the first frame of a message has opcode 1 or 2, the others have
@@ -60,10 +62,10 @@ Next: 'wsn show CAPTURE' prints this side's message before it, 'wsn frames' its
 frames. If that message is incomplete and goes on here, its FIN is wrong.
 6 of 36 implementations accept it (Mojolicious, Poco): see docs/PEERS.md.
 ",
-    },
-    Entry {
-        words: &["message-open"],
-        text: "\
+        },
+        &Entry {
+            words: &["message-open"],
+            text: "\
 message-open, code 1002: a text or binary frame begins a message, but the
 message before it has no final frame yet.
 RFC 6455, 5.4: only control frames may come between the fragments of a message.
@@ -75,10 +77,10 @@ Next: 'wsn show CAPTURE' prints the open message, as 'unfinished', just before
 something else, the lock is missing.
 6 of 36 implementations accept some (aiohttp, Mojolicious): see docs/PEERS.md.
 ",
-    },
-    Entry {
-        words: &["mask-missing"],
-        text: "\
+        },
+        &Entry {
+            words: &["mask-missing"],
+            text: "\
 mask-missing, code 1002: a client's frame without a masking key: the top bit of
 its second byte is 0.
 RFC 6455, 5.1: a client masks every frame; a server must close the connection on
@@ -90,10 +92,10 @@ Next: --role is the endpoint that sent the bytes: try --role server. Of a
 capture, add --capture and leave xxd out. Else the client is at fault.
 15 of 32 servers accept it (aiohttp, Tornado, Qt): see docs/PEERS.md.
 ",
-    },
-    Entry {
-        words: &["mask-present"],
-        text: "\
+        },
+        &Entry {
+            words: &["mask-present"],
+            text: "\
 mask-present, code 1002: a server's frame with a masking key: the top bit of its
 second byte is 1.
 RFC 6455, 5.1: a server masks no frame; a client must close the connection on a
@@ -105,10 +107,10 @@ server did send them, its frames' keys are the client's if they were passed on:
 sed -n 's/^S //p' CAPTURE | xxd -r -p | wsn frames --role client lists them.
 19 of 34 clients accept it (Firefox, aiohttp, Qt): see docs/PEERS.md.
 ",
-    },
-    Entry {
-        words: &["control-too-long"],
-        text: "\
+        },
+        &Entry {
+            words: &["control-too-long"],
+            text: "\
 control-too-long, code 1002: a Close, ping or pong whose length field, the low
 seven bits of its second byte, is 126 or 127.
 RFC 6455, 5.5: the payload of a control frame has at most 125 bytes. An empty
@@ -120,10 +122,10 @@ is a Close, 89 a ping, 8a a pong. Shorten a reason between two characters.
 9 of 36 implementations accept over 125 bytes (Poco, em-websocket), 16 of 36 a
 longer encoding of fewer (Jetty, Tomcat): see docs/PEERS.md.
 ",
-    },
-    Entry {
-        words: &["close-one-byte"],
-        text: "\
+        },
+        &Entry {
+            words: &["close-one-byte"],
+            text: "\
 close-one-byte, code 1002: a Close with a payload of one byte.
 RFC 6455, 5.5.1: the payload is empty, or begins with a code in two bytes.
 Usual causes: the code was written as one byte (1000 is hex 03e8, which leaves
@@ -133,10 +135,10 @@ byte, then the reason in UTF-8. For no code, send no payload at all; the other
 application then sees 1005.
 9 of 36 implementations accept it (Firefox, gorilla): see docs/PEERS.md.
 ",
-    },
-    Entry {
-        words: &["length-top-bit"],
-        text: "\
+        },
+        &Entry {
+            words: &["length-top-bit"],
+            text: "\
 length-top-bit, code 1002: a length in eight bytes has its highest bit set, so
 it is 2^63 or more. OFFSET is the last of the eight bytes.
 RFC 6455, 5.2: that bit must be 0.
@@ -148,10 +150,10 @@ when read backwards, it is the byte order. If not, look at the frame before this
 one in 'wsn frames'.
 8 of 36 implementations accept it (em-websocket, lua-http): see docs/PEERS.md.
 ",
-    },
-    Entry {
-        words: &["length-not-minimal"],
-        text: "\
+        },
+        &Entry {
+            words: &["length-not-minimal"],
+            text: "\
 length-not-minimal, code 1002: a length is encoded in two or eight bytes and
 fits in fewer. OFFSET is its last byte.
 RFC 6455, 5.2: a length must be encoded in the fewest bytes.
@@ -162,10 +164,10 @@ and finds what else is wrong. Correct the sender: up to 125 use one byte, up to
 65535 the field 126 and two bytes.
 24 of 36 implementations accept it (ws, gorilla, Tomcat): see docs/PEERS.md.
 ",
-    },
-    Entry {
-        words: &["message-too-big"],
-        text: "\
+        },
+        &Entry {
+            words: &["message-too-big"],
+            text: "\
 message-too-big, code 1009: with this frame's length the message exceeds the
 limit. OFFSET is the last byte of the length. The limit is wsn's own: --limit
 BYTES, by default 16777216, which is the maximum.
@@ -176,10 +178,10 @@ shows as an absurd number.
 Next: set --limit to your receiver's limit to find the message that it refuses.
 Fragments don't help, since they count together: send several messages.
 ",
-    },
-    Entry {
-        words: &["close-code"],
-        text: "\
+        },
+        &Entry {
+            words: &["close-code"],
+            text: "\
 close-code, code 1002: a Close has a code that may not be sent. OFFSET is the
 code's second byte.
 RFC 6455, 7.4: 1000 to 1003, 1007 to 1011 and 3000 to 4999 may be sent, and by
@@ -191,10 +193,10 @@ Next: 'wsn show CAPTURE' ends the line 'refused' with the code, unmasked, in hex
 (03ee is 1006). In a relay, send no code for 1005, and 1001 or 1011 for 1006.
 13 of 36 accept some (Chromium, Firefox), 15 of 36 over 4999: see docs/PEERS.md.
 ",
-    },
-    Entry {
-        words: &["close-reason"],
-        text: "\
+        },
+        &Entry {
+            words: &["close-reason"],
+            text: "\
 close-reason, code 1007: the reason in a Close isn't UTF-8. OFFSET is its first
 bad byte, or the frame's last byte if the reason ends inside a character.
 RFC 6455, 5.5.1: what follows the code is text in UTF-8.
@@ -205,10 +207,10 @@ to that byte, in hex. At the sender, convert the reason to UTF-8 first, then
 shorten it between two characters. A short reason in ASCII is the safest.
 12 of 36 implementations accept some (nhooyr, wslay): see docs/PEERS.md.
 ",
-    },
-    Entry {
-        words: &["text-bad"],
-        text: "\
+        },
+        &Entry {
+            words: &["text-bad"],
+            text: "\
 text-bad, code 1007: the offending byte is the first that can't follow what came
 before in UTF-8. It is the last byte of the bad character, and may be innocent:
 in Latin-1, \"Ren\\xe9 \" is refused at the space; the bad character is e9 20.
@@ -220,10 +222,10 @@ Next: the line 'bad-character' of 'wsn show' has it, with the text before it:
 'wsn explain bad-character'. Convert it where it is made, or send it as binary.
 9 of 36 implementations accept it (gorilla, libwebsockets): see docs/PEERS.md.
 ",
-    },
-    Entry {
-        words: &["text-cut"],
-        text: "\
+        },
+        &Entry {
+            words: &["text-cut"],
+            text: "\
 text-cut, code 1007: a text message ends inside a character. OFFSET is the last
 byte of its last frame.
 RFC 6455, 5.6 and 8.1: a fragment may end inside a character, a message may not.
@@ -235,10 +237,10 @@ begins with a byte from 80 to bf, both are one text. Send the blocks as
 fragments of one message, or keep a begun character for the next block.
 12 of 36 implementations accept some (Boost.Beast, gorilla): see docs/PEERS.md.
 ",
-    },
-    Entry {
-        words: &["too-many-frames"],
-        text: "\
+        },
+        &Entry {
+            words: &["too-many-frames"],
+            text: "\
 too-many-frames, code 1008: a continuation, but its message already has as many
 frames as --frames allows. Without --frames there is no maximum.
 RFC 6455, 10.4: a long stream of small fragments can be an attack, and a
@@ -248,10 +250,6 @@ Usual causes: a sender that makes a frame of each small write; such an attack.
 Next: 'wsn frames' without --frames lists all the fragments. To try a receiver
 with the same messages in large frames: wsn recut --role R --size 65536 < FILE.
 ",
-    },
-];
-
-/// The reasons of a refusal, in their order.
-pub fn reason_entries() -> &'static [Entry] {
-    &REASONS
+        },
+    ]
 }

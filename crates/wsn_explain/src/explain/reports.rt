@@ -1,10 +1,12 @@
 //! The words of a report on how a connection closed.
 use super::Entry;
 
-static REPORTS: [Entry; 7] = [
-    Entry {
-        words: &["client", "server"],
-        text: "\
+/// The words of a report, but for outcomes.
+pub fn report_entries() -> [&'static Entry; 7] {
+    [
+        &Entry {
+            words: &["client", "server"],
+            text: "\
 client V, server V: how the bytes that this endpoint sent end. V is one of
   closed CODE                 a Close with this code, or - without one
   refused OFFSET REASON CODE  they break a rule
@@ -15,10 +17,10 @@ OFFSET counts this side's bytes alone, from 0. After 'first' it is the side that
 closed first.
 Next: explain the word, for instance 'wsn explain ended'.
 ",
-    },
-    Entry {
-        words: &["closed"],
-        text: "\
+        },
+        &Entry {
+            words: &["closed"],
+            text: "\
 closed CODE: what this side sent is accepted and has a Close with this code, or
 - for a Close without one.
 RFC 6455, 5.5.1: the other side answers with a Close if it hasn't sent one, and
@@ -26,10 +28,10 @@ this side sends no more data.
 Next: 'wsn explain CODE', for instance 'wsn explain 1001'. 'wsn judge' counts
 the bytes after the Close as the tail.
 ",
-    },
-    Entry {
-        words: &["ended"],
-        text: "\
+        },
+        &Entry {
+            words: &["ended"],
+            text: "\
 ended: what this side sent is accepted, it sent no Close, and its direction of
 the TCP connection ended between two messages.
 RFC 6455, 7.1.5: the other application sees 1006.
@@ -37,10 +39,10 @@ Usual causes: the process ended or was killed; a proxy or load balancer dropped
 an idle connection; the program closed the socket instead of the WebSocket.
 Next: 'wsn explain abnormal'.
 ",
-    },
-    Entry {
-        words: &["running"],
-        text: "\
+        },
+        &Entry {
+            words: &["running"],
+            text: "\
 running: nothing is wrong with what this side sent, it sent no Close, and the
 capture has no end mark for it (C. or S.).
 Usual causes: the recording stopped before the session did; packets are missing
@@ -48,10 +50,10 @@ from here on; this side had nothing to send.
 Next: 'wsn show CAPTURE' prints what this side said last and what is unfinished,
 and the comments, where recipes/pcap2wsn (wsn-pcap) reports missing bytes.
 ",
-    },
-    Entry {
-        words: &["echo", "yes", "no"],
-        text: "\
+        },
+        &Entry {
+            words: &["echo", "yes", "no"],
+            text: "\
 echo yes: both Closes have the same code, or both have none. echo no: the codes
 differ. echo -: not both sides sent a Close that counts.
 RFC 6455, 5.5.1: an endpoint typically echoes the code that it received. It
@@ -61,10 +63,10 @@ answers 1000, or without a code; an application with a code of its own.
 Next: 'no' means that the two sides log different codes. client-sees and
 server-sees have them; trust the side that closed first.
 ",
-    },
-    Entry {
-        words: &["client-sees", "server-sees"],
-        text: "\
+        },
+        &Entry {
+            words: &["client-sees", "server-sees"],
+            text: "\
 client-sees CODE, server-sees CODE: the close code that this endpoint's
 application is given, such as event.code in a browser.
 RFC 6455, 7.1.5: the code in the other side's Close; 1005 if that has none; 1006
@@ -73,10 +75,10 @@ bytes are refused, and - as long as the other side may send more.
 Next: if your log has another code, its library reports something else: the code
 that it sent itself, or a failure of its own, such as a timeout.
 ",
-    },
-    Entry {
-        words: &["outcome"],
-        text: "\
+        },
+        &Entry {
+            words: &["outcome"],
+            text: "\
 outcome WORD: how the connection closed, the first of these that fits:
   failed    a side is refused
   clean     both sides sent a Close, and both directions ended
@@ -87,13 +89,16 @@ outcome WORD: how the connection closed, the first of these that fits:
 The status is 0 for clean and complete, 1 for the others.
 Next: explain the word, for instance 'wsn explain half'.
 ",
-    },
-];
+        },
+    ]
+}
 
-static OUTCOMES: [Entry; 6] = [
-    Entry {
-        words: &["failed"],
-        text: "\
+/// The outcomes, in their order.
+pub fn outcome_entries() -> [&'static Entry; 6] {
+    [
+        &Entry {
+            words: &["failed"],
+            text: "\
 outcome failed: a side sent bytes that the other must refuse.
 RFC 6455, 7.1.7: the receiver fails the connection: it should send a Close with
 a code and must not read on. wsn reports that its application sees 1006.
@@ -105,10 +110,10 @@ Next: the line with 'refused' names side, offset and reason: 'wsn explain
 REASON'. 'wsn show CAPTURE' prints what was said before it; to list the side's
 frames: wsn frames --role server --capture CAPTURE (or --role client).
 ",
-    },
-    Entry {
-        words: &["clean"],
-        text: "\
+        },
+        &Entry {
+            words: &["clean"],
+            text: "\
 outcome clean: both sides sent a Close, and both directions then ended.
 RFC 6455, 7.1.4: the connection was closed cleanly; a browser's wasClean is
 true.
@@ -116,10 +121,10 @@ Next: if the session failed all the same, the codes say why: 1011 is an internal
 error, 1008 a policy, 1012 a restart, and 3000 to 4999 are the application's.
 'first' is the side that decided to close.
 ",
-    },
-    Entry {
-        words: &["complete"],
-        text: "\
+        },
+        &Entry {
+            words: &["complete"],
+            text: "\
 outcome complete: both sides sent a Close, and the end of at least one direction
 isn't in the capture.
 RFC 6455, 5.5.1 and 7.1.1: after both Closes the server ends the TCP connection
@@ -129,10 +134,10 @@ the socket open and waits for the client, which waits for the server. Such
 connections pile up.
 Next: record for longer. If the end still doesn't come, look at the server.
 ",
-    },
-    Entry {
-        words: &["abnormal"],
-        text: "\
+        },
+        &Entry {
+            words: &["abnormal"],
+            text: "\
 outcome abnormal: a direction of the TCP connection ended without a Close, by a
 FIN or a reset.
 RFC 6455, 7.1.5: an application that waits for that side's Close sees 1006.
@@ -143,10 +148,10 @@ Next: which side is 'ended' or 'cut'? Read its log, then the proxies'. 'wsn show
 CAPTURE' prints when it last said something. If the silence is the same each
 time, it is a timeout: ping more often.
 ",
-    },
-    Entry {
-        words: &["half"],
-        text: "\
+        },
+        &Entry {
+            words: &["half"],
+            text: "\
 outcome half: one side sent a Close; the other neither answered nor ended.
 RFC 6455, 5.5.1: it must answer, and should as soon as it can; it may first send
 the rest of its current message.
@@ -156,10 +161,10 @@ Next: record for longer. If no answer comes, 'wsn show CAPTURE' prints what the
 silent side sent after the Close. After some seconds most libraries give up and
 report 1006 to their application.
 ",
-    },
-    Entry {
-        words: &["open"],
-        text: "\
+        },
+        &Entry {
+            words: &["open"],
+            text: "\
 outcome open: nothing is wrong, no side sent a Close, and no direction ended.
 The session was alive, or hung, where the capture stops.
 Usual causes: the recording stopped; packets are missing at its end; each side
@@ -167,15 +172,6 @@ waits for the other.
 Next: if the session hung, look at the end of 'wsn show CAPTURE': of a message
 that is 'unfinished' the receiver waits for the rest.
 ",
-    },
-];
-
-/// The words of a report, but for outcomes.
-pub fn report_entries() -> &'static [Entry] {
-    &REPORTS
-}
-
-/// The outcomes, in their order.
-pub fn outcome_entries() -> &'static [Entry] {
-    &OUTCOMES
+        },
+    ]
 }

@@ -1,10 +1,12 @@
 //! The words of what both sides said.
 use super::Entry;
 
-static SHOWN: [Entry; 5] = [
-    Entry {
-        words: &["bad-character"],
-        text: "\
+/// The words of what both sides said.
+pub fn shown_entries() -> [&'static Entry; 5] {
+    [
+        &Entry {
+            words: &["bad-character"],
+            text: "\
 OFFSET bad-character IN_PAYLOAD BYTES TEXT, from 'wsn show': the bad character
 of the text that the line before refuses. It begins at OFFSET, perhaps in an
 earlier fragment; its first byte is byte IN_PAYLOAD of the message's payload,
@@ -16,10 +18,10 @@ RFC 6455, 5.6 and 8.1: a text message is UTF-8, however its frames divide it.
 Next: 'wsn payload --role R --at START' writes what came of the message that
 begins at START, up to the offending byte. Causes: 'wsn explain text-bad'.
 ",
-    },
-    Entry {
-        words: &["lacks", "head"],
-        text: "\
+        },
+        &Entry {
+            words: &["lacks", "head"],
+            text: "\
 lacks, head, from 'wsn show': what has begun and isn't whole.
   unfinished KIND BYTES FRAMES lacks N VIEW
 BYTES of its payload came, in FRAMES frames, and the last of these lacks N
@@ -30,10 +32,10 @@ RFC 6455, 5.2 and 5.4: the length says where a frame ends, FIN where a message.
 Next: if N is large, is the length what the sender meant? If it is small, the
 recording stopped, or the sender died while it sent. 'wsn explain cut'.
 ",
-    },
-    Entry {
-        words: &["unread"],
-        text: "\
+        },
+        &Entry {
+            words: &["unread"],
+            text: "\
 unread N HEX, from 'wsn show': the N bytes that this side sent after the byte
 that refused its stream, and the first of them. wsn doesn't read them: where a
 frame begins among them is unknown.
@@ -42,10 +44,10 @@ comes after that, not even a Close.
 Next: the line 'refused' before it has the reason: 'wsn explain REASON'. If HEX
 begins as a frame does (81, 82, 88 ..), perhaps only the frame before is wrong.
 ",
-    },
-    Entry {
-        words: &["end"],
-        text: "\
+        },
+        &Entry {
+            words: &["end"],
+            text: "\
 end, from 'wsn show': this side's direction of the TCP connection ended (the
 capture's line C. or S.). The number before it counts the bytes that it sent.
 RFC 6455, 7.1.1: after both Closes the server ends the connection first, and the
@@ -53,10 +55,10 @@ client should wait for that.
 Next: if this side sent no Close before it, 'wsn explain abnormal'. Without such
 a line the capture doesn't say that the direction ended.
 ",
-    },
-    Entry {
-        words: &["ended-by", "reset"],
-        text: "\
+        },
+        &Entry {
+            words: &["ended-by", "reset"],
+            text: "\
 ended-by SIDE, ended-by SIDE reset, from 'wsn show': a direction of the TCP
 connection ended without a Close, and SIDE's end mark (C. or S.) is the first.
 reset: a comment '# reset by the SIDE' says that it reset the connection.
@@ -66,10 +68,6 @@ closed its socket with bytes unread, or comes from a firewall or load balancer.
 Next: a line 'unfinished' of SIDE says what it was sending, and how many bytes
 are missing. Read its log, then the proxies'. 'wsn explain abnormal'.
 ",
-    },
-];
-
-/// The words of what both sides said.
-pub fn shown_entries() -> &'static [Entry] {
-    &SHOWN
+        },
+    ]
 }
