@@ -1,4 +1,4 @@
-use Rattle.std.proofs.Common.{◌≡◌, ℕ, List, Option, refl, sym, subst}
+use Rattle.std.proofs.Common.{◌≡◌, ℕ, List, Option, refl, sym, subst, rules}
 use Rattle.wsn_wire.specs.declared.endpoint.Role.{Role}
 use Rattle.wsn_command.specs.declared.answered.Answer.{Answer}
 use Rattle.wsn_command.specs.declared.answered.Answer.TheVariants.{Verdict, Report, Other, FaultyLine, Stopped}
@@ -29,3 +29,6 @@ pub returns-in_default : goal.returns-in_default
 returns-in_default g c =
     of_lines c.args.job.now c.args.side c.args.first.now c.args.answer c.hint_on_lines.result c.in_default.not-FaultyLine c.in_default.not-Stopped
     c.hint_on_lines.ensures
+
+pub returns-in-Stopped : goal.returns-in-Stopped
+returns-in-Stopped g c = search rules

@@ -23,3 +23,6 @@ returns-in-Some-Refused-clause-given c = λ some unrefused.
     let refusal = c.in-Some-Refused._refusal in
     let has = subst (λ (v : Option Verdict). IfSome v (IsVerdictOnBytes c.args.role c.args.limits bytes)) (c.in-Some-Refused.is ∙ ap (λ (v : Verdict). Some v) c.in-Some-Refused.field-0-is) c.early_verdict.ensures.verdict in
     absurd (unrefused has.0 refusal.offset refusal.reason has.1)
+
+pub returns-in-Some-Refused-clause-unrefused : goal.returns-in-Some-Refused-clause-unrefused
+returns-in-Some-Refused-clause-unrefused c = search rules

@@ -1,4 +1,4 @@
-use Rattle.std.proofs.Common.{ℕ, false, Option, None, Some, sym, subst}
+use Rattle.std.proofs.Common.{ℕ, false, Option, None, Some, sym, subst, rules}
 use Rattle.std.proofs.lemmas.Bool.{iff_false}
 use Rattle.wsn_wire.specs.declared.refusal.Reason.TheVariants.{ReservedBits}
 use Rattle.wsn_hint.specs.Hints.{IsFirstFit}
@@ -16,3 +16,6 @@ pub returns-in-Some-2 : goal.returns-in-Some-2
 returns-in-Some-2 c =
     subst (λ (o : Option ℕ). IsFirstFit (FitsSide c.args.first.now ReservedBits o false) side_hints None) (sym c.in-Some.is)
     (other_head c.args.first.now c.in-Some.byte (iff_false c.is_compressed_head.ensures c.if-is_compressed_head.false))
+
+pub returns-in-None-2 : goal.returns-in-None-2
+returns-in-None-2 c = search rules

@@ -54,3 +54,12 @@ returns-in-None-clause-first c = λ some refusal has.
     (first_after fits format_hints frame_hints result
     (subst (λ (o : Option Hint). IsFirstFit (HintFits limits first) format_hints o) c.in-None.is (c.format_of.ensures limits))
     (subst (λ (r : Refusal). IsFirstFit (FitsRefused role limits r.reason first) frame_hints result) same (c.frame_hint.ensures.first some)))
+
+pub returns-then-is_empty-clause-empty : goal.returns-then-is_empty-clause-empty
+returns-then-is_empty-clause-empty c = search rules
+
+pub returns-in_default-clause-refused : goal.returns-in_default-clause-refused
+returns-in_default-clause-refused c = search rules
+
+pub returns-then-is_capture_text-clause-fits : goal.returns-then-is_capture_text-clause-fits
+returns-then-is_capture_text-clause-fits c = search rules

@@ -6,3 +6,6 @@ pub returns-clause-redacted : goal.returns-clause-redacted
 returns-clause-redacted c =
     let whole : c.args.text.now ≡ extensions_prefix ++ c.in-Some.list.now = search rules in
     inr (inl (c.in-Some.list.now, whole, c.put_extensions.ensures.text))
+
+pub returns-in_default-clause-redacted : goal.returns-in_default-clause-redacted
+returns-in_default-clause-redacted c = search rules

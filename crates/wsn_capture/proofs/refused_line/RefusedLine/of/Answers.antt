@@ -1,4 +1,4 @@
-use Rattle.std.proofs.Common.{◌-◌, refl, arith}
+use Rattle.std.proofs.Common.{◌-◌, refl, arith, rules}
 use Rattle.wsn_capture.proofs.OffendingLines.{index_there, count_kept}
 use Rattle.wsn_capture.proofs.refused_line.RefusedLine.of.Goals as goal
 
@@ -10,3 +10,6 @@ returns c = record {
   counted = count_kept c.args.bytes.now c.min.result c.min.ensures;
   firsts = c.first_of.ensures;
 }
+
+pub returns-then-offset-start : goal.returns-then-offset-start
+returns-then-offset-start c = search rules

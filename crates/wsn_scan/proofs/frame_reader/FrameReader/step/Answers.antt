@@ -1,4 +1,4 @@
-use Rattle.std.proofs.Common.{◌≡◌, ◌+◌, refl, arith}
+use Rattle.std.proofs.Common.{◌≡◌, ◌+◌, refl, arith, rules}
 use Rattle.wsn_scan.specs.declared.part.Taken.TheVariants as taken
 use Rattle.wsn_scan.proofs.ReaderBuffers.{within_limit}
 use Rattle.wsn_scan.proofs.ReaderSteps.{steps}
@@ -20,3 +20,6 @@ part_in-taken-requires-clause-fits c =
     let h = b.has_taken in
     let ordered = c.args.self.now.left in
     omega (arith, within_limit b.limits c.args.self.now b.came h.scanned h.buffered, h.has_scanned.has_consumed.room, ordered)
+
+pub returns-then-self-clause-taken : goal.returns-then-self-clause-taken
+returns-then-self-clause-taken c = search rules

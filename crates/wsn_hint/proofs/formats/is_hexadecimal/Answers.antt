@@ -1,0 +1,6 @@
+use Rattle.std.proofs.Common.{arith}
+use Rattle.std.proofs.lemmas.Grind.{common_steps}
+use Rattle.wsn_hint.proofs.formats.is_hexadecimal.Goals as goal
+
+pub returns-then-is_ascii_hexdigit : goal.returns-then-is_ascii_hexdigit
+returns-then-is_ascii_hexdigit c = grind (arith, common_steps)

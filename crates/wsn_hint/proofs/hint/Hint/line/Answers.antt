@@ -1,0 +1,5 @@
+use Rattle.std.proofs.Common.{rules}
+use Rattle.wsn_hint.proofs.hint.Hint.line.Goals as goal
+
+pub returns-in-Capture : goal.returns-in-Capture
+returns-in-Capture c = search rules

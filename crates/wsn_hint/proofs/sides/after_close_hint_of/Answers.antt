@@ -1,0 +1,5 @@
+use Rattle.std.proofs.Common.{rules}
+use Rattle.wsn_hint.proofs.sides.after_close_hint_of.Goals as goal
+
+pub returns : goal.returns
+returns c = search rules

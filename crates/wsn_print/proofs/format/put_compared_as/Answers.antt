@@ -1,0 +1,6 @@
+use Rattle.std.proofs.Common.{arith}
+use Rattle.std.proofs.lemmas.Grind.{moves}
+use Rattle.wsn_print.proofs.format.put_compared_as.Goals as goal
+
+pub returns-in-Json : goal.returns-in-Json
+returns-in-Json g c = grind (arith, moves) steps 2000000

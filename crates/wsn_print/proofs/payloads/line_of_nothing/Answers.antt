@@ -1,0 +1,5 @@
+use Rattle.std.proofs.Common.{rules}
+use Rattle.wsn_print.proofs.payloads.line_of_nothing.Goals as goal
+
+pub returns : goal.returns
+returns c = search rules

@@ -1,0 +1,5 @@
+use Rattle.std.proofs.Common.{rules}
+use Rattle.wsn_print.proofs.people_reports.ended_streams.push_answer.Goals as goal
+
+pub returns-in-Some-false-clause-text : goal.returns-in-Some-false-clause-text
+returns-in-Some-false-clause-text c = search rules

@@ -1,0 +1,5 @@
+use Rattle.std.proofs.Common.{rules}
+use Rattle.wsn_print.proofs.statuses.status_of_comparison.Goals as goal
+
+pub returns-in-Ok-Equal : goal.returns-in-Ok-Equal
+returns-in-Ok-Equal c = search rules

@@ -1,0 +1,5 @@
+use Rattle.std.proofs.Common.{rules}
+use Rattle.wsn_redact.proofs.capture_redactor.CaptureRedactor.new.Goals as goal
+
+pub returns : goal.returns
+returns c = search rules

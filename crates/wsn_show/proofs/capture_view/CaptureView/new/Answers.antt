@@ -1,0 +1,5 @@
+use Rattle.std.proofs.Common.{rules}
+use Rattle.wsn_show.proofs.capture_view.CaptureView.new.Goals as goal
+
+pub returns : goal.returns
+returns c = search rules

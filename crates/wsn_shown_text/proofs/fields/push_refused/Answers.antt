@@ -1,0 +1,5 @@
+use Rattle.std.proofs.Common.{rules}
+use Rattle.wsn_shown_text.proofs.fields.push_refused.Goals as goal
+
+pub returns : goal.returns
+returns c = search rules

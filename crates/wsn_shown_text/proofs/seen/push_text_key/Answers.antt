@@ -1,0 +1,5 @@
+use Rattle.std.proofs.Common.{rules}
+use Rattle.wsn_shown_text.proofs.seen.push_text_key.Goals as goal
+
+pub returns-in-Object-clause-text : goal.returns-in-Object-clause-text
+returns-in-Object-clause-text c = search rules
