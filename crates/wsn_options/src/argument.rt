@@ -59,21 +59,21 @@ pub fn with_arguments<'a>(
 
 /// Describes an argument for clap.
 fn described<'a>(alloc: Global, argument: &'a Argument) -> Result<Arg<'a>, AllocError> {
-    let arg = Arg::new(alloc, argument.name)
-        .required(argument.is_required)
-        .help(argument.help);
-    let arg = of_form(arg, argument.name, argument.form);
+    let arg = of_form(alloc, argument);
     match argument.conflict {
         Some(other) => arg.conflicts_with(other),
         None => Ok(arg),
     }
 }
 
-/// The argument with this name and form.
-fn of_form<'a>(arg: Arg<'a>, name: &'a str, form: Form) -> Arg<'a> {
-    match form {
-        Form::Flag => arg.long(name).action(ArgAction::SetTrue),
-        Form::Option { value, kind } => of_kind(one(arg.long(name), value), kind),
+/// Describes an argument, but for its conflict.
+fn of_form<'a>(alloc: Global, argument: &'a Argument) -> Arg<'a> {
+    let arg = Arg::new(alloc, argument.name)
+        .required(argument.is_required)
+        .help(argument.help);
+    match argument.form {
+        Form::Flag => arg.long(argument.name).action(ArgAction::SetTrue),
+        Form::Option { value, kind } => of_kind(arg.long(argument.name), value, kind),
         Form::One { value } => one(arg, value),
         Form::Several { value } => several(arg, value),
     }
@@ -91,8 +91,9 @@ fn several<'a>(arg: Arg<'a>, value: &'a str) -> Arg<'a> {
         .value_name(value)
 }
 
-/// An option whose value is of this kind.
-fn of_kind<'a>(option: Arg<'a>, kind: Kind) -> Arg<'a> {
+/// An option with a value of this kind, which help calls `value`.
+fn of_kind<'a>(option: Arg<'a>, value: &'a str, kind: Kind) -> Arg<'a> {
+    let option = one(option, value);
     match kind {
         Kind::Any => option,
         Kind::Number(least, most) => option.value_parser(ValueParser::signed(least, most)),
