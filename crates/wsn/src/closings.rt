@@ -1,12 +1,11 @@
-use crate::FAULT;
-use crate::canvas::Canvas;
-use crate::named_input::{hold_standard_input, open_named};
-use crate::pipe::Pipe;
-use crate::stdio::{OneLine, diagnose_stop};
 use std::cell::RefCell;
 use std::io::{self, Read, Write};
 use std::rt::Runtime;
 use std::str;
+use wsn_cli::canvas::Canvas;
+use wsn_cli::named_input::{hold_standard_input, open_named};
+use wsn_cli::pipe::Pipe;
+use wsn_cli::stdio::{FAULT, OneLine, diagnose_stop};
 use wsn_cli::{Escaped, Format, Layout};
 use wsn_io::{BlockReader, BlockWriter, Input, Output, Stop, TiedWriter};
 use wsn_job::{NamedClosing, run_named_closing};

@@ -1,13 +1,12 @@
-use crate::FAULT;
-use crate::hints::print_hint;
-use crate::named_input::{hold_standard_input, open};
-use crate::pipe::Pipe;
-use crate::stdio::{OneLine, diagnose_stop, finish};
 use std::alloc::Allocator;
 use std::cell::RefCell;
 use std::io::{self, Read, Write};
 use std::rt::Runtime;
 use wsn_capture::SideReader;
+use wsn_cli::named_input::{hold_standard_input, open};
+use wsn_cli::pipe::Pipe;
+use wsn_cli::printed_hints::print_hint;
+use wsn_cli::stdio::{FAULT, OneLine, diagnose_stop, finish};
 use wsn_cli::{ComparedHint, Comparison, hint_on_sides, hint_on_streams};
 use wsn_io::{BlockReader, BlockWriter, FirstBytes, Input, Output, Stop, TiedWriter};
 use wsn_job::{ComparedStreams, Ran, run_same, run_same_on_sides};

@@ -1,18 +1,17 @@
 ghost use Rattle.wsn_command.specs.Jobs.{MayRun};
 ghost use Rattle.wsn_cli.specs.Requests.{IsOwnSide};
 
-use crate::FAULT;
-use crate::canvas::Canvas;
-use crate::colors::Colors;
-use crate::hints::give_hint;
-use crate::named_input::open;
-use crate::pipe::Pipe;
-use crate::stdio::{OneLine, diagnose_stop, finish};
 use std::alloc::{Allocator, Global};
 use std::cell::RefCell;
 use std::io::{self, Read, Write};
 use std::rt::Runtime;
 use wsn_capture::SideReader;
+use wsn_cli::canvas::Canvas;
+use wsn_cli::named_input::open;
+use wsn_cli::pipe::Pipe;
+use wsn_cli::printed_hints::give_hint;
+use wsn_cli::stdio::{FAULT, OneLine, diagnose_stop, finish};
+use wsn_cli::terminals::Colors;
 use wsn_cli::{Job, hint_on_run};
 use wsn_io::{BlockReader, BlockWriter, FirstBytes, Input, Output, Stop, TiedReader, TiedWriter};
 use wsn_job::{Ran, run, run_on_side};

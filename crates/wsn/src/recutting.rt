@@ -1,12 +1,11 @@
 ghost use Rattle.std.specs.Prelude.{◌≡◌, IfSome};
 
-use crate::FAULT;
-use crate::colors::Colors;
-use crate::hints::give_hint;
-use crate::named_input::{diagnose_unread, hold_standard_input, name_of, open};
 use crate::performing::{SidedJob, perform_on};
-use crate::stdio::diagnose;
 use std::rt::Runtime;
+use wsn_cli::named_input::{diagnose_unread, hold_standard_input, name_of, open};
+use wsn_cli::printed_hints::give_hint;
+use wsn_cli::stdio::{FAULT, diagnose};
+use wsn_cli::terminals::Colors;
 use wsn_cli::{Hint, How, Job, PlannedRecut, Unread, plan_hint_of};
 use wsn_io::{FirstBytes, Input};
 use wsn_plan::{PlanFileFault, read_plan_file};

@@ -20,3 +20,5 @@ pub mod AcceptedLines
 pub mod StreamSteps
 pub mod SideSteps
 pub mod SideSources
+pub mod Points
+pub mod WrittenTexts

@@ -2,6 +2,7 @@
 pub mod LineFaults
 pub mod TailCounts
 pub mod RefusedLines
+pub mod EndedBy
 pub mod CaptureAnswers
 pub mod SideTexts
 -- how the state of the code is related to these

@@ -8,6 +8,11 @@ IsInputNamed None input = input ≡ None
 IsInputNamed (Some word) None = word ≡ codes "-"
 IsInputNamed (Some word) (Some file) = (string_bytes file ≡ word) × ¬ (word ≡ codes "-")
 
+-- The name of an input: of a file, or `-` for standard input.
+abbrev pub input_name : {A : Type 0} → Option (String A) → List ℕ
+input_name None = codes "-"
+input_name (Some file) = string_bytes file
+
 -- At most one of the two inputs is standard input.
 abbrev pub AreApart : {A : Type 0} → Option (String A) → Option (String A) → Type 0
 AreApart first second = IsSome first ⊎ IsSome second

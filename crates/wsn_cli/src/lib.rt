@@ -7,10 +7,16 @@
 //! [`hint_on_run`] says which everyday mistake an input looks like, [`hint_on_streams`] and [`hint_on_sides`] which of
 //! two.
 //!
+//! And what the program does with the system, whatever was asked for: [`arguments`] are the words of its command line,
+//! [`named_input`] the files that they name, [`stdio`] and [`printed_hints`] what it prints, on a [`pipe`] or in the
+//! colours of a [`canvas`], and [`terminals`] which colours a terminal has.
+//!
 //! `specs/Inputs.antt` defines which input a word names, `specs/Requests.antt` which requests can be carried out,
 //! `specs/Colors.antt` which answers are coloured or for people, `specs/ErrorWords.antt` how an error shows the words.
 #![tactic(auto)]
 
+pub mod arguments;
+pub mod canvas;
 mod closings;
 mod command_line;
 mod compared_hint;
@@ -18,9 +24,14 @@ mod error_words;
 mod escaped;
 mod hints;
 mod mistake;
+pub mod named_input;
 mod options;
+pub mod pipe;
+pub mod printed_hints;
 mod recut_options;
 mod request;
+pub mod stdio;
+pub mod terminals;
 mod unread;
 
 pub use command_line::asked;

@@ -3,8 +3,8 @@ use Rattle.std.proofs.Common.{◌≡◌, ℕ, Bool, true, false, List, ◌++◌,
 use Rattle.wsn_wire.specs.declared.endpoint.Role.{Role}
 use Rattle.wsn_print.specs.Json.{string_field, field, boolean}
 use Rattle.wsn_shown_text.specs.ShownObjects.{side_word}
-use Rattle.wsn_show.specs.declared.ended_by.EndedBy.{EndedBy}
-use Rattle.wsn_show.specs.EndedBy.{ended_by_object}
+use Rattle.wsn_capture.specs.declared.ended_by.EndedBy.{EndedBy}
+use Rattle.wsn_show.specs.EndedByTexts.{ended_by_object}
 use Rattle.wsn_print_laws.specs.JsonText.{Value, String, Object, Members, End, Member, IsJsonLine, IsObjectLine, HasDistinctNames}
 use Rattle.wsn_print_laws.proofs.Distinct.{distinct}
 use Rattle.wsn_print_laws.proofs.Fields.{one_line}

@@ -16,7 +16,7 @@
 //! escaped surrogates are, [`laws::law_surrogates_are_a_character`] determines.
 //!
 //! The definitions of the objects are those of `wsn_print` (`specs/Objects.antt`), of `wsn_shown_text`
-//! (`specs/ShownObjects.antt`, `DifferenceText.antt`) and of `wsn_show` (`specs/EndedBy.antt`), whose functions write
+//! (`specs/ShownObjects.antt`, `DifferenceText.antt`) and of `wsn_show` (`specs/EndedByTexts.antt`), whose functions write
 //! them. Nothing here runs.
 //!
 //! [`printed_captures`] has examples of what `show` prints of a whole capture, computed from the definitions.

@@ -17,7 +17,7 @@ use Rattle.wsn_rules.proofs.EveryTime.{gives_time}
 use Rattle.wsn_capture.specs.LineFaults.{AreAcceptedLines}
 use Rattle.wsn_capture.proofs.AcceptedTexts.{taken_given}
 use Rattle.wsn_capture.proofs.EveryReport.{sent_bytes}
-use Rattle.wsn_show.specs.EndedBy.{reset_comment}
+use Rattle.wsn_capture.specs.EndedBy.{reset_comment}
 use Rattle.wsn_redact.specs.declared.extension_names.Within.TheVariants.{Name}
 use Rattle.wsn_redact.specs.ExtensionNames.{names_in}
 use Rattle.wsn_redact.specs.Redaction.{IsRedaction}

@@ -12,7 +12,7 @@ use Rattle.wsn_rules.specs.Sides.{sent}
 use Rattle.wsn_rules.specs.ShownCapture.{IsDigit, IsSeconds}
 use Rattle.wsn_rules.proofs.OneEntry.{same_entries}
 use Rattle.wsn_capture.proofs.AcceptedTexts.{taken_given}
-use Rattle.wsn_show.specs.EndedBy.{reset_comment}
+use Rattle.wsn_capture.specs.EndedBy.{reset_comment}
 use Rattle.wsn_redact.specs.Redaction.{IsRedaction}
 use Rattle.wsn_redact.specs.declared.extension_names.Within.TheVariants.{Name}
 use Rattle.wsn_redact.specs.ExtensionNames.{names_in}

@@ -13,7 +13,7 @@ use Rattle.wsn_capture.specs.LineFaults.{AreAcceptedLines}
 use Rattle.wsn_capture.specs.LineSplitters.{HasPassedOn, IsStopAt, IsStopWithin, ContinuesLine, EndsLine}
 use Rattle.wsn_capture.proofs.SplitLines.{split_line, line_join, stop_line, stop_at_most, no_long, unfaulted, faulty_last}
 use Rattle.wsn_capture.proofs.ChunkPrefixes.{goes_on, stop_in_rest, last_of}
-use Rattle.wsn_show.proofs.PassedChunks.{more_after, failed_part, whole_part}
+use Rattle.wsn_capture.proofs.WrittenTexts.{more_after, failed_part, whole_part}
 use Rattle.wsn_redact.specs.declared.capture_redactor.CaptureRedactor.{CaptureRedactor}
 use Rattle.wsn_redact.specs.declared.capture_redacting.RedactStop.{RedactStop}
 use Rattle.wsn_redact.specs.declared.capture_redacting.RedactStop.TheVariants as stop

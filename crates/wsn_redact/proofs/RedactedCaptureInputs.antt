@@ -19,7 +19,7 @@ use Rattle.wsn_redact.specs.declared.capture_redacting.RedactStop.{RedactStop}
 use Rattle.wsn_redact.specs.declared.capture_redacting.RedactStop.TheVariants as stop
 use Rattle.wsn_redact.specs.PassedRedactions.{HasRedactedLines, HasWritten, StopsWithin, EndsRedacting}
 use Rattle.wsn_redact.specs.RedactingCaptures.{IsCaptureRedactAnswer, IsRedactedCaptureInput, IsTextOfWhole}
-use Rattle.wsn_show.proofs.PassedChunks.{whole_part}
+use Rattle.wsn_capture.proofs.WrittenTexts.{whole_part}
 use Rattle.wsn_redact.proofs.PassedRedactions.{text_so_far}
 
 -- All bytes that came were passed on, and what their lines became was written.

@@ -10,8 +10,8 @@ use Rattle.wsn_rules.specs.Entries.Entry.{Nothing, Bytes, Mark}
 use Rattle.wsn_rules.specs.ShownCapture.{GivesTime, IsTime}
 use Rattle.wsn_rules.specs.declared.closing_handshake.Report.{Report}
 use Rattle.wsn_rules.proofs.OneEntry.{same_entries, front_is, mark_is, letter_of, not_nothing}
-use Rattle.wsn_show.specs.declared.ended_by.EndedBy.{EndedBy}
-use Rattle.wsn_show.specs.EndedBy.{marks_in, end_marks, reset_comment, SayReset, IsEndedBy}
+use Rattle.wsn_capture.specs.declared.ended_by.EndedBy.{EndedBy}
+use Rattle.wsn_capture.specs.EndedBy.{marks_in, end_marks, reset_comment, SayReset, IsEndedBy}
 use Rattle.wsn_redact.specs.declared.extension_names.Within.TheVariants.{Name}
 use Rattle.wsn_redact.specs.ExtensionNames.{names_in}
 use Rattle.wsn_redact.specs.RedactedCaptures.{extensions_prefix, IsRedactedNothing, IsRedactedLineText, IsRedactedLine, AreRedactedLines, IsRedactedCapture}

@@ -12,7 +12,7 @@ use Rattle.wsn_redact.specs.ExtensionNames.{names_in}
 use Rattle.wsn_redact.specs.RedactedCaptures.{Stays, HasExtensions, SaysElse, cr_of}
 use Rattle.wsn_redact.specs.AlikeStreams.{AreAlikeStreams}
 use Rattle.wsn_rules.specs.ShownCapture.{IsTime}
-use Rattle.wsn_show.specs.EndedBy.{reset_comment}
+use Rattle.wsn_capture.specs.EndedBy.{reset_comment}
 use Rattle.std.specs.List.{AllZip}
 
 -- Both entries give nothing; or as many bytes of the same endpoint; or the end mark of the same endpoint.

@@ -9,7 +9,7 @@ use Rattle.wsn_rules.specs.Entries.Entry.{Nothing, Bytes, Mark}
 use Rattle.wsn_rules.specs.Sides.{sent}
 use Rattle.wsn_rules.specs.ShownCapture.{GivesTime}
 use Rattle.wsn_capture.specs.LineFaults.{AreAcceptedLines}
-use Rattle.wsn_show.specs.EndedBy.{reset_comment}
+use Rattle.wsn_capture.specs.EndedBy.{reset_comment}
 use Rattle.wsn_redact.specs.declared.extension_names.Within.TheVariants.{Name}
 use Rattle.wsn_redact.specs.ExtensionNames.{names_in}
 use Rattle.wsn_redact.specs.Redaction.{IsRedaction}

@@ -2,14 +2,13 @@ ghost use Rattle.std.specs.Prelude.{◌≡◌, ◌≤◌, ◌+◌, ◌*◌, ◌�
 ghost use Rattle.hex.specs.Hex.{encode_lower};
 ghost use Rattle.wsn_rules.specs.Entries.{without_cr, bytes_prefix};
 ghost use Rattle.wsn_capture.specs.LineEntries.{FitsInLine, held_entry};
-ghost use Rattle.wsn_show.specs.EndedBy.{reset_comment};
+ghost use Rattle.wsn_capture.specs.EndedBy.{reset_comment};
 ghost use Rattle.wsn_redact.specs.declared.extension_names.Within.TheVariants.{Name};
 ghost use Rattle.wsn_redact.specs.ExtensionNames.{names_in};
 ghost use Rattle.wsn_redact.specs.RedactedCaptures.{extensions_prefix, IsReset, Stays, IsRedactedNothing, IsRedactedLineText, IsRedactedLine};
 
 use crate::extension_names::put_names;
-use wsn_capture::{LineEntry, strip_cr};
-use wsn_show::time_of;
+use wsn_capture::{LineEntry, strip_cr, time_of};
 use wsn_wire::Role;
 
 /// The maximum length of a line in bytes, with its CR and its LF.

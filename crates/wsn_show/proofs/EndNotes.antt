@@ -16,7 +16,7 @@ use Rattle.wsn_rules.specs.Entries.{Entry, without_cr}
 use Rattle.wsn_rules.specs.Entries.Entry.{Nothing, Bytes, Mark}
 use Rattle.wsn_rules.specs.Sides.{sent, has_ended, accepted_side, side_of, IsSide}
 use Rattle.wsn_rules.specs.ClosingHandshake.{IsEndedEarly, IsReportOf}
-use Rattle.wsn_show.specs.EndedBy.{marks_in, end_marks, reset_comment, SayReset, HasEndedEarly}
+use Rattle.wsn_capture.specs.EndedBy.{marks_in, end_marks, reset_comment, SayReset, HasEndedEarly}
 use Rattle.wsn_show.specs.declared.end_notes.EndNotes.{EndNotes}
 use Rattle.wsn_show.specs.EndNotes.{first_marked, noted_reset, HasNotedEnd}
 

@@ -24,7 +24,8 @@ use Rattle.wsn_show.specs.declared.showing.ShowStop.TheVariants as stop
 use Rattle.wsn_show.specs.CaptureViews.{ShowsLine, Finishes}
 use Rattle.wsn_show.specs.Showing.{IsTextOfLines, IsWholeText}
 use Rattle.wsn_show.specs.PassedLines.{HasPrinted, HasPrintedLines, StopsAtLine, EndsShowing}
-use Rattle.wsn_show.proofs.PassedChunks.{text_so_far, text_with_line, partly_with_line, printed_with_line, one_more, failed_part, more_after, at_least, whole_part}
+use Rattle.wsn_capture.proofs.WrittenTexts.{failed_part, more_after, whole_part}
+use Rattle.wsn_show.proofs.PassedChunks.{text_so_far, text_with_line, partly_with_line, printed_with_line, one_more, at_least}
 
 -- ---- the report
 

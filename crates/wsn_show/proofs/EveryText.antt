@@ -17,9 +17,9 @@ use Rattle.wsn_rules.proofs.OneEntry.{same_entries}
 use Rattle.wsn_capture.specs.LineFaults.{AreAcceptedLines}
 use Rattle.wsn_capture.proofs.AcceptedTexts.{taken_given}
 use Rattle.wsn_capture.proofs.EveryReport.{has_report, sent_bytes}
-use Rattle.wsn_show.specs.declared.ended_by.EndedBy.{EndedBy}
+use Rattle.wsn_capture.specs.declared.ended_by.EndedBy.{EndedBy}
 use Rattle.wsn_print.specs.declared.style.Style.{Style}
-use Rattle.wsn_show.specs.EndedBy.{reset_comment, SayReset, HasEndedEarly, IsEndedBy}
+use Rattle.wsn_capture.specs.EndedBy.{reset_comment, SayReset, HasEndedEarly, IsEndedBy}
 use Rattle.wsn_show.specs.EndNotes.{first_marked}
 use Rattle.wsn_show.specs.Showing.{IsWholeText}
 use Rattle.wsn_show.specs.Styles.{styled_capture}

@@ -13,7 +13,6 @@ pub mod ShownSteps
 pub mod ShownChunks
 pub mod StreamsShown
 pub mod ViewedStreams
-pub mod Points
 pub mod ShownEntries
 pub mod EndNotes
 pub mod LastTimes

@@ -9,9 +9,9 @@ use Rattle.wsn_rules.proofs.OneEntry.{same_entries}
 use Rattle.wsn_rules.proofs.OneShownCapture.{one_shown_capture}
 use Rattle.wsn_rules.proofs.TextLines.{same_lines}
 use Rattle.wsn_capture.proofs.AcceptedTexts.{taken_given}
-use Rattle.wsn_show.specs.declared.ended_by.EndedBy.{EndedBy}
+use Rattle.wsn_capture.specs.declared.ended_by.EndedBy.{EndedBy}
 use Rattle.wsn_print.specs.declared.style.Style.{Style}
-use Rattle.wsn_show.specs.EndedBy.{SayReset, IsEndedBy}
+use Rattle.wsn_capture.specs.EndedBy.{SayReset, IsEndedBy}
 use Rattle.wsn_show.specs.Showing.{IsWholeText}
 use Rattle.wsn_show.specs.Styles.{styled_capture}
 

@@ -20,6 +20,7 @@ use Rattle.wsn_capture.specs.LineFaults.{AreAcceptedLines}
 use Rattle.wsn_capture.specs.LineSplitters.{HasPassedOn, IsStopAt, IsStopWithin, ContinuesLine, EndsLine}
 use Rattle.wsn_capture.proofs.SplitLines.{split_line, line_join, stop_line, stop_at_most, no_long}
 use Rattle.wsn_capture.proofs.ChunkPrefixes.{goes_on, stop_in_rest, last_of}
+use Rattle.wsn_capture.proofs.WrittenTexts.{whole_part, failed_part, more_after}
 use Rattle.wsn_show.specs.declared.capture_view.CaptureView.{CaptureView}
 use Rattle.wsn_show.specs.declared.showing.ShowStop.{ShowStop}
 use Rattle.wsn_show.specs.declared.showing.ShowStop.TheVariants as stop
@@ -115,21 +116,12 @@ module _ (limits : Limits) (style : Style) (first : Outgoing) (view : CaptureVie
 
 -- ---- stops
 
--- what was written after a text
-pub more_after : (first now after : Outgoing) (text more : List ℕ) → IsWritten first now text → IsWrittenUpToFailure now after more → (rest : List ℕ) × Appends first.written after.written (text ++ rest)
-more_after first now after text more wrote (inl went) = (more, Appends-trans first.written now.written after.written text more wrote.1 went.1)
-more_after first now after text more wrote (inr part) = (take part.1.0 more, Appends-trans first.written now.written after.written text (take part.1.0 more) wrote.1 part.1.1)
-
 -- what the lines so far show was printed, and then more
 pub at_least : (limits : Limits) (style : Style) (first : Outgoing) (view : CaptureView) (begun : List ℕ) (now : Outgoing) (came : List ℕ) (has : HasPrinted limits style first view begun now came) (after : Outgoing) (more : List ℕ)
     → IsWrittenUpToFailure now after more → IsWrittenAtLeast (IsTextSoFar limits style came) first after
 at_least limits style first view begun now came has after more went =
     let rest = more_after first now after (flat_map (styled_line style) has.shown) more has.printed went in
     (flat_map (styled_line style) has.shown, rest.0, (has.lines, inl (has.passed.each, (begun, has.passed.in_line, has.passed.whole)), text_so_far limits style first view begun now came has), rest.1)
-
-pub failed_part : (before after : Outgoing) (text : List ℕ) → after.failed ≡ true → IsWrittenUpToFailure before after text → IsPartlyWritten before after text
-failed_part before after text failed (inl written) = let both : true ≡ false = sym failed ∙ written.0 in cc
-failed_part before after text failed (inr partly) = partly
 
 module _ (limits : Limits) (style : Style) (first : Outgoing) (view : CaptureView) (begun : List ℕ) (now : Outgoing) (came : List ℕ)
     (has : HasPrinted limits style first view begun now came) (new : CaptureView) (line bytes : List ℕ) (after : Outgoing) (is : line ≡ begun ++ bytes)
@@ -198,10 +190,6 @@ module _ (limits : Limits) (style : Style) (first : Outgoing) (view : CaptureVie
   stops_long ahead stop.Write size stops = absurd (not_long size stops.0)
 
 -- ---- a prefix of a chunk
-
-pub whole_part : (before after : Outgoing) (text : List ℕ) → after.failed ≡ false → IsWrittenUpToFailure before after text → IsWritten before after text
-whole_part before after text works (inl written) = written
-whole_part before after text works (inr partly) = let both : true ≡ false = sym partly.0 ∙ works in cc
 
 module _ (limits : Limits) (style : Style) (first : Outgoing) (view : CaptureView) (begun : List ℕ) (now : Outgoing) (came : List ℕ)
     (has : HasPrinted limits style first view begun now came) (new : CaptureView) (line : List ℕ) (after : Outgoing) (chunk : List ℕ) (k : ℕ)

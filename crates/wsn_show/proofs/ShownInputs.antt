@@ -22,7 +22,8 @@ use Rattle.wsn_show.specs.declared.showing.ShowStop.TheVariants as stop
 use Rattle.wsn_show.specs.CaptureViews.{HasShownLines}
 use Rattle.wsn_show.specs.Showing.{IsShowAnswer, IsShown, IsTextSoFar}
 use Rattle.wsn_show.specs.PassedLines.{HasPrinted, StopsWithin, EndsShowing}
-use Rattle.wsn_show.proofs.PassedChunks.{text_so_far, whole_part}
+use Rattle.wsn_capture.proofs.WrittenTexts.{whole_part}
+use Rattle.wsn_show.proofs.PassedChunks.{text_so_far}
 
 -- All bytes that came were passed on, and what their lines show was printed.
 pub record HasReadOn (limits : Limits) (style : Style) (old new : Incoming) (first : Outgoing) (view : CaptureView) (begun : List ℕ) (now : Outgoing)

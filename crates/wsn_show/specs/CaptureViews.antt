@@ -10,8 +10,8 @@ use Rattle.wsn_rules.specs.declared.closing_handshake.Report.{Report}
 use Rattle.wsn_rules.specs.ClosingHandshake.{IsReportOf}
 use Rattle.wsn_rules.specs.ShownCapture.{LineItem, ShownLine, GivesTime, GivesNoTime, IsTimeAfter, IsShownOfEntry, LeftAtEnd, IsLeftAtEnd}
 use Rattle.wsn_print.specs.declared.style.Style.{Style}
-use Rattle.wsn_show.specs.declared.ended_by.EndedBy.{EndedBy}
-use Rattle.wsn_show.specs.EndedBy.{IsEndedBy}
+use Rattle.wsn_capture.specs.declared.ended_by.EndedBy.{EndedBy}
+use Rattle.wsn_capture.specs.EndedBy.{IsEndedBy}
 use Rattle.wsn_show.specs.EndNotes.{HasNotedEnd, HasNotedTimes}
 use Rattle.wsn_show.specs.Styles.{styled_line_item, styled_line, styled_left, styled_ended_by}
 use Rattle.wsn_capture.specs.declared.line_fault.LineFault.{LineFault}

@@ -2,7 +2,7 @@
 use Rattle.std.specs.Prelude.{◌≡◌, ℕ, ◌↔◌, Bool, IsTrue, Option, List, slice_get}
 use Rattle.wsn_wire.specs.declared.endpoint.Role.{Role, TheVariants.{Client, Server}}
 use Rattle.wsn_rules.specs.Entries.{Entry}
-use Rattle.wsn_show.specs.EndedBy.{end_marks, SayReset}
+use Rattle.wsn_capture.specs.EndedBy.{end_marks, SayReset}
 use Rattle.wsn_show.specs.declared.end_notes.EndNotes.{EndNotes}
 use Rattle.wsn_rules.specs.ShownCapture.{IsTimeOfLast}
 use Rattle.wsn_show.specs.declared.last_times.LastTimes.{LastTimes}

@@ -7,7 +7,7 @@ pub mod StreamParts
 pub mod ShownItems
 pub mod ShownSoFar
 pub mod TakenParts
-pub mod EndedBy
+pub mod EndedByTexts
 pub mod EndNotes
 pub mod CaptureViews
 pub mod Showing

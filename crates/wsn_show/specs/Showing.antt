@@ -10,8 +10,8 @@ use Rattle.wsn_rules.specs.TextLines.{IsLine, ended, AreLines}
 use Rattle.wsn_rules.specs.ShownCapture.{ShownLine, AreShownAfter, LeftAtEnd, IsShownCapture}
 use Rattle.wsn_scan.specs.Judging.{chunk_size}
 use Rattle.wsn_print.specs.declared.style.Style.{Style}
-use Rattle.wsn_show.specs.declared.ended_by.EndedBy.{EndedBy}
-use Rattle.wsn_show.specs.EndedBy.{IsEndedBy}
+use Rattle.wsn_capture.specs.declared.ended_by.EndedBy.{EndedBy}
+use Rattle.wsn_capture.specs.EndedBy.{IsEndedBy}
 use Rattle.wsn_show.specs.Styles.{styled_line, styled_capture}
 use Rattle.wsn_capture.specs.declared.capture_report.CaptureReport.{CaptureReport}
 use Rattle.wsn_capture.specs.declared.capture_stop.CaptureStop.TheVariants as capture

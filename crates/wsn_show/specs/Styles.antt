@@ -12,8 +12,8 @@ use Rattle.wsn_print.specs.ShownParts.EntryPosition.{InLine, AtEnd}
 use Rattle.wsn_shown_text.specs.EntryFormats.{item_entry, line_item_entry}
 use Rattle.wsn_print.specs.Formats.{report_text, verdict_text}
 use Rattle.wsn_print.specs.declared.style.Style.{Style}
-use Rattle.wsn_show.specs.declared.ended_by.EndedBy.{EndedBy}
-use Rattle.wsn_show.specs.EndedBy.{ended_by_text}
+use Rattle.wsn_capture.specs.declared.ended_by.EndedBy.{EndedBy}
+use Rattle.wsn_show.specs.EndedByTexts.{ended_by_text}
 
 -- With views of n bytes, the view of this item: of an event's payload n bytes; of the evidence for a refusal, and of bytes
 -- that belong to no frame, at most 4,096.

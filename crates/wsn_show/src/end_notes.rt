@@ -1,10 +1,9 @@
 ghost use Rattle.std.specs.Prelude.{◌≡◌, ℕ, ◌⊎◌, ◌↔◌, true, IsTrue, List, slice_get};
 ghost use Rattle.wsn_rules.specs.ClosingHandshake.{IsEndedEarly};
 ghost use Rattle.wsn_capture.specs.LineEntries.{held_entry};
-ghost use Rattle.wsn_show.specs.EndedBy.{marks_in, reset_comment, HasEndedEarly};
+ghost use Rattle.wsn_capture.specs.EndedBy.{marks_in, reset_comment, HasEndedEarly};
 
-use crate::ended_by::EndedBy;
-use wsn_capture::LineEntry;
+use wsn_capture::{EndedBy, LineEntry};
 use wsn_rules::{Report, Side};
 use wsn_wire::Role;
 
@@ -25,7 +24,7 @@ impl EndNotes {
     ghost use Rattle.wsn_rules.specs.Entries.{Entry, without_cr};
     ghost use Rattle.wsn_rules.specs.ClosingHandshake.{IsReportOf};
     ghost use Rattle.wsn_capture.specs.LineEntries.{held_entry};
-    ghost use Rattle.wsn_show.specs.EndedBy.{IsEndedBy};
+    ghost use Rattle.wsn_capture.specs.EndedBy.{IsEndedBy};
     ghost use Rattle.wsn_show.specs.EndNotes.{HasNotedEnd, noted_reset};
 
     /// There are no lines yet.

@@ -1,17 +1,9 @@
 ghost use Rattle.std.specs.Prelude.{◌≡◌};
-ghost use Rattle.wsn_show.specs.EndedBy.{ended_by_line, ended_by_object, ended_by_text};
+ghost use Rattle.wsn_show.specs.EndedByTexts.{ended_by_line, ended_by_object, ended_by_text};
 
+use wsn_capture::EndedBy;
 use wsn_print::Format;
 use wsn_wire::Role;
-
-/// Who ended a connection of which a stream ended without a Close (RFC 6455 section 7.1.1).
-#[derive(Clone, Copy)]
-pub struct EndedBy {
-    /// The endpoint with the first end mark.
-    pub role: Role,
-    /// Whether a comment says that this endpoint reset the connection.
-    pub reset: bool,
-}
 
 /// Who ended a connection, in a format, with its LF, such as `ended-by server reset`; empty for `None`.
 pub fn text_of(format: Format, ended_by: Option<EndedBy>) -> &'static [u8]

@@ -6,9 +6,9 @@ ghost use Rattle.wsn_rules.specs.Entries.{Entry};
 ghost use Rattle.wsn_rules.specs.TextLines.{AreLines};
 ghost use Rattle.wsn_rules.specs.declared.closing_handshake.Report.{Report};
 ghost use Rattle.wsn_capture.specs.LineFaults.{AreAcceptedLines};
-ghost use Rattle.wsn_show.specs.declared.ended_by.EndedBy.{EndedBy};
+ghost use Rattle.wsn_capture.specs.declared.ended_by.EndedBy.{EndedBy};
 ghost use Rattle.wsn_print.specs.declared.style.Style.{Style};
-ghost use Rattle.wsn_show.specs.EndedBy.{IsEndedBy};
+ghost use Rattle.wsn_capture.specs.EndedBy.{IsEndedBy};
 ghost use Rattle.wsn_show.specs.Showing.{IsWholeText};
 
 /// A capture whose lines are accepted has exactly one report and, in each style, one text; at most one answer says who

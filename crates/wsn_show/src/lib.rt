@@ -12,8 +12,8 @@
 //! is shown of a capture, and `wsn_shown_text/specs/ShownText.antt` how it is printed. Here, `specs/Showing.antt` defines
 //! what was printed at each answer, `specs/CaptureViews.antt` and `specs/ShownSoFar.antt` how a view's state is related
 //! to the lines or bytes that came, `specs/StreamParts.antt` what is kept of the open message and of the frame that has
-//! begun, and `specs/LastPayloads.antt` what is kept of the message's last bytes. `specs/EndedBy.antt` defines who ended
-//! a connection, and its line; [`laws`] says that a capture has one text.
+//! begun, and `specs/LastPayloads.antt` what is kept of the message's last bytes. `specs/EndedByTexts.antt` defines
+//! how it is printed who ended a connection; [`laws`] says that a capture has one text.
 #![tactic(auto)]
 
 mod capture_view;
@@ -42,5 +42,4 @@ pub use capture_view::CaptureView;
 pub use showing::{ShowStop, show};
 pub use stream_showing::show_stream;
 pub use stream_view::StreamView;
-pub use times::time_of;
 pub use wsn_print::Style;

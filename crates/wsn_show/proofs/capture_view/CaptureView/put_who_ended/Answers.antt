@@ -1,7 +1,7 @@
 use Rattle.std.proofs.Common.{ap, ◌∙◌, subst, rules}
 use Rattle.wsn_io.specs.Transfer.{IsWrittenUpToFailure}
 use Rattle.wsn_io.proofs.PutTexts.{prints_on, prints_no_more, went_out}
-use Rattle.wsn_show.specs.EndedBy.{ended_by_text}
+use Rattle.wsn_show.specs.EndedByTexts.{ended_by_text}
 use Rattle.wsn_show.specs.Styles.{styled_ended_by}
 use Rattle.wsn_print.specs.declared.style.Style.{Style}
 use Rattle.wsn_show.proofs.capture_view.CaptureView.put_who_ended.Goals as goal

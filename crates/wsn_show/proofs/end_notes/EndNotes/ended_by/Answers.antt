@@ -1,5 +1,5 @@
 use Rattle.std.proofs.Common.{◌≡◌, Bool, true, false, ◌↔◌, IsTrue, sym, ◌∙◌, subst, true≢false, rules}
-use Rattle.wsn_show.specs.EndedBy.{SayReset}
+use Rattle.wsn_capture.specs.EndedBy.{SayReset}
 use Rattle.wsn_show.proofs.EndNotes.{none_early}
 use Rattle.wsn_show.proofs.end_notes.EndNotes.ended_by.Goals as goal
 

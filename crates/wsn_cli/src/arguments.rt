@@ -1,10 +1,11 @@
 ghost use Rattle.std.specs.Prelude.{◌≤◌, IfOk, IfSome, vec_len};
 
+use crate::mistake::Mistake;
+use crate::request::Usage;
 use std::alloc::Global;
 use std::env::FillError;
 use std::rt::Env;
 use std::str;
-use wsn_cli::{Mistake, Usage};
 
 /// The number of bytes that a word is first given room for.
 const WORD: usize = 4_096;

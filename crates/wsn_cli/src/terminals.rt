@@ -1,7 +1,6 @@
 use std::env::FillError;
 use std::rt::Env;
-use wsn_cli::{Layout, Terminal};
-use wsn_color::names_colors;
+use wsn_color::{Layout, Terminal, names_colors};
 
 /// The number of bytes of a variable that are read.
 const VALUE: usize = 64;

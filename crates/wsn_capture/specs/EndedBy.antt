@@ -1,17 +1,12 @@
 -- Who ended a connection of which a stream ended without a Close. RFC 6455 sections 7.1.1 and 7.1.4 to 7.1.7.
-use Rattle.std.specs.Prelude.{◌≡◌, ℕ, ◌⊎◌, ◌↔◌, IsTrue, Option, None, Some, List, [], ◌∷◌, ◌++◌, codes, slice_get, if◌then◌else◌}
+use Rattle.std.specs.Prelude.{◌≡◌, ℕ, ◌⊎◌, ◌↔◌, IsTrue, Option, None, Some, List, [], ◌∷◌, codes, slice_get}
 use Rattle.std.specs.List.{Any, flat_map}
 use Rattle.wsn_wire.specs.declared.endpoint.Role.{Role, TheVariants.{Client, Server}}
 use Rattle.wsn_rules.specs.Entries.{Entry, without_cr}
 use Rattle.wsn_rules.specs.Entries.Entry.{Mark}
 use Rattle.wsn_rules.specs.declared.closing_handshake.Report.{Report}
 use Rattle.wsn_rules.specs.ClosingHandshake.{IsEndedEarly}
-use Rattle.wsn_print.specs.declared.format.Format.{Format, TheVariants.{Text, People, Json}}
-use Rattle.wsn_print.specs.Json.{string_field, field, boolean}
-use Rattle.wsn_shown_text.specs.ShownObjects.{side_word}
-use Rattle.wsn_show.specs.declared.ended_by.EndedBy.{EndedBy}
-
--- ---- who ended it
+use Rattle.wsn_capture.specs.declared.ended_by.EndedBy.{EndedBy}
 
 -- The endpoint whose end mark the entry is, if it is one.
 abbrev pub marks_in : Entry → List Role
@@ -41,23 +36,3 @@ abbrev pub IsEndedBy : List (List ℕ) → List Entry → Report → Option Ende
 IsEndedBy lines entries report None = HasEndedEarly report → ⊥
 IsEndedBy lines entries report (Some by) =
     HasEndedEarly report × (slice_get (end_marks entries) 0 ≡ Some by.role) × (IsTrue by.reset ↔ SayReset lines by.role)
-
--- ---- its text
-
--- The line, such as `ended-by server reset`.
-abbrev pub ended_by_line : EndedBy → List ℕ
-ended_by_line by =
-    codes "ended-by " ++ side_word by.role ++ (if by.reset then codes " reset" else []) ++ codes "\n"
-
--- The object, such as `{"type":"ended-by","side":"server","reset":true}`.
-abbrev pub ended_by_object : EndedBy → List ℕ
-ended_by_object by =
-    codes "{\"type\":\"ended-by\"" ++ string_field (codes "side") (side_word by.role)
-    ++ field (codes "reset") (boolean by.reset) ++ codes "}\n"
-
--- In a format; nothing where nothing is said.
-abbrev pub ended_by_text : Format → Option EndedBy → List ℕ
-ended_by_text format None = []
-ended_by_text Text (Some by) = ended_by_line by
-ended_by_text People (Some by) = ended_by_line by
-ended_by_text Json (Some by) = ended_by_object by

@@ -2,8 +2,8 @@ use arrayvec::ArrayVec;
 use std::fmt::Display;
 use std::io::{self, Write};
 use std::str;
-use wsn_cli::{Hint, Layout};
-use wsn_color::Painter;
+use wsn_color::{Layout, Painter};
+use wsn_hint::Hint;
 
 /// A hint's line with codes: at most 91 bytes, two codes and an LF.
 type PaintedLine = ArrayVec<u8, 256>;

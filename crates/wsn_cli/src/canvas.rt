@@ -1,6 +1,5 @@
 use std::io::{self, Write};
-use wsn_cli::Layout;
-use wsn_color::Painter;
+use wsn_color::{Layout, Painter};
 
 /// Where an answer is written: a writer, in colours or not.
 #[derive(Drop)]

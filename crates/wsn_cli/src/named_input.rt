@@ -1,8 +1,11 @@
-use crate::FAULT;
+ghost use Rattle.std.specs.Prelude.{◌≡◌, IfErr};
+ghost use Rattle.wsn_cli.specs.Inputs.{input_name};
+
+use crate::stdio::FAULT;
+use crate::unread::{Unread, UnreadFile};
 use std::fs::{self, OpenFile};
 use std::io::{self, Read};
 use std::rt::Runtime;
-use wsn_cli::{Unread, UnreadFile};
 
 /// An input that a command line names: standard input or a file.
 #[derive(Drop)]
@@ -22,15 +25,16 @@ impl<I: Read, F: Read> Read for NamedInput<I, F> {
 
 /// Opens an input: the file with this name, or standard input. The error is the exit status for a file that can't be
 /// opened, or is a folder, which is reported as `cannot read` with its name and why.
-pub fn open<R: Runtime>(
-    rt: &R,
-    file: &Option<String>,
-) -> Result<NamedInput<R::Reader, R::File>, u8> {
+pub fn open<R: Runtime>(rt: &R, file: &Option<String>) -> Result<NamedInput<R::Reader, R::File>, u8>
+    ensures { IfErr result (λ status. status ≡ 2) }
+{
     open_named(rt, name_of(file))
 }
 
 /// Opens the input with this name, as [`open`] does: `-` is standard input.
-pub fn open_named<R: Runtime>(rt: &R, name: &str) -> Result<NamedInput<R::Reader, R::File>, u8> {
+pub fn open_named<R: Runtime>(rt: &R, name: &str) -> Result<NamedInput<R::Reader, R::File>, u8>
+    ensures { IfErr result (λ status. status ≡ 2) }
+{
     if name == "-" {
         return Ok(NamedInput::StandardInput(rt.reader()));
     }
@@ -61,7 +65,9 @@ pub fn hold_standard_input<R: Runtime>(rt: &R) -> io::Result<R::File> {
 }
 
 /// The name of an input: of a file, or `-`.
-pub fn name_of(file: &Option<String>) -> &str {
+pub fn name_of(file: &Option<String>) -> &str
+    ensures { result.now ≡ input_name file.now }
+{
     match file {
         Some(name) => name.as_str(),
         None => "-",
@@ -69,7 +75,9 @@ pub fn name_of(file: &Option<String>) -> &str {
 }
 
 /// Reports a file that can't be read, and returns the exit status for a fault.
-pub fn diagnose_unread<R: Eprint>(rt: &R, name: &str, why: Unread) -> u8 {
+pub fn diagnose_unread<R: Eprint>(rt: &R, name: &str, why: Unread) -> u8
+    ensures { result ≡ 2 }
+{
     let file = UnreadFile::new(name, why);
     let _ = eprintln!(rt; "{file}");
     FAULT
