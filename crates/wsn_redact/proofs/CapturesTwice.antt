@@ -1,15 +1,13 @@
 -- The redaction of a redacted capture is itself.
-use Rattle.std.proofs.Common.{◌≡◌, ◌≢◌, ℕ, zero, suc, ◌+◌, ◌*◌, ◌<◌, ◌≤◌, ◌⊎◌, ◌==◌, Bool, true, false, List, [], ◌∷◌, ◌++◌, length, inl, inr, refl, sym, ap, ◌∙◌, subst, append_assoc, length-append, arith}
+use Rattle.std.proofs.Common.{◌≡◌, ◌≢◌, ℕ, suc, ◌+◌, ◌<◌, ◌≤◌, ◌⊎◌, ◌==◌, Bool, true, false, List, [], ◌∷◌, ◌++◌, length, inl, inr, refl, sym, ap, ◌∙◌, subst, length-append, arith}
 use Rattle.std.specs.Prelude.{codes, ◌||◌, if◌then◌else◌}
-use Rattle.std.proofs.lemmas.Bool.{cases_Bool}
-use Rattle.std.proofs.lemmas.List.Concat.{flat_map-append}
 use Rattle.hex.specs.Hex.{lower_digits, encode_lower}
 use Rattle.hex.proofs.HexLemmas.{length-encode_with, decode_of-ok}
 use Rattle.wsn_wire.specs.declared.endpoint.Role.{Role}
 use Rattle.wsn_wire.specs.declared.endpoint.Role.TheVariants.{Client, Server}
 use Rattle.wsn_rules.specs.Limits.{Limits}
 use Rattle.wsn_redact.proofs.TwiceIsOnce.{redaction_twice}
-use Rattle.wsn_rules.specs.Entries.{Entry, without_cr, bytes_prefix, end_mark, GivesEntry, AreEntries}
+use Rattle.wsn_rules.specs.Entries.{Entry, without_cr, bytes_prefix, GivesEntry, AreEntries}
 use Rattle.wsn_rules.specs.Entries.Entry.{Nothing, Bytes, Mark}
 use Rattle.wsn_rules.specs.Sides.{bytes_in, sent, has_ended}
 use Rattle.wsn_capture.specs.declared.line_fault.LineFault.TheVariants.{TooManyLines, TooLong, AfterEnd, InputLimit}
@@ -20,8 +18,7 @@ use Rattle.wsn_redact.specs.declared.extension_names.Within.TheVariants.{Name, V
 use Rattle.wsn_redact.specs.ExtensionNames.{is_separator, is_of_names, within_after, is_kept, names_in}
 use Rattle.wsn_redact.specs.RedactedCaptures.{extensions_prefix, Stays, SaysElse, IsRedactedNothing, IsRedactedLineText, cr_of, IsRedactedLine, AreRedactedLines, IsRedactedCapture}
 use Rattle.wsn_redact.specs.AlikeCaptures.{IsAlike, AreAlike}
-use Rattle.wsn_redact.proofs.OneRedactedCapture.{no_time, no_reset}
-use Rattle.wsn_redact.proofs.RedactedEntries.{HasBytes, AllBytes, first_bytes, other_bytes, line_text, line_facts, RedactedTextFacts, text_alike, entries_given, all_bytes, others_bytes, others_given, ended_alike, sizes_alike}
+use Rattle.wsn_redact.proofs.RedactedEntries.{HasBytes, AllBytes, first_bytes, other_bytes, line_text, line_facts, RedactedTextFacts, text_alike, entries_given, all_bytes, others_bytes, ended_alike, sizes_alike}
 use Rattle.wsn_redact.proofs.PlainEnds.{same_cr}
 use Rattle.wsn_redact.proofs.SameLines.{hash_gives, hash_resets}
 

@@ -1,18 +1,18 @@
 -- A capture whose lines are accepted has a redaction.
-use Rattle.std.proofs.Common.{◌≡◌, ◌≢◌, ℕ, ◌+◌, ◌-◌, ◌≤◌, ◌⊎◌, IsTrue, Bool, true, false, List, [], ◌∷◌, ◌++◌, length, take, drop, inl, inr, refl, sym, ap, ◌∙◌, subst, take-append-drop, length-append, length-drop, arith}
+use Rattle.std.proofs.Common.{◌≡◌, ◌≢◌, ℕ, ◌⊎◌, Bool, true, false, List, [], ◌∷◌, ◌++◌, length, take, drop, inl, inr, refl, sym, ap, ◌∙◌, subst, take-append-drop, length-append, length-drop, arith}
 use Rattle.std.specs.Prelude.{codes}
 use Rattle.std.specs.Str.{bytes_eq}
-use Rattle.std.proofs.lemmas.List.{take_all, take_at, length-take-le}
+use Rattle.std.proofs.lemmas.List.{take_at, length-take-le}
 use Rattle.std.proofs.lemmas.Slice.Eq.{bytes_eq-Decides}
 use Rattle.hex.specs.Hex.{encode_lower}
 use Rattle.wsn_wire.specs.declared.endpoint.Role.{Role}
 use Rattle.wsn_wire.specs.declared.endpoint.Role.TheVariants.{Client, Server}
 use Rattle.wsn_frame.proofs.HeadsAtOnce.{no_items}
 use Rattle.wsn_rules.specs.Limits.{Limits, InRange}
-use Rattle.wsn_rules.specs.Entries.{Entry, without_cr, bytes_prefix, IsEntry, AreEntries}
+use Rattle.wsn_rules.specs.Entries.{Entry, without_cr, bytes_prefix, AreEntries}
 use Rattle.wsn_rules.specs.Entries.Entry.{Nothing, Bytes, Mark}
 use Rattle.wsn_rules.specs.Sides.{sent}
-use Rattle.wsn_rules.specs.ShownCapture.{GivesTime, GivesNoTime}
+use Rattle.wsn_rules.specs.ShownCapture.{GivesNoTime}
 use Rattle.wsn_rules.proofs.EveryTime.{gives_time}
 use Rattle.wsn_capture.specs.LineFaults.{AreAcceptedLines}
 use Rattle.wsn_capture.proofs.AcceptedTexts.{taken_given}
@@ -21,7 +21,7 @@ use Rattle.wsn_capture.specs.EndedBy.{reset_comment}
 use Rattle.wsn_redact.specs.declared.extension_names.Within.TheVariants.{Name}
 use Rattle.wsn_redact.specs.ExtensionNames.{names_in}
 use Rattle.wsn_redact.specs.Redaction.{IsRedaction}
-use Rattle.wsn_redact.specs.RedactedCaptures.{extensions_prefix, IsReset, Stays, HasExtensions, IsRedactedNothing, IsRedactedLineText, cr_of, IsRedactedLine, AreRedactedLines, IsRedactedCapture}
+use Rattle.wsn_redact.specs.RedactedCaptures.{extensions_prefix, IsReset, Stays, HasExtensions, IsRedactedNothing, IsRedactedLineText, cr_of, AreRedactedLines, IsRedactedCapture}
 use Rattle.wsn_redact.proofs.OneRedaction.{redaction_length}
 use Rattle.wsn_redact.proofs.EveryRedaction.{some_redaction_of}
 

@@ -7,7 +7,7 @@ use Rattle.wsn_wire.specs.declared.endpoint.Role.{Role}
 use Rattle.wsn_wire.specs.declared.endpoint.Role.TheVariants.{Client, Server}
 use Rattle.wsn_rules.specs.Entries.{without_cr, bytes_prefix}
 use Rattle.wsn_redact.specs.declared.extension_names.Within.{Within}
-use Rattle.wsn_redact.specs.declared.extension_names.Within.TheVariants.{Name, Value, Quoted, Escaped}
+use Rattle.wsn_redact.specs.declared.extension_names.Within.TheVariants.{Name}
 use Rattle.wsn_redact.specs.ExtensionNames.{within_after, is_kept, names_in}
 use Rattle.wsn_redact.specs.RedactedCaptures.{extensions_prefix, cr_of}
 

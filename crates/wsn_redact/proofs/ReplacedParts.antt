@@ -5,7 +5,7 @@ use Rattle.std.specs.Result.{is_err}
 use Rattle.std.proofs.lemmas.Bool.{cases_lt}
 use Rattle.std.proofs.lemmas.List.{take_all, drop_all, take-append-le, drop-append-le, take-append-drop, get_or_at}
 use Rattle.wsn_wire.specs.declared.opcode.Op.{Op}
-use Rattle.wsn_wire.specs.declared.opcode.Op.TheVariants.{Continue, Text, Binary, Close, Ping, Pong}
+use Rattle.wsn_wire.specs.declared.opcode.Op.TheVariants.{Close, Ping, Pong}
 use Rattle.wsn_redact.specs.StandIns.{single_stand_in, stood, due_after, due_at}
 use Rattle.std.specs.List.{slice_index}
 use Rattle.wsn_redact.specs.Redaction.{zeros_for}

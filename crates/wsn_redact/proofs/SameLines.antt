@@ -1,20 +1,20 @@
 -- The lines of a redacted capture are alike, and who ended the connection stays the same.
-use Rattle.std.proofs.Common.{◌≡◌, ◌≢◌, ℕ, zero, suc, ◌<◌, ◌⊎◌, ◌↔◌, IsTrue, Option, None, Some, List, [], ◌∷◌, ◌++◌, length, inl, inr, refl, sym, ap, ◌∙◌, subst, arith}
-use Rattle.std.specs.Prelude.{codes, slice_get, slice_index_or}
+use Rattle.std.proofs.Common.{◌≡◌, ◌≢◌, ℕ, zero, suc, ◌⊎◌, ◌↔◌, Option, None, Some, List, [], ◌∷◌, ◌++◌, length, inl, inr, refl, sym, ap, ◌∙◌, subst, arith}
+use Rattle.std.specs.Prelude.{codes, slice_get}
 use Rattle.std.specs.List.{Any}
 use Rattle.wsn_wire.specs.declared.endpoint.Role.{Role}
 use Rattle.wsn_wire.specs.declared.endpoint.Role.TheVariants.{Client, Server}
 use Rattle.wsn_rules.specs.Limits.{Limits}
-use Rattle.wsn_rules.specs.Entries.{Entry, without_cr, bytes_prefix, end_mark, GivesEntry, AreEntries}
+use Rattle.wsn_rules.specs.Entries.{Entry, without_cr, GivesEntry, AreEntries}
 use Rattle.wsn_rules.specs.Entries.Entry.{Nothing, Bytes, Mark}
-use Rattle.wsn_rules.specs.ShownCapture.{GivesTime, IsTime}
+use Rattle.wsn_rules.specs.ShownCapture.{GivesTime}
 use Rattle.wsn_rules.specs.declared.closing_handshake.Report.{Report}
-use Rattle.wsn_rules.proofs.OneEntry.{same_entries, front_is, mark_is, letter_of, not_nothing}
+use Rattle.wsn_rules.proofs.OneEntry.{same_entries, front_is, letter_of, not_nothing}
 use Rattle.wsn_capture.specs.declared.ended_by.EndedBy.{EndedBy}
 use Rattle.wsn_capture.specs.EndedBy.{marks_in, end_marks, reset_comment, SayReset, IsEndedBy}
 use Rattle.wsn_redact.specs.declared.extension_names.Within.TheVariants.{Name}
 use Rattle.wsn_redact.specs.ExtensionNames.{names_in}
-use Rattle.wsn_redact.specs.RedactedCaptures.{extensions_prefix, IsRedactedNothing, IsRedactedLineText, IsRedactedLine, AreRedactedLines, IsRedactedCapture}
+use Rattle.wsn_redact.specs.RedactedCaptures.{IsRedactedNothing, IsRedactedLineText, IsRedactedLine, AreRedactedLines, IsRedactedCapture}
 use Rattle.wsn_redact.specs.AlikeCaptures.{IsAlike, AreAlike, IsAlikeLine, AreAlikeLines}
 use Rattle.wsn_redact.proofs.OneRedactedCapture.{no_time, no_reset}
 use Rattle.wsn_redact.proofs.RedactedEntries.{HasBytes, AllBytes, first_bytes, other_bytes, line_text, line_facts, text_alike, entries_given, others_bytes, others_given, others_alike}

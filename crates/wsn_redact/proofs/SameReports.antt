@@ -1,5 +1,5 @@
 -- The report on a capture and that on its redaction are the same.
-use Rattle.std.proofs.Common.{◌≡◌, ℕ, suc, ◌-◌, ◌<◌, ◌≤◌, ◌↔◌, Bool, Option, None, Some, List, [], length, inl, inr, refl, sym, ap, ◌∙◌, subst, arith}
+use Rattle.std.proofs.Common.{◌≡◌, ℕ, suc, ◌-◌, ◌↔◌, Bool, Option, None, Some, List, [], length, inl, inr, refl, sym, ap, ◌∙◌, subst, arith}
 use Rattle.wsn_wire.specs.declared.endpoint.Role.{Role}
 use Rattle.wsn_wire.specs.declared.endpoint.Role.TheVariants.{Client, Server}
 use Rattle.wsn_wire.specs.Frame.{Frame, IsBytes, stream}
@@ -13,7 +13,7 @@ use Rattle.wsn_rules.specs.AfterClose.{HasNoClose, EndsWithClose}
 use Rattle.wsn_rules.specs.Accepted.{IsAccepted}
 use Rattle.wsn_rules.specs.Summary.{counted}
 use Rattle.wsn_rules.specs.Verdict.{IsVerdict}
-use Rattle.wsn_rules.specs.Entries.{Entry, AreEntries}
+use Rattle.wsn_rules.specs.Entries.{Entry}
 use Rattle.wsn_rules.specs.Sides.{sent, has_ended, side_of, IsSide}
 use Rattle.wsn_rules.specs.ClosingHandshake.{ClosesIn, IsFirst, other_endpoint, IsOutcome, IsReportOf, IsReport}
 use Rattle.wsn_rules.proofs.OneEntry.{same_entries}

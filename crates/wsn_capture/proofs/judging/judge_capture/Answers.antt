@@ -1,7 +1,4 @@
-use Rattle.std.proofs.Common.{◌≡◌, Ok, Err, Result, refl, sym, ap, ◌∙◌, subst, rules}
-use Rattle.wsn_rules.specs.declared.closing_handshake.Report.{Report}
-use Rattle.wsn_capture.specs.declared.capture_report.CaptureReport.{CaptureReport}
-use Rattle.wsn_capture.specs.declared.capture_stop.CaptureStop.{CaptureStop}
+use Rattle.std.proofs.Common.{Ok, Err, sym, ap, rules}
 use Rattle.wsn_capture.specs.CaptureAnswers.{without_tails}
 use Rattle.wsn_capture.proofs.JudgedCaptures.{failed_alone}
 use Rattle.wsn_capture.proofs.judging.judge_capture.Goals as goal

@@ -1,4 +1,4 @@
-use Rattle.std.proofs.Common.{◌≡◌, ◌≤◌, ℕ, Result, Err, length, take, refl, sym, ◌∙◌, subst, rules, arith, length-take-le, ap}
+use Rattle.std.proofs.Common.{◌≤◌, ℕ, Result, Err, length, take, refl, sym, ◌∙◌, subst, rules, arith, length-take-le, ap}
 use Rattle.std.proofs.lemmas.Result.{err_from_is_err_and}
 use Rattle.wsn_io.specs.Transfer.{IsConsumed}
 use Rattle.wsn_io.proofs.Received.{consumed_read}

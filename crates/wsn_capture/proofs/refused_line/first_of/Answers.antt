@@ -1,4 +1,3 @@
-use Rattle.std.proofs.Common.{arith}
 use Rattle.wsn_capture.proofs.OffendingLines.{first_kept}
 use Rattle.wsn_capture.proofs.refused_line.first_of.Goals as goal
 

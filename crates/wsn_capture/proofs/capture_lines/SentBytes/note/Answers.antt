@@ -1,7 +1,6 @@
-use Rattle.std.proofs.Common.{◌≡◌, sym, ap, ◌∙◌, subst, rules}
+use Rattle.std.proofs.Common.{◌≡◌, sym, ap, ◌∙◌}
 use Rattle.wsn_rules.specs.declared.verdict.Verdict.TheVariants.{Accepted, Cut, Refused}
 use Rattle.wsn_capture.specs.declared.capture_lines.SentBytes.{SentBytes}
-use Rattle.wsn_capture.specs.CaptureLines.{IsNotedRefusal}
 use Rattle.wsn_capture.proofs.AcceptedLines.{noted_from, none_noted}
 use Rattle.wsn_capture.proofs.capture_lines.SentBytes.note.Goals as goal
 

@@ -1,4 +1,4 @@
-use Rattle.std.proofs.Common.{◌≡◌, ℕ, ◌==◌, List, length, Result, Err, sym, ◌∙◌, subst, rules, ap}
+use Rattle.std.proofs.Common.{ℕ, ◌==◌, List, length, Result, Err, sym, ◌∙◌, subst, rules, ap}
 use Rattle.std.proofs.lemmas.Result.{err_from_is_err_and}
 use Rattle.wsn_capture.specs.declared.capture_report.CaptureReport.{CaptureReport}
 use Rattle.wsn_capture.specs.declared.capture_stop.CaptureStop.{CaptureStop}

@@ -1,11 +1,10 @@
-use Rattle.std.proofs.Common.{◌≡◌, ◌-◌, ◌++◌, ℕ, List, [], ◌∷◌, suc, chars, codes, sym, ap, subst, ◌∙◌, rules, arith, append_assoc, append-nil}
-use Rattle.std.specs.Str.{IsUtf8}
+use Rattle.std.proofs.Common.{◌≡◌, ◌-◌, ◌++◌, ℕ, List, [], suc, chars, codes, sym, ap, ◌∙◌, rules, arith, append_assoc, append-nil}
 use Rattle.std.specs.Str.Iter.{chars_rest}
-use Rattle.std.proofs.Output.{has_written_append, has_written_of_eq, writes_in_calls_nil}
+use Rattle.std.proofs.Output.{has_written_append, has_written_of_eq}
 use Rattle.std.proofs.lemmas.Bool.Decides.{nat_tests}
 use Rattle.std.proofs.lemmas.List.{nil_from_length}
 use Rattle.std.proofs.lemmas.Str.{chars-nil, chars_past_char, IsUtf8-past_char}
-use Rattle.wsn_cli.specs.ErrorWords.{escaped, escaped_character, escaped_characters}
+use Rattle.wsn_cli.specs.ErrorWords.{escaped_character, escaped_characters}
 use Rattle.wsn_cli.proofs.EscapedCharacters.{escaped_end, escaped_cut, escaped_more}
 use Rattle.wsn_cli.proofs.escaped.EscapedDisplay.fmt.Goals as goal
 
