@@ -1,3 +1,4 @@
+mod Alternatives
 mod CommentLines
 mod EarlyVerdicts
 mod FirstFits

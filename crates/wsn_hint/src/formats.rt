@@ -1,7 +1,7 @@
 ghost use Rattle.std.specs.Prelude.{◌≡◌, ◌↔◌, ◌≤◌, IsTrue, length};
 ghost use Rattle.std.specs.List.{AllByRecursion};
 ghost use Rattle.wsn_rules.specs.Limits.{Limits};
-ghost use Rattle.wsn_hint.specs.Hints.{HintFits, IsFirstFit, Begins, BeginsByte, BeginsGroup, BeginsHexDump, BeginsHttp, BeginsOffsetDump, BeginsSpacedByte, IsHexByte, IsHexDigit, IsHexText, after_digits, digits_at_start, format_hints, marked_hints, written_hints};
+ghost use Rattle.wsn_hint.specs.Hints.{HintFits, IsFirstFit, Begins, BeginsByte, BeginsGroup, BeginsHexDump, BeginsHttp, BeginsOffsetDump, BeginsPcap, BeginsSpacedByte, BeginsTls, IsHexByte, IsHexDigit, IsHexText, after_digits, digits_at_start, format_hints, marked_hints, written_hints};
 
 use crate::hint::Hint;
 
@@ -20,16 +20,32 @@ fn marked_format_of(first: &[u8]) -> Option<Hint>
     ensures { (limits : Limits) → IsFirstFit (HintFits limits first.now) marked_hints result }
 {
     match first {
-        [0xef, 0xbb, 0xbf, ..] => Some(Hint::ByteOrderMark),
-        [0xa1, 0xb2, 0xc3, 0xd4, ..]
-        | [0xd4, 0xc3, 0xb2, 0xa1, ..]
-        | [0xa1, 0xb2, 0x3c, 0x4d, ..]
-        | [0x4d, 0x3c, 0xb2, 0xa1, ..] => Some(Hint::Pcap),
-        [0x0a, 0x0d, 0x0d, 0x0a, ..] => Some(Hint::PcapNg),
-        [0x1f, 0x8b, 8, ..] => Some(Hint::Gzip),
-        [0x14..=0x17, 3, 0..=4, ..] => Some(Hint::Tls),
+        _ if begins(first, b"\xef\xbb\xbf") => Some(Hint::ByteOrderMark),
+        _ if is_pcap(first) => Some(Hint::Pcap),
+        _ if begins(first, b"\n\r\r\n") => Some(Hint::PcapNg),
+        _ if begins(first, b"\x1f\x8b\x08") => Some(Hint::Gzip),
+        _ if is_tls(first) => Some(Hint::Tls),
         _ => None,
     }
+}
+
+/// Whether these bytes begin with the mark of a pcap file.
+fn is_pcap(first: &[u8]) -> bool
+    ensures { IsTrue result ↔ BeginsPcap first.now }
+{
+    match first {
+        _ if begins(first, b"\xa1\xb2\xc3\xd4") => true,
+        _ if begins(first, b"\xd4\xc3\xb2\xa1") => true,
+        _ if begins(first, b"\xa1\xb2\x3c\x4d") => true,
+        _ => begins(first, b"\x4d\x3c\xb2\xa1"),
+    }
+}
+
+/// Whether these bytes begin with the head of a TLS record.
+fn is_tls(first: &[u8]) -> bool
+    ensures { IsTrue result ↔ BeginsTls first.now }
+{
+    matches!(first, [0x14..=0x17, 3, 0..=4, ..])
 }
 
 /// The format of a text that begins with these bytes: the head of an HTTP message, a dump or hexadecimal digits.

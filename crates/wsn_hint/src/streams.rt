@@ -3,7 +3,7 @@ ghost use Rattle.std.specs.List.{AllByRecursion};
 ghost use Rattle.wsn_rules.specs.declared.verdict.Refusal.{Refusal};
 ghost use Rattle.wsn_rules.specs.declared.verdict.Verdict.TheVariants.{Refused};
 ghost use Rattle.wsn_hint.specs.declared.hint.Hint.TheVariants.{Empty};
-ghost use Rattle.wsn_hint.specs.Hints.{IsVerdictOnBytes, IsRefusedEarly, HintFits, FitsRefused, IsFirstFit, frame_hints, stream_hints, IsDataHead, BeginsCompressed, BeginsCapture, IsTextByte};
+ghost use Rattle.wsn_hint.specs.Hints.{IsVerdictOnBytes, IsRefusedEarly, HintFits, FitsRefused, IsFirstFit, frame_hints, stream_hints, IsDataHead, BeginsCompressed, BeginsCapture, BeginsEndMark, BeginsLine, IsTextByte};
 
 use crate::early_verdict::{early_refusal, is_lawful_start};
 use crate::formats::format_of;
@@ -110,9 +110,28 @@ fn is_capture_text(first: &[u8]) -> bool
     ensures { IsTrue result ↔ BeginsCapture first.now }
 {
     match first {
+        _ if begins_line(first) => true,
+        _ if begins_end_mark(first) => true,
+        _ => first.starts_with(b"# "),
+    }
+}
+
+/// Whether these bytes begin a line of a capture that has bytes.
+fn begins_line(first: &[u8]) -> bool
+    ensures { IsTrue result ↔ BeginsLine first.now }
+{
+    match first {
         [b'C' | b'S', b' ', high, low, ..] => high.is_ascii_hexdigit() && low.is_ascii_hexdigit(),
-        [b'C' | b'S', b'.'] | [b'C' | b'S', b'.', b'\r' | b'\n', ..] => true,
-        [b'#', b' ', ..] => true,
+        _ => false,
+    }
+}
+
+/// Whether these bytes begin with a line of a capture that is an end mark.
+fn begins_end_mark(first: &[u8]) -> bool
+    ensures { IsTrue result ↔ BeginsEndMark first.now }
+{
+    match first {
+        [b'C' | b'S', b'.', rest @ ..] => matches!(rest, [] | [b'\r' | b'\n', ..]),
         _ => false,
     }
 }

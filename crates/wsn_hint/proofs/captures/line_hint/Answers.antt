@@ -4,3 +4,15 @@ use Rattle.wsn_hint.proofs.captures.line_hint.Goals as goal
 
 pub returns-in-67 : goal.returns-in-67
 returns-in-67 c = grind (arith, common_steps)
+
+pub returns-in_default : goal.returns-in_default
+returns-in_default c = grind (arith, common_steps)
+
+pub returns-in_default-2 : goal.returns-in_default-2
+returns-in_default-2 c = grind (arith, common_steps)
+
+pub returns-in_default-3 : goal.returns-in_default-3
+returns-in_default-3 c = grind (arith, common_steps)
+
+pub returns-in_default-4 : goal.returns-in_default-4
+returns-in_default-4 c = grind (arith, common_steps)

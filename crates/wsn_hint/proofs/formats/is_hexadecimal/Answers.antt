@@ -4,3 +4,12 @@ use Rattle.wsn_hint.proofs.formats.is_hexadecimal.Goals as goal
 
 pub returns-then-is_ascii_hexdigit : goal.returns-then-is_ascii_hexdigit
 returns-then-is_ascii_hexdigit c = grind (arith, common_steps)
+
+pub returns-else-is_ascii_hexdigit : goal.returns-else-is_ascii_hexdigit
+returns-else-is_ascii_hexdigit c = grind (arith, common_steps)
+
+pub returns-in_default : goal.returns-in_default
+returns-in_default c = grind (arith, common_steps)
+
+pub returns-in_default-2 : goal.returns-in_default-2
+returns-in_default-2 c = grind (arith, common_steps)

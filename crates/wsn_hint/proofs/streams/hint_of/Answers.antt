@@ -1,4 +1,5 @@
-use Rattle.std.proofs.Common.{◌≡◌, Option, Some, ◌++◌, take, inr, subst, rules}
+use Rattle.std.proofs.Common.{◌≡◌, Option, Some, ◌++◌, take, inr, subst, arith, rules}
+use Rattle.std.proofs.lemmas.Grind.{common_steps}
 use Rattle.std.specs.Prelude.{IfSome}
 use Rattle.wsn_rules.specs.declared.verdict.Refusal.{Refusal}
 use Rattle.wsn_rules.specs.declared.verdict.Verdict.TheVariants.{Refused}
@@ -6,7 +7,7 @@ use Rattle.wsn_hint.specs.declared.hint.Hint.{Hint}
 use Rattle.wsn_hint.specs.declared.hint.Hint.TheVariants.{Capture}
 use Rattle.wsn_hint.specs.Hints.{HintFits, FitsRefused, IsVerdictOnBytes, IsFirstFit, format_hints, frame_hints}
 use Rattle.wsn_hint.proofs.EarlyVerdicts.{one_refusal, refused_early}
-use Rattle.wsn_hint.proofs.FirstFits.{fits_of_first, first_of_more, first_after, first_past}
+use Rattle.wsn_hint.proofs.FirstFits.{fits_of_first, first_of_more, first_after, first_at, first_past}
 use Rattle.wsn_hint.proofs.streams.hint_of.Goals as goal
 
 pub returns-in_default-clause-first : goal.returns-in_default-clause-first
@@ -62,4 +63,17 @@ pub returns-in_default-clause-refused : goal.returns-in_default-clause-refused
 returns-in_default-clause-refused c = search rules
 
 pub returns-then-is_capture_text-clause-fits : goal.returns-then-is_capture_text-clause-fits
-returns-then-is_capture_text-clause-fits c = search rules
+returns-then-is_capture_text-clause-fits c = c.is_capture_text.ensures.0 c.if-is_capture_text.true
+
+pub returns-then-is_capture_text-clause-first : goal.returns-then-is_capture_text-clause-first
+returns-then-is_capture_text-clause-first c = λ some refusal has.
+    first_at (FitsRefused c.args.role c.args.limits refusal.reason c.args.first.now) Capture (format_hints ++ frame_hints) c.is_capture_text.result c.is_capture_text.ensures c.if-is_capture_text.true
+
+pub returns-then-is_empty-clause-refused : goal.returns-then-is_empty-clause-refused
+returns-then-is_empty-clause-refused c = grind (arith, common_steps)
+
+pub returns-then-is_empty-clause-fits : goal.returns-then-is_empty-clause-fits
+returns-then-is_empty-clause-fits c = grind (arith, common_steps)
+
+pub returns-then-is_empty-clause-first : goal.returns-then-is_empty-clause-first
+returns-then-is_empty-clause-first c = grind (arith, common_steps)

@@ -1,5 +1,6 @@
 use Rattle.std.proofs.Common.{◌≡◌, ℕ, List, ◌++◌, length, take, drop, inr, sym, ap, ◌∙◌, subst, arith}
 use Rattle.std.proofs.lemmas.List.{take_all, take_at, length-take-le}
+use Rattle.std.proofs.lemmas.Grind.{common_steps}
 use Rattle.wsn_redact.specs.Redaction.{zeros_for}
 use Rattle.std.specs.Prelude.{Option}
 use Rattle.wsn_rules.specs.declared.verdict.Refusal.{Refusal}
@@ -45,3 +46,9 @@ returns-clause-redacts c role limits came written h =
     subst (λ (bs : List ℕ). HasRedacted role limits c.follow-count.new.self c.rewrite.new.redactor (came ++ take n chunk) (written ++ bs)) (sym front)
     (call_step role limits c.args.scan.now c.follow-count.new.self chunk after n c.follow-count.new.part came c.args.redactor.now written redacting c.follow-count.result.1 c.rewrite.new.redactor out c.requires.some sized call (λ is. (c.follow-count.ensures.start is, c.follow-count.ensures.head is))
     (subst (λ (r : Option Refusal). Rewrites c.args.redactor.now c.rewrite.new.redactor r c.follow-count.result.1 c.follow-count.new.part (take n after) out) c.refusal.ensures c.rewrite.ensures))
+
+pub returns-then-has_refused-clause-kept : goal.returns-then-has_refused-clause-kept
+returns-then-has_refused-clause-kept c = grind (arith, common_steps)
+
+pub returns-clause-kept : goal.returns-clause-kept
+returns-clause-kept c = grind (arith, common_steps)
