@@ -6,7 +6,6 @@ pub mod LineFaults
 pub mod WrittenLines
 pub mod FieldsAfterWords
 pub mod DecidedLines
-mod ExampleLines
 pub mod TextFaults
 pub mod FirstPlaces
 pub mod SplitLines

@@ -14,7 +14,6 @@ mod line_fields;
 mod plan;
 mod plan_fault;
 mod plan_files;
-pub mod plan_text_examples;
 mod reading_plans;
 mod step_lines;
 mod writing_plans;

@@ -27,7 +27,6 @@ pub mod TextLines
 pub mod Outcomes
 pub mod OneEntry
 pub mod OneReport
-pub mod ComputedReports
 pub mod OneHead
 pub mod HeadsGoOn
 pub mod OpenOffsets
@@ -43,7 +42,6 @@ pub mod EveryTime
 pub mod EveryCapture
 pub mod ShownOffsets
 pub mod ShownHeads
-pub mod PlacedExamples
 pub mod OpenPayloads
 pub mod BadCharacters
 pub mod LastElements

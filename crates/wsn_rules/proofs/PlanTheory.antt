@@ -20,6 +20,4 @@ pub mod UniformOfFrames
 pub mod FramesOfUniform
 pub mod ControlsFromTheFront
 pub mod UniformInterleaved
-pub mod ComputedFaults
 pub mod RecutGoesOn
-pub mod ComputedRecuts

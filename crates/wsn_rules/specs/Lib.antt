@@ -43,4 +43,3 @@ pub mod ShownOffsets
 pub mod ShownCapture
 -- for the examples
 pub mod Examples
-pub mod PlanExamples

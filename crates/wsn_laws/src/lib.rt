@@ -1,0 +1,27 @@
+//! Laws and examples: what follows from the definitions of the other crates, and no function of the program needs. Each
+//! function here does nothing: its contract is the law or the example. The program doesn't depend on this crate, so that
+//! building it doesn't prove them; the gate does.
+//!
+//! [`object_laws`] has the laws of the JSON objects that are printed: each is JSON with distinct names, and an object says
+//! all that its answer does.
+//!
+//! The examples are computed from the definitions. Of `wsn_rules`: refusals in [`verdict_examples`], how streams end and
+//! what they mean in [`stream_examples`], normal forms in [`normal_form_examples`], plans of inputs and recuts in
+//! [`plan_examples`], plans and their faults in [`fault_examples`], captures and their reports in [`capture_examples`],
+//! what is shown of frames in [`shown_examples`], where it is in [`offset_examples`], and bad characters in
+//! [`bad_character_examples`]. Of `wsn_plan_text`: plan text in [`plan_text_examples`]. Of `wsn_show`: what `show` prints of
+//! a whole capture in [`printed_captures`].
+#![tactic(auto)]
+
+pub mod bad_character_examples;
+pub mod capture_examples;
+pub mod fault_examples;
+pub mod normal_form_examples;
+pub mod object_laws;
+pub mod offset_examples;
+pub mod plan_examples;
+pub mod plan_text_examples;
+pub mod printed_captures;
+pub mod shown_examples;
+pub mod stream_examples;
+pub mod verdict_examples;

@@ -1,0 +1,99 @@
+//! Examples of the plans of inputs, and of recuts by plans, computed from the definitions in `wsn_rules/specs/`.
+
+ghost use Rattle.std.specs.Prelude.{◌≡◌, None, Some, [], ◌∷◌, ◌++◌, replicate};
+ghost use Rattle.wsn_wire.specs.declared.endpoint.Role.TheVariants.{Client, Server};
+ghost use Rattle.wsn_wire.specs.declared.length_encoding.Form.TheVariants.{Shortest, Two, Eight};
+ghost use Rattle.wsn_rules.specs.declared.step.Step.TheVariants.{Piece, Last, Control};
+ghost use Rattle.wsn_rules.specs.Recut.{recut_bytes, normal_plan};
+ghost use Rattle.wsn_rules.specs.Examples.{greatest};
+ghost use Rattle.wsn_laws.specs.PlanExamples.{HasPlan, RecutsTo, bare_piece, bare_last, bare_control, zeros, ping_and_hello, two_letters, one_key, four_keys, whole_ping_and_hello, frames_of, any_length};
+
+/// Plans of inputs: keys, forms, empty pieces, pieces that end inside a character, controls between them, and a Close
+/// before a tail.
+pub fn plans()
+    ensures masked { HasPlan Client greatest
+        (0x81 ∷ 0x85 ∷ 0x37 ∷ 0xfa ∷ 0x21 ∷ 0x3d ∷ 0x7f ∷ 0x9f ∷ 0x4d ∷ 0x51 ∷ 0x58 ∷ [])
+        (Last (Some (0x37 ∷ 0xfa ∷ 0x21 ∷ 0x3d ∷ [])) Shortest ∷ []) }
+    ensures ping_between { HasPlan Server greatest
+        (0x01 ∷ 0x03 ∷ 0x48 ∷ 0x65 ∷ 0x6c ∷ 0x89 ∷ 0x00 ∷ 0x80 ∷ 0x02 ∷ 0x6c ∷ 0x6f ∷ [])
+        (bare_piece 3 ∷ bare_control ∷ bare_last ∷ []) }
+    ensures keys { HasPlan Client greatest
+        (0x01 ∷ 0x81 ∷ 0x37 ∷ 0xfa ∷ 0x21 ∷ 0x3d ∷ 0xd5 ∷ 0x89 ∷ 0x80 ∷ 0x00 ∷ 0x00 ∷ 0x00 ∷ 0x01 ∷ 0x00 ∷ 0x81 ∷
+        0xff ∷ 0x00 ∷ 0x00 ∷ 0x00 ∷ 0x7d ∷ 0x80 ∷ 0x81 ∷ 0x00 ∷ 0x00 ∷ 0x00 ∷ 0x00 ∷ 0xac ∷ [])
+        four_keys }
+    ensures inside_a_character { HasPlan Server greatest
+        (0x01 ∷ 0x01 ∷ 0xe2 ∷ 0x00 ∷ 0x01 ∷ 0x82 ∷ 0x80 ∷ 0x01 ∷ 0xac ∷ [])
+        (bare_piece 1 ∷ bare_piece 1 ∷ bare_last ∷ []) }
+    ensures empty_pieces { HasPlan Server greatest
+        (0x01 ∷ 0x00 ∷ 0x89 ∷ 0x00 ∷ 0x00 ∷ 0x00 ∷ 0x80 ∷ 0x05 ∷ 0x48 ∷ 0x65 ∷ 0x6c ∷ 0x6c ∷ 0x6f ∷ [])
+        (bare_piece 0 ∷ bare_control ∷ bare_piece 0 ∷ bare_last ∷ []) }
+    ensures long { HasPlan Server greatest (0x02 ∷ 0x7d ∷ (replicate 125 0x2a ++ 0x80 ∷ 0x01 ∷ 0x2a ∷ []))
+        (bare_piece 125 ∷ bare_last ∷ []) }
+    ensures two_bytes { HasPlan Server any_length (0x81 ∷ 0x7e ∷ 0x00 ∷ 0x01 ∷ 0x41 ∷ []) (Last None Two ∷ []) }
+    ensures eight_bytes { HasPlan Server any_length
+        (0x01 ∷ 0x7f ∷ 0x00 ∷ 0x00 ∷ 0x00 ∷ 0x00 ∷ 0x00 ∷ 0x00 ∷ 0x00 ∷ 0x01 ∷ 0x41 ∷ 0x80 ∷ 0x00 ∷ [])
+        (Piece 1 None Eight ∷ bare_last ∷ []) }
+    ensures before_a_tail { HasPlan Server greatest (0x88 ∷ 0x02 ∷ 0x03 ∷ 0xe8 ∷ 0x81 ∷ 0x01 ∷ 0x41 ∷ [])
+        (bare_control ∷ []) }
+    ensures nothing { HasPlan Client greatest [] [] }
+{}
+
+/// Recuts of inputs by plans that fit. Most of them restore an input from its normal form.
+pub fn recuts()
+    ensures ping_between { RecutsTo Server greatest whole_ping_and_hello
+        (bare_piece 3 ∷ bare_control ∷ bare_last ∷ [])
+        (0x01 ∷ 0x03 ∷ 0x48 ∷ 0x65 ∷ 0x6c ∷ 0x89 ∷ 0x00 ∷ 0x80 ∷ 0x02 ∷ 0x6c ∷ 0x6f ∷ []) }
+    ensures ping_before { RecutsTo Server greatest
+        (0x01 ∷ 0x03 ∷ 0x48 ∷ 0x65 ∷ 0x6c ∷ 0x89 ∷ 0x00 ∷ 0x80 ∷ 0x02 ∷ 0x6c ∷ 0x6f ∷ [])
+        (bare_control ∷ bare_last ∷ []) whole_ping_and_hello }
+    ensures ping_after { RecutsTo Server greatest whole_ping_and_hello (bare_piece 5 ∷ bare_control ∷ bare_last ∷ [])
+        (0x01 ∷ 0x05 ∷ 0x48 ∷ 0x65 ∷ 0x6c ∷ 0x6c ∷ 0x6f ∷ 0x89 ∷ 0x00 ∷ 0x80 ∷ 0x00 ∷ []) }
+    ensures in_two_frames { RecutsTo Server (frames_of 2) whole_ping_and_hello
+        (bare_control ∷ bare_piece 3 ∷ bare_last ∷ [])
+        (0x89 ∷ 0x00 ∷ 0x01 ∷ 0x03 ∷ 0x48 ∷ 0x65 ∷ 0x6c ∷ 0x80 ∷ 0x02 ∷ 0x6c ∷ 0x6f ∷ []) }
+    ensures one_key { RecutsTo Client greatest
+        (0x81 ∷ 0x85 ∷ 0x37 ∷ 0xfa ∷ 0x21 ∷ 0x3d ∷ 0x7f ∷ 0x9f ∷ 0x4d ∷ 0x51 ∷ 0x58 ∷ [])
+        (Piece 2 one_key Shortest ∷ Piece 2 one_key Shortest ∷ Last one_key Shortest ∷ [])
+        (0x01 ∷ 0x82 ∷ 0x01 ∷ 0x02 ∷ 0x03 ∷ 0x04 ∷ 0x49 ∷ 0x67 ∷ 0x00 ∷ 0x82 ∷ 0x01 ∷ 0x02 ∷ 0x03 ∷ 0x04 ∷ 0x6d ∷
+        0x6e ∷ 0x80 ∷ 0x81 ∷ 0x01 ∷ 0x02 ∷ 0x03 ∷ 0x04 ∷ 0x6e ∷ []) }
+    ensures keys { RecutsTo Client greatest
+        (0x89 ∷ 0x80 ∷ 0x00 ∷ 0x00 ∷ 0x00 ∷ 0x00 ∷ 0x81 ∷ 0x83 ∷ 0x00 ∷ 0x00 ∷ 0x00 ∷ 0x00 ∷ 0xe2 ∷ 0x82 ∷ 0xac ∷ [])
+        four_keys
+        (0x01 ∷ 0x81 ∷ 0x37 ∷ 0xfa ∷ 0x21 ∷ 0x3d ∷ 0xd5 ∷ 0x89 ∷ 0x80 ∷ 0x00 ∷ 0x00 ∷ 0x00 ∷ 0x01 ∷ 0x00 ∷ 0x81 ∷
+        0xff ∷ 0x00 ∷ 0x00 ∷ 0x00 ∷ 0x7d ∷ 0x80 ∷ 0x81 ∷ 0x00 ∷ 0x00 ∷ 0x00 ∷ 0x00 ∷ 0xac ∷ []) }
+    ensures inside_a_character { RecutsTo Server (frames_of 3) (0x81 ∷ 0x03 ∷ 0xe2 ∷ 0x82 ∷ 0xac ∷ [])
+        (bare_piece 1 ∷ bare_piece 1 ∷ bare_last ∷ [])
+        (0x01 ∷ 0x01 ∷ 0xe2 ∷ 0x00 ∷ 0x01 ∷ 0x82 ∷ 0x80 ∷ 0x01 ∷ 0xac ∷ []) }
+    ensures empty_pieces { RecutsTo Server greatest whole_ping_and_hello
+        (bare_piece 0 ∷ bare_control ∷ bare_piece 0 ∷ bare_last ∷ [])
+        (0x01 ∷ 0x00 ∷ 0x89 ∷ 0x00 ∷ 0x00 ∷ 0x00 ∷ 0x80 ∷ 0x05 ∷ 0x48 ∷ 0x65 ∷ 0x6c ∷ 0x6c ∷ 0x6f ∷ []) }
+    ensures each_its_own { RecutsTo Server greatest (0x81 ∷ 0x01 ∷ 0x41 ∷ 0x82 ∷ 0x01 ∷ 0x42 ∷ [])
+        (bare_piece 1 ∷ bare_last ∷ bare_piece 0 ∷ bare_last ∷ [])
+        (0x01 ∷ 0x01 ∷ 0x41 ∷ 0x80 ∷ 0x00 ∷ 0x02 ∷ 0x00 ∷ 0x80 ∷ 0x01 ∷ 0x42 ∷ []) }
+    ensures long { RecutsTo Server greatest (0x82 ∷ 0x7e ∷ 0x00 ∷ 0x7e ∷ replicate 126 0x2a)
+        (bare_piece 125 ∷ bare_last ∷ []) (0x02 ∷ 0x7d ∷ (replicate 125 0x2a ++ 0x80 ∷ 0x01 ∷ 0x2a ∷ [])) }
+    ensures two_bytes { RecutsTo Server any_length (0x81 ∷ 0x01 ∷ 0x41 ∷ []) (Last None Two ∷ [])
+        (0x81 ∷ 0x7e ∷ 0x00 ∷ 0x01 ∷ 0x41 ∷ []) }
+    ensures eight_bytes { RecutsTo Server any_length (0x81 ∷ 0x01 ∷ 0x41 ∷ []) (Last None Eight ∷ [])
+        (0x81 ∷ 0x7f ∷ 0x00 ∷ 0x00 ∷ 0x00 ∷ 0x00 ∷ 0x00 ∷ 0x00 ∷ 0x00 ∷ 0x01 ∷ 0x41 ∷ []) }
+    ensures eight_for_two { RecutsTo Server any_length (0x82 ∷ 0x7e ∷ 0x00 ∷ 0x7e ∷ replicate 126 0x2a)
+        (Last None Eight ∷ [])
+        (0x82 ∷ 0x7f ∷ 0x00 ∷ 0x00 ∷ 0x00 ∷ 0x00 ∷ 0x00 ∷ 0x00 ∷ 0x00 ∷ 0x7e ∷ replicate 126 0x2a) }
+    ensures eight_bytes_of_a_piece { RecutsTo Server any_length (0x81 ∷ 0x01 ∷ 0x41 ∷ [])
+        (Piece 1 None Eight ∷ bare_last ∷ [])
+        (0x01 ∷ 0x7f ∷ 0x00 ∷ 0x00 ∷ 0x00 ∷ 0x00 ∷ 0x00 ∷ 0x00 ∷ 0x00 ∷ 0x01 ∷ 0x41 ∷ 0x80 ∷ 0x00 ∷ []) }
+    ensures without_the_tail { RecutsTo Server greatest (0x88 ∷ 0x02 ∷ 0x03 ∷ 0xe8 ∷ 0x81 ∷ 0x01 ∷ 0x41 ∷ [])
+        (bare_control ∷ []) (0x88 ∷ 0x02 ∷ 0x03 ∷ 0xe8 ∷ []) }
+    ensures nothing { RecutsTo Client greatest [] [] [] }
+{}
+
+/// Recuts of events; the normal form is one of them.
+pub fn recuts_of_events()
+    ensures ping_between { recut_bytes (bare_piece 3 ∷ bare_control ∷ bare_last ∷ []) ping_and_hello
+        ≡ 0x01 ∷ 0x03 ∷ 0x48 ∷ 0x65 ∷ 0x6c ∷ 0x89 ∷ 0x00 ∷ 0x80 ∷ 0x02 ∷ 0x6c ∷ 0x6f ∷ [] }
+    ensures one_each { recut_bytes (bare_piece 1 ∷ bare_last ∷ bare_piece 0 ∷ bare_last ∷ []) two_letters
+        ≡ 0x01 ∷ 0x01 ∷ 0x41 ∷ 0x80 ∷ 0x00 ∷ 0x01 ∷ 0x00 ∷ 0x80 ∷ 0x01 ∷ 0x42 ∷ [] }
+    ensures server { normal_plan Server ping_and_hello ≡ bare_control ∷ bare_last ∷ [] }
+    ensures client { normal_plan Client ping_and_hello ≡ Control zeros ∷ Last zeros Shortest ∷ [] }
+    ensures whole { recut_bytes (normal_plan Server ping_and_hello) ping_and_hello ≡ whole_ping_and_hello }
+{}

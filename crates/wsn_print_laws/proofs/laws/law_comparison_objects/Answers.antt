@@ -1,5 +1,0 @@
-use Rattle.wsn_print_laws.proofs.Comparisons.{one_comparison}
-use Rattle.wsn_print_laws.proofs.laws.law_comparison_objects.Goals as goal
-
-pub returns : goal.returns
-returns c = one_comparison

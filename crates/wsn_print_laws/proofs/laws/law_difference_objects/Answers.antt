@@ -1,5 +1,0 @@
-use Rattle.wsn_print_laws.proofs.DifferenceReader.{one_difference}
-use Rattle.wsn_print_laws.proofs.laws.law_difference_objects.Goals as goal
-
-pub returns : goal.returns
-returns c = one_difference

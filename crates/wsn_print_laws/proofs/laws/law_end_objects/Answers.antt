@@ -1,5 +1,0 @@
-use Rattle.wsn_print_laws.proofs.EndMarks.{one_end}
-use Rattle.wsn_print_laws.proofs.laws.law_end_objects.Goals as goal
-
-pub returns : goal.returns
-returns c = one_end

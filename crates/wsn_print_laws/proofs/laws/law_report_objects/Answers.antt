@@ -1,5 +1,0 @@
-use Rattle.wsn_print_laws.proofs.Reports.{one_report}
-use Rattle.wsn_print_laws.proofs.laws.law_report_objects.Goals as goal
-
-pub returns : goal.returns
-returns c = one_report

@@ -1,9 +1,0 @@
-use Rattle.wsn_print_laws.proofs.Verdicts.{one_verdict}
-use Rattle.wsn_print_laws.proofs.StreamVerdicts.{stream_verdict}
-use Rattle.wsn_print_laws.proofs.laws.law_verdict_objects.Goals as goal
-
-pub returns-clause-differ : goal.returns-clause-differ
-returns-clause-differ c = one_verdict
-
-pub returns-clause-stream : goal.returns-clause-stream
-returns-clause-stream c = stream_verdict
