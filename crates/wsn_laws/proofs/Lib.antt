@@ -31,3 +31,8 @@ pub mod PlacedExamples
 pub mod ComputedFaults
 pub mod ComputedRecuts
 pub mod ExampleLines
+pub mod ComputedHeads
+pub mod VisibleLines
+pub mod VisiblePeople
+pub mod CommentLines
+pub mod WholeViews

@@ -5,3 +5,4 @@ pub mod ShownItems
 pub mod ShownDifferences
 -- for the examples
 pub mod PlanExamples
+pub mod HeadExamples

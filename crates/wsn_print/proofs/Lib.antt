@@ -1,5 +1,4 @@
 pub mod ReportTexts
-pub mod ComputedHeads
 pub mod Pieces
 pub mod Gathered
 pub mod HeldParts

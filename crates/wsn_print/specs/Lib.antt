@@ -18,5 +18,3 @@ pub mod WholeViews
 pub mod DifferingPayloads
 pub mod HeldTexts
 pub mod Runs
--- for the examples
-pub mod Examples

@@ -21,8 +21,8 @@
 //! and `NamedReportText` define the lines, `PeopleReport` and `Sentences` what a report says to people, `EscapedText`
 //! quoted texts and comments, `Json` and `Objects` the objects, `Formats` the texts in each format, and `Statuses` the
 //! exit statuses. `ShownParts` says what the arguments of the functions that show an entry represent, and
-//! `DifferingPayloads` where the payloads of two events differ. [`printed_lines`] and [`printed_reports`] have examples
-//! of printed lines, computed from the definitions.
+//! `DifferingPayloads` where the payloads of two events differ. Examples of printed lines, computed from the definitions,
+//! are in the crate `wsn_laws`.
 #![tactic(auto)]
 
 mod comparisons;
@@ -42,8 +42,6 @@ mod objects;
 mod parts;
 mod payloads;
 mod people_reports;
-pub mod printed_lines;
-pub mod printed_reports;
 mod quoted;
 mod reports;
 mod sentences;

@@ -1,12 +1,8 @@
 pub mod CharacterPieces
 pub mod HeldViews
-pub mod WholeViews
 pub mod JsonTexts
 pub mod VisibleTexts
 pub mod TextFronts
-pub mod VisibleLines
-pub mod VisiblePeople
-pub mod CommentLines
 pub mod Entries
 pub mod PeopleTexts
 pub mod PlacedItems

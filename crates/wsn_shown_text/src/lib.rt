@@ -9,9 +9,9 @@
 //! `Views` says what is shown of a payload and `Members` what an entry says, whatever the format. `ShownText` and
 //! `CharacterText` define the lines, `PeopleText` the lines for people, `ShownObjects` the objects, `EntryFormats` the texts
 //! in each format, `DifferenceText` a difference with its events, and `DifferingText` what is shown where their payloads
-//! differ. `QuotedTexts` says what a quoted text is ([`quoted_laws`]); with which view a payload is shown whole,
-//! [`whole_laws`]. [`printed_entries`], [`printed_people`], [`printed_objects`] and [`printed_differences`] have examples of
-//! printed lines, computed from the definitions.
+//! differ. `QuotedTexts` says what a quoted text is. In the crate `wsn_laws`, `quoted_laws` has laws of quoted texts,
+//! `whole_laws` says with which view a payload is shown whole, and there are examples of printed lines, computed from the
+//! definitions.
 #![tactic(auto)]
 
 mod ascii_text;
@@ -28,14 +28,8 @@ mod object_views;
 mod people;
 mod people_columns;
 mod people_views;
-pub mod printed_differences;
-pub mod printed_entries;
-pub mod printed_objects;
-pub mod printed_people;
-pub mod quoted_laws;
 mod seen;
 mod views;
-pub mod whole_laws;
 
 pub use differences::put_difference_as;
 pub use entry_formats::{put_comment_as, put_end_as};
