@@ -1,5 +1,4 @@
 pub mod OneFault
-pub mod ComputedFaults
 pub mod LineEnds
 pub mod ClosingLines
 pub mod AcceptedTexts

@@ -29,8 +29,8 @@
 //! offending bytes, `specs/EndedBy.antt` who ended the connection, `specs/CaptureAnswers.antt` the answer to a text,
 //! `specs/SideTexts.antt` one endpoint's stream as a function of a text, `specs/LineSplitters.antt` how a chunk goes on
 //! with a line or ends it, and `specs/CaptureLines.antt` and `specs/Captures.antt` what the state says of the lines that
-//! were accepted. [`laws`] has what follows from these definitions, and [`line_fault_examples`] lines with their first
-//! faults.
+//! were accepted. [`laws`] has what follows from these definitions; lines with their first faults are in the crate
+//! `wsn_laws`, as are sides of texts.
 #![tactic(auto)]
 
 mod capture;
@@ -43,14 +43,12 @@ mod hex_pairs;
 mod judging;
 pub mod laws;
 mod line_fault;
-pub mod line_fault_examples;
 mod line_form;
 mod line_splitter;
 mod lines;
 mod lines_before;
 mod refused_line;
 mod side_bytes;
-pub mod side_examples;
 mod side_lines;
 mod side_reader;
 mod side_source;

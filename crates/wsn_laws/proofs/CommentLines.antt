@@ -15,7 +15,7 @@ use Rattle.hex.proofs.HexLemmas.{decode_of-encode_lower, decode_of-ok}
 use Rattle.wsn_wire.specs.Frame.{IsBytes}
 use Rattle.wsn_print.specs.EscapedText.{is_from, is_hidden, unicode_escape, ascii_escape, comment_character, comment_byte, comment_text, comment_line}
 use Rattle.wsn_print.proofs.HiddenRanges.{below, hidden_scalar}
-use Rattle.wsn_shown_text.proofs.JsonTexts.{split, at_least}
+use Rattle.wsn_laws.proofs.JsonTexts.{split, at_least}
 use Rattle.wsn_shown_text.proofs.VisibleTexts.{utf8_if_all}
 
 -- ---- the parts of a line

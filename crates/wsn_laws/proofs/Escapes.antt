@@ -12,7 +12,7 @@ use Rattle.hex.proofs.HexLemmas.{decode_of-encode_upper}
 use Rattle.wsn_print.specs.EscapedText.{is_from, ascii_escape}
 use Rattle.wsn_shown_text.specs.QuotedTexts.{unescaped, IsUnitEscape, IsOfSurrogates, IsJsonCharacter}
 use Rattle.wsn_shown_text.specs.AsciiText.{ascii_character}
-use Rattle.wsn_shown_text.proofs.JsonTexts.{two_bytes, surrogates_of, number_is}
+use Rattle.wsn_laws.proofs.JsonTexts.{two_bytes, surrogates_of, number_is}
 use Rattle.wsn_laws.specs.JsonText.{AreCharacters, String, IsValue}
 
 scalar_most : (c : ℕ) → IsScalar c → c < 0x110000

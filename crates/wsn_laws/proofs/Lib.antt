@@ -1,3 +1,4 @@
+pub mod JsonTexts
 pub mod Strings
 pub mod Escapes
 pub mod Numbers
@@ -36,3 +37,22 @@ pub mod VisibleLines
 pub mod VisiblePeople
 pub mod CommentLines
 pub mod WholeViews
+pub mod ComputedLineFaults
+pub mod ComputedRedactions
+pub mod AlikeRedactions
+pub mod KindsOfBytes
+pub mod RedactionsAlike
+pub mod ComputedAlike
+pub mod RedactedBytes
+pub mod PlainEnds
+pub mod OneRedactedCapture
+pub mod OneWholeText
+pub mod RedactedEntries
+pub mod SameReports
+pub mod SameLines
+pub mod CapturesTwice
+pub mod AlikeCaptureRedactions
+pub mod AlikeSizes
+pub mod AlikeBadCharacters
+pub mod AlikeShown
+pub mod EveryRedactedCapture

@@ -5,7 +5,7 @@ use Rattle.std.proofs.lemmas.Fmt.{decimal_digit}
 use Rattle.std.proofs.lemmas.Str.{char_from_byte}
 use Rattle.hex.specs.Hex.{encode_with}
 use Rattle.wsn_shown_text.specs.QuotedTexts.{IsUnitEscape, IsJsonCharacter}
-use Rattle.wsn_shown_text.proofs.JsonTexts.{escape_is, escape_begins, plain_first, short_or_unicode, unit_bytes, pair_bytes, one_unit}
+use Rattle.wsn_laws.proofs.JsonTexts.{escape_is, escape_begins, plain_first, short_or_unicode, unit_bytes, pair_bytes, one_unit}
 use Rattle.wsn_laws.specs.JsonText.{Are, ◌and_then◌, AreCharacters, IsString, IsNumber, Value, Null, True, False, Number, String, Object, Members, End, Member, IsValue, AreOthers}
 use Rattle.wsn_laws.proofs.Strings.{are_unescaped, plain_string, one_string, string_bytes}
 use Rattle.wsn_laws.proofs.Numbers.{is_numeric, AreNumeric, Stops, number_characters, one_number}

@@ -7,7 +7,7 @@ use Rattle.std.specs.Char.{IsScalar, encode_utf8}
 use Rattle.std.specs.List.{AllByRecursion}
 use Rattle.wsn_print.specs.EscapedText.{is_from}
 use Rattle.wsn_shown_text.specs.QuotedTexts.{IsPlain, IsJsonCharacter, AreJsonCharacters}
-use Rattle.wsn_shown_text.proofs.JsonTexts.{escape_begins, one_character}
+use Rattle.wsn_laws.proofs.JsonTexts.{escape_begins, one_character}
 use Rattle.wsn_laws.specs.JsonText.{AreCharacters, IsString}
 
 -- ---- one character

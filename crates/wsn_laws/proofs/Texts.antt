@@ -9,7 +9,7 @@ use Rattle.std.proofs.lemmas.Str.{scalars-chars}
 use Rattle.wsn_print.specs.Json.{string_of, field}
 use Rattle.wsn_print.specs.EscapedText.{quoted}
 use Rattle.wsn_shown_text.specs.AsciiText.{ascii_character, ascii_quoted}
-use Rattle.wsn_shown_text.proofs.JsonTexts.{quoted_is_json}
+use Rattle.wsn_laws.proofs.JsonTexts.{quoted_is_json}
 use Rattle.wsn_laws.specs.JsonText.{Value, Null, True, Number, String, Object, Members, End, Member, IsValue, AreOthers, IsJsonLine}
 use Rattle.wsn_laws.specs.Answers.{IsInU64}
 use Rattle.wsn_laws.proofs.Strings.{are_unescaped, one_after_another, plain_string}

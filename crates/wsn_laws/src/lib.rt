@@ -4,7 +4,9 @@
 //!
 //! [`object_laws`] has the laws of the JSON objects that are printed: each is JSON with distinct names, and an object says
 //! all that its answer does. [`quoted_laws`] has those of quoted texts and comments, and of the lines that they are in;
-//! [`whole_laws`] says with which view a payload is shown whole.
+//! [`whole_laws`] says with which view a payload is shown whole. [`alike_laws`] says what a redaction leaves: two streams
+//! have one redaction exactly if they are alike, which `specs/AlikeStreams.antt` says with no word of redactions.
+//! [`redacted_capture_laws`] has the laws of redacted captures. (More laws are beside the engines, in the modules `laws`.)
 //!
 //! The examples are computed from the definitions. Of `wsn_rules`: refusals in [`verdict_examples`], how streams end and
 //! what they mean in [`stream_examples`], normal forms in [`normal_form_examples`], plans of inputs and recuts in
@@ -13,12 +15,18 @@
 //! [`bad_character_examples`]. Of `wsn_print`: lines and exit statuses in [`printed_lines`], and reports in
 //! [`printed_reports`]. Of `wsn_shown_text`: entries in [`printed_entries`], those for people in [`printed_people`], objects
 //! in [`printed_objects`], and two streams that differ in [`printed_differences`]. Of `wsn_show`: what `show` prints of a
-//! whole capture in [`printed_captures`]. Of `wsn_plan_text`: plan text in [`plan_text_examples`].
+//! whole capture in [`printed_captures`]. Of `wsn_plan_text`: plan text in [`plan_text_examples`]. Of `wsn_capture`: lines
+//! with their first faults in [`line_fault_examples`], and sides of texts in [`side_examples`]. Of `wsn_redact`: redactions
+//! in [`redaction_examples`], redacted lines in [`redacted_capture_examples`], and what is alike and what isn't in
+//! [`alike_examples`].
 #![tactic(auto)]
 
+pub mod alike_examples;
+pub mod alike_laws;
 pub mod bad_character_examples;
 pub mod capture_examples;
 pub mod fault_examples;
+pub mod line_fault_examples;
 pub mod normal_form_examples;
 pub mod object_laws;
 pub mod offset_examples;
@@ -32,7 +40,11 @@ pub mod printed_objects;
 pub mod printed_people;
 pub mod printed_reports;
 pub mod quoted_laws;
+pub mod redacted_capture_examples;
+pub mod redacted_capture_laws;
+pub mod redaction_examples;
 pub mod shown_examples;
+pub mod side_examples;
 pub mod stream_examples;
 pub mod verdict_examples;
 pub mod whole_laws;

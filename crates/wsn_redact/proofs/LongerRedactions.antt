@@ -28,7 +28,7 @@ use Rattle.wsn_redact.proofs.OneRedaction.{rest_is_one}
 use Rattle.std.proofs.Math.Seq.{take-append-add}
 use Rattle.wsn_redact.proofs.HeadsAlike.{payload_prefix}
 use Rattle.wsn_redact.proofs.QuietPayloads.{take_wire}
-use Rattle.wsn_redact.proofs.AlikeRedactions.{begun_by, redaction_at}
+use Rattle.wsn_redact.proofs.KnownParts.{begun_by, redaction_at}
 
 -- The longer list begins with the shorter one.
 abbrev Continues : List ℕ → List ℕ → Type 0

@@ -2,13 +2,9 @@
 pub mod StandIns
 pub mod Redaction
 pub mod Redacting
--- streams that differ only in what was said
-pub mod AlikeStreams
-pub mod AlikeItems
 -- the redaction of a capture
 pub mod ExtensionNames
 pub mod RedactedCaptures
-pub mod AlikeCaptures
 pub mod RedactingCaptures
 pub mod PassedRedactions
 -- what is kept between the parts of frames

@@ -6,7 +6,7 @@ use crate::redacted_line::LINE_ROOM;
 
 /// What a byte of a list of extensions is within.
 #[derive(Clone, Copy)]
-enum Within {
+pub enum Within {
     /// A name, or what is between names.
     Name,
     /// A parameter's value, or what follows a name that is no token.

@@ -10,13 +10,8 @@
 //! written.
 #![tactic(auto)]
 
-pub mod alike_examples;
-pub mod alike_laws;
-pub mod capture_examples;
-pub mod capture_laws;
 mod capture_redacting;
 mod capture_redactor;
-pub mod examples;
 mod extension_names;
 pub mod laws;
 mod redacted_line;
@@ -26,5 +21,6 @@ mod stand_ins;
 
 pub use capture_redacting::{RedactStop, redact_capture};
 pub use capture_redactor::CaptureRedactor;
+pub use extension_names::Within;
 pub use redacted_line::{LINE_ROOM, redact_line};
 pub use redacting::redact;

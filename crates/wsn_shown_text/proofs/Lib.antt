@@ -1,6 +1,5 @@
 pub mod CharacterPieces
 pub mod HeldViews
-pub mod JsonTexts
 pub mod VisibleTexts
 pub mod TextFronts
 pub mod Entries

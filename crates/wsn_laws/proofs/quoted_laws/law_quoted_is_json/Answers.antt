@@ -1,4 +1,4 @@
-use Rattle.wsn_shown_text.proofs.JsonTexts.{quoted_is_json, one_text}
+use Rattle.wsn_laws.proofs.JsonTexts.{quoted_is_json, one_text}
 use Rattle.wsn_laws.proofs.quoted_laws.law_quoted_is_json.Goals as goal
 
 pub returns-clause-is : goal.returns-clause-is

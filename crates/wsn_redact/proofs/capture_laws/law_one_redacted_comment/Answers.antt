@@ -1,5 +1,0 @@
-use Rattle.wsn_redact.proofs.OneRedactedCapture.{one_nothing}
-use Rattle.wsn_redact.proofs.capture_laws.law_one_redacted_comment.Goals as goal
-
-pub returns : goal.returns
-returns c = one_nothing

@@ -1,9 +1,0 @@
-use Rattle.wsn_redact.proofs.SameLines.{capture_alike}
-use Rattle.wsn_redact.proofs.CapturesTwice.{redacted_accepted}
-use Rattle.wsn_redact.proofs.capture_laws.law_redacted_lines_are_alike.Goals as goal
-
-pub returns-clause-accepted : goal.returns-clause-accepted
-returns-clause-accepted c = λ limits lines redacted is. (is.others, redacted_accepted limits lines redacted is)
-
-pub returns-clause-alike : goal.returns-clause-alike
-returns-clause-alike c = capture_alike
