@@ -8,6 +8,9 @@
 //! who reset the connection and the names of extensions. A [`CaptureRedactor`] does so line by line.
 //! `specs/RedactedCaptures.antt` defines what becomes of the lines, and `specs/RedactingCaptures.antt` what is answered and
 //! written.
+//!
+//! [`laws`] has what follows from the definition of a redaction. What a redaction leaves, the laws of captures, and computed
+//! examples are in the crate `wsn_laws`.
 #![tactic(auto)]
 
 mod capture_redacting;
