@@ -5,7 +5,7 @@ use wsn_hint::Hint;
 
 /// A hint on one of the two inputs that are compared. It is printed as one line without its LF, which names the input as
 /// the help of `same` does.
-#[derive(Clone, Copy, Debug, PartialEq, Eq)]
+#[derive(Clone, Copy)]
 pub struct ComparedHint {
     is_second: bool,
     hint: Option<Hint>,

@@ -1,7 +1,7 @@
 ghost use Rattle.std.specs.Prelude.{◌≤◌, length};
 
 /// Which rule that clap doesn't check the words of a command line break.
-#[derive(Clone, Copy, Debug, PartialEq, Eq)]
+#[derive(Clone, Copy)]
 pub enum Mistake {
     /// `recut` has neither `--plan` nor `--size`.
     NoPlanOrSize,

@@ -56,7 +56,7 @@ pub struct PlannedRecut {
 }
 
 /// How entries of `show` are laid out.
-#[derive(Clone, Copy, Debug, PartialEq, Eq)]
+#[derive(Clone, Copy)]
 pub enum EntryLayout {
     /// For people on a terminal where they are coloured, and otherwise as lines.
     Auto,

@@ -3,7 +3,7 @@ use std::fmt::{self, Display, Formatter};
 use std::io::ErrorKind;
 
 /// Why a file can't be read.
-#[derive(Clone, Copy, Debug, PartialEq, Eq)]
+#[derive(Clone, Copy)]
 pub enum Unread {
     /// There is none of this name.
     Missing,

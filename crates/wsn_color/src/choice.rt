@@ -2,7 +2,7 @@ ghost use Rattle.std.specs.Prelude.{◌≡◌};
 ghost use Rattle.wsn_color.specs.Choices.{is_vt, names_colors, paints};
 
 /// When answers are painted.
-#[derive(Clone, Copy, Debug, PartialEq, Eq)]
+#[derive(Clone, Copy)]
 pub enum ColorChoice {
     /// On a terminal.
     Auto,

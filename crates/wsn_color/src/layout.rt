@@ -1,5 +1,5 @@
 /// Which lines are painted.
-#[derive(Clone, Copy, Debug, PartialEq, Eq)]
+#[derive(Clone, Copy)]
 pub enum Layout {
     /// The lines of `show`, `closing`, `frames` and `judge`: words between spaces.
     Answer,

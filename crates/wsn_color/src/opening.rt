@@ -5,7 +5,7 @@ ghost use Rattle.wsn_color.specs.Tones.{begins_comment, later_tone, name_tone, o
 use crate::tone::Tone;
 
 /// What a line of an answer is about, by its first word.
-#[derive(Clone, Copy, Debug, PartialEq, Eq)]
+#[derive(Clone, Copy)]
 pub(crate) enum Opening {
     Client,
     Server,

@@ -4,7 +4,7 @@ ghost use Rattle.wsn_color.specs.Tones.{code_of, end_code};
 
 /// How a part of a line is shown. The colours are of the 256 that are the same on all terminals, and are read on dark and
 /// on light grounds.
-#[derive(Clone, Copy, Debug, PartialEq, Eq)]
+#[derive(Clone, Copy)]
 pub(crate) enum Tone {
     /// What the client said: blue.
     Client,

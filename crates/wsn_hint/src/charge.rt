@@ -1,5 +1,5 @@
 /// What an endpoint accuses the other of by the code of its Close (RFC 6455 section 7.4.1).
-#[derive(Clone, Copy, Debug, PartialEq, Eq)]
+#[derive(Clone, Copy)]
 pub enum Charge {
     /// It broke the protocol: 1002.
     Protocol,

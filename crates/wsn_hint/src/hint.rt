@@ -4,7 +4,7 @@ use crate::charge::Charge;
 use wsn_wire::Role;
 
 /// An everyday mistake: what an input is by its first bytes, where a command reads something else.
-#[derive(Clone, Copy, Debug, PartialEq, Eq)]
+#[derive(Clone, Copy)]
 pub enum Hint {
     /// No byte came.
     Empty,

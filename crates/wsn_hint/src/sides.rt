@@ -75,8 +75,8 @@ fn is_weak(hint: Option<Hint>) -> bool
     ensures { IsTrue result ↔ IsWeak hint }
 {
     match hint {
-        None => true,
-        Some(hint) => hint == Hint::NotUtf8,
+        None | Some(Hint::NotUtf8) => true,
+        Some(_) => false,
     }
 }
 
