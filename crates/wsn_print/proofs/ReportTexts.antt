@@ -26,6 +26,10 @@ word_short TextBad = omega arith
 word_short TextCut = omega arith
 word_short TooManyFrames = omega arith
 
+-- A line with a word that is this one.
+pub worded : (t u name word is : List ℕ) → u ≡ t ++ report_line name word → word ≡ is → u ≡ t ++ report_line name is
+worded t u name word is pushed same = pushed ∙ ap (λ (w : List ℕ). t ++ report_line name w) same
+
 -- One line is appended.
 push : (t so_far u line : List ℕ) → t ≡ so_far → u ≡ t ++ line → u ≡ so_far ++ line
 push t so_far u line is pushed = pushed ∙ ap (λ (bs : List ℕ). bs ++ line) is

@@ -58,6 +58,10 @@ least_is least c is = grind (arith, nat_tests)
 from_least : (least c more : ℕ) → least ≤ c → hidden_from least c more ≡ hidden_in c more
 from_least least c more is = ap (λ (passes : Bool). if passes && is_hidden c then Some (c, more) else None) (least_passes least c is)
 
+lacks : (a b : Bool) → b ≡ false → (a && b) ≡ false
+lacks true b isnt = isnt
+lacks false b isnt = refl
+
 first_form : (a : Bool) (w x : Option (ℕ × ℕ)) → a ≡ true → (if a then w else x) ≡ w
 first_form true w x is = refl
 first_form false w x is = absurd cc
@@ -279,7 +283,18 @@ pub found_within : (text : List ℕ) (found : Option (ℕ × ℕ)) → 0 < lengt
 found_within text None some is = tt
 found_within text (Some hidden) some is = hidden_within text hidden.0 hidden.1 some (sym is)
 
+pub found_character : (b second third fourth : ℕ) (found : Option (ℕ × ℕ)) → found ≡ hidden_of b second third fourth → IfSome found (λ hidden. hidden.0 < 0x110000)
+found_character b second third fourth None is = tt
+found_character b second third fourth (Some hidden) is = hidden_number b second third fourth hidden.0 hidden.1 (sym is)
+
 -- ---- by the bytes that begin the text
+
+pub of_one : (b second third fourth : ℕ) → b < 0x80 → hidden_of b second third fourth ≡ hidden_from 0 b 0
+of_one b second third fourth low = first_form _ (hidden_from 0 b 0) _ (small b low)
+
+pub of_two : (b second third fourth : ℕ) → 0xc2 ≤ b → b ≤ 0xdf → is_continuation second ≡ true → hidden_of b second third fourth ≡ hidden_from 0x80 (two b second) 1
+of_two b second third fourth low high one =
+    second_form _ _ _ (hidden_from 0x80 (two b second) 1) _ (large b (omega arith)) (both _ _ (from_is 0xc2 0xdf b low high) one)
 
 pub of_three : (b second third fourth : ℕ) → 0xe0 ≤ b → b ≤ 0xef → is_continuation second ≡ true → is_continuation third ≡ true
     → hidden_of b second third fourth ≡ hidden_from 0x800 (three b second third) 2
@@ -307,3 +322,26 @@ of_none b second third fourth low other =
     (large b low) (not_both _ _ (from_isnt 0xc2 0xdf b (λ least most. omega (arith, other least))))
     (not_both _ _ (from_isnt 0xe0 0xef b (λ least most. omega (arith, other (let more : 0xc2 ≤ b = omega arith in more)))))
     (not_both _ _ (from_isnt 0xf0 0xf4 b (λ least most. omega (arith, other (let more : 0xc2 ≤ b = omega arith in more))))))
+
+-- Nor with bytes of which one doesn't continue it.
+pub of_no_second : (b second third fourth : ℕ) → 0x80 ≤ b → is_continuation second ≡ false → None ≡ hidden_of b second third fourth
+of_no_second b second third fourth low isnt =
+    sym (no_form (nat_lt b 0x80) (is_from 0xc2 0xdf b && is_continuation second) (is_from 0xe0 0xef b && (is_continuation second && is_continuation third))
+    (is_from 0xf0 0xf4 b && (is_continuation second && (is_continuation third && is_continuation fourth)))
+    (hidden_from 0 b 0) (hidden_from 0x80 (two b second) 1) (hidden_from 0x800 (three b second third) 2) (hidden_from 0x10000 (four b second third fourth) 3)
+    (large b low) (lacks _ _ isnt) (lacks _ _ (not_both _ _ isnt)) (lacks _ _ (not_both _ _ isnt)))
+
+pub of_no_third : (b second third fourth : ℕ) → 0xe0 ≤ b → is_continuation third ≡ false → None ≡ hidden_of b second third fourth
+of_no_third b second third fourth low isnt =
+    sym (no_form (nat_lt b 0x80) (is_from 0xc2 0xdf b && is_continuation second) (is_from 0xe0 0xef b && (is_continuation second && is_continuation third))
+    (is_from 0xf0 0xf4 b && (is_continuation second && (is_continuation third && is_continuation fourth)))
+    (hidden_from 0 b 0) (hidden_from 0x80 (two b second) 1) (hidden_from 0x800 (three b second third) 2) (hidden_from 0x10000 (four b second third fourth) 3)
+    (large b (omega arith)) (not_both _ _ (from_isnt 0xc2 0xdf b (λ least most. omega arith))) (lacks _ _ (lacks _ _ isnt)) (lacks _ _ (lacks _ _ (not_both _ _ isnt))))
+
+pub of_no_fourth : (b second third fourth : ℕ) → 0xf0 ≤ b → is_continuation fourth ≡ false → None ≡ hidden_of b second third fourth
+of_no_fourth b second third fourth low isnt =
+    sym (no_form (nat_lt b 0x80) (is_from 0xc2 0xdf b && is_continuation second) (is_from 0xe0 0xef b && (is_continuation second && is_continuation third))
+    (is_from 0xf0 0xf4 b && (is_continuation second && (is_continuation third && is_continuation fourth)))
+    (hidden_from 0 b 0) (hidden_from 0x80 (two b second) 1) (hidden_from 0x800 (three b second third) 2) (hidden_from 0x10000 (four b second third fourth) 3)
+    (large b (omega arith)) (not_both _ _ (from_isnt 0xc2 0xdf b (λ least most. omega arith))) (not_both _ _ (from_isnt 0xe0 0xef b (λ least most. omega arith)))
+    (lacks (is_from 0xf0 0xf4 b) _ (lacks (is_continuation second) _ (lacks (is_continuation third) _ isnt))))

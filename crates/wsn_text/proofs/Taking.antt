@@ -32,6 +32,16 @@ stays_dead : (state : State) (taken back : List ℕ) → HasValidated state take
 stays_dead state taken back has dead =
     record { continues = λ more. (λ text. absurd (ends_dead state taken has dead (begins_front taken (back ++ more) (text_begins _ (subst IsText (append_assoc taken back more) text)))), λ follows. absurd (dead more follows)) }
 
+-- Where none may follow, no byte is taken.
+pub breaks_dead : (state : State) (chunk : List ℕ) → Dead state → Breaks state state chunk 0
+breaks_dead state chunk dead =
+    record {
+      taken = λ taken has. stays_dead state taken chunk has dead;
+      ends = λ taken has begins. ends_dead state taken has dead (begins_front taken chunk begins);
+      first = λ taken has begins. absurd (ends_dead state taken has dead begins);
+      later = λ taken has ends. refl;
+    }
+
 pub takes_nothing : (state : State) → Live state → Validates state state []
 takes_nothing state live =
     record {

@@ -1,4 +1,5 @@
 use Rattle.std.proofs.Common.{◌≡◌, ◌++◌, ◌+◌, ◌<◌, ◌≤◌, ℕ, Bool, true, false, cond, List, length, take, get_or, ap, sym, ◌∙◌, refl, arith, append_assoc}
+use Rattle.std.proofs.lemmas.Grind.{common_steps}
 use mir.Val.{bool_byte}
 use Rattle.std.specs.Prelude.{flat_map}
 use Rattle.wsn_print.specs.Runs.{escaped_byte, takes_backslash}
@@ -35,3 +36,6 @@ loop-byte-preserved c =
           c.loop-byte-test.true refl known.written
           (byte_written escapes x c.from-marked.result _ _ _ mark c.put_front-at.ensures.written c.put-at.ensures.written);
     }
+
+pub returns-clause-written : goal.returns-clause-written
+returns-clause-written c = grind (arith, common_steps)

@@ -15,3 +15,6 @@ returns-in-Live c =
 
 pub returns-in-Complete : goal.returns-in-Complete
 returns-in-Complete c = grind (arith, common_steps)
+
+pub returns-in-Clean : goal.returns-in-Clean
+returns-in-Clean c = grind (arith, common_steps)

@@ -1,4 +1,5 @@
-use Rattle.std.proofs.Common.{◌≡◌, ◌++◌, ℕ, List, codes, sym, ap₂, ◌∙◌, subst, append_assoc}
+use Rattle.std.proofs.Common.{◌≡◌, ◌++◌, ℕ, List, codes, sym, ap₂, ◌∙◌, subst, append_assoc, arith}
+use Rattle.std.proofs.lemmas.Grind.{common_steps}
 use Rattle.std.specs.Prelude.{flat_map}
 use Rattle.std.specs.Str.{IsUtf8, chars}
 use Rattle.wsn_io.specs.Transfer.{IsPartlyWritten}
@@ -61,3 +62,9 @@ returns-clause-text g c = λ utf8.
     let all = gathers_on c.args.to.now c.hold_escaped.new.to c.make_room.new.to (begun_text before c.args.text.now) c.hold_escaped.new.held c.make_room.new.self c.add_mark-2.new.self (codes "\"") one
     (room.0, room.1, room.2) c.add_mark-2.ensures in
     (all.0, all.1 ∙ ended before c.args.text.now, all.2)
+
+pub returns-clause-room : goal.returns-clause-room
+returns-clause-room g c = grind (arith, common_steps)
+
+pub returns-in_err-make_room-clause-unfailed : goal.returns-in_err-make_room-clause-unfailed
+returns-in_err-make_room-clause-unfailed g c = grind (arith, common_steps)

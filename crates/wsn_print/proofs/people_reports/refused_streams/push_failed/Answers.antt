@@ -1,4 +1,5 @@
-use Rattle.std.proofs.Common.{◌≡◌, ℕ, Bool, true, List, [], ◌++◌, ◌∙◌, ap, sym, codes}
+use Rattle.std.proofs.Common.{◌≡◌, ℕ, Bool, true, List, [], ◌++◌, ◌∙◌, ap, sym, codes, arith}
+use Rattle.std.proofs.lemmas.Grind.{common_steps}
 use Rattle.std.specs.Prelude.{if◌then◌else◌}
 use Rattle.wsn_wire.specs.declared.endpoint.Role.TheVariants.{Client, Server}
 use Rattle.wsn_rules.specs.declared.closing_handshake.Side.{Side}
@@ -20,3 +21,6 @@ returns-then-are_exchanged c =
     exchanged_sentence (codes "\nNext: ") exchange_command (codes "\n")
     c.push.ensures.text c.push-then-are_exchanged.ensures.text c.push-then-are_exchanged-2.ensures.text c.push-then-are_exchanged-3.ensures.text
     ∙ exchanged c.args.lines.now c.args.client.now c.args.server.now (sym c.are_exchanged.ensures ∙ c.if-are_exchanged.true)
+
+pub returns-else-are_exchanged : goal.returns-else-are_exchanged
+returns-else-are_exchanged c = grind (arith, common_steps)

@@ -1,4 +1,5 @@
 use Rattle.std.proofs.Common.{◌≡◌, ℕ, ◌+◌, ◌-◌, List, Result, Err, length, take, drop, refl, sym, ◌∙◌, subst, ap, rules, arith}
+use Rattle.std.proofs.lemmas.Grind.{common_steps}
 use Rattle.std.proofs.Math.Seq.{take-length}
 use Rattle.std.proofs.lemmas.List.{take-append-drop}
 use Rattle.std.proofs.lemmas.Result.{err_from_is_err_and}
@@ -29,7 +30,7 @@ pub slice_bounds-take_part-end : goal.slice_bounds-take_part-end
 slice_bounds-take_part-end c = search rules
 
 pub map_err-requires : goal.map_err-requires
-map_err-requires c = search rules
+map_err-requires c = grind (arith, common_steps)
 
 pub returns-in_err-map_err-clause-within : goal.returns-in_err-map_err-clause-within
 returns-in_err-map_err-clause-within c = search rules

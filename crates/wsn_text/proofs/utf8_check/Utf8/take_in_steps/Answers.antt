@@ -1,4 +1,5 @@
-use Rattle.std.proofs.Common.{◌≡◌, Err, length, rules, ap, ◌∙◌}
+use Rattle.std.proofs.Common.{◌≡◌, Err, length, rules, ap, ◌∙◌, arith}
+use Rattle.std.proofs.lemmas.Grind.{common_steps}
 use Rattle.std.proofs.lemmas.Result.{err_from_is_err_and}
 use Rattle.wsn_text.proofs.Taking.{Shifted, answers_after, answers_before}
 use Rattle.wsn_text.proofs.utf8_check.Utf8.take_in_steps.Goals as goal
@@ -16,7 +17,7 @@ pub take_rest-requires : goal.take_rest-requires
 take_rest-requires c = search rules
 
 pub map_err-requires : goal.map_err-requires
-map_err-requires c = search rules
+map_err-requires c = grind (arith, common_steps)
 
 pub returns : goal.returns
 returns c = record {

@@ -1,4 +1,5 @@
 use Rattle.std.proofs.Common.{◌≡◌, ℕ, ◌↔◌, List, [], ◌∷◌, ◌++◌, Option, Some, length, sym, ◌∙◌, subst, ap, append-nil, eqb-true, arith, rules}
+use Rattle.std.proofs.lemmas.Grind.{common_steps}
 use Rattle.std.proofs.lemmas.List.{drop_all}
 use Rattle.wsn_text.specs.Validated.{Validates, Follows}
 use Rattle.wsn_text.specs.Utf8.{Range, IsText}
@@ -19,7 +20,7 @@ pub take_in_steps-requires : goal.take_in_steps-requires
 take_in_steps-requires c = search rules
 
 pub map_err-requires : goal.map_err-requires
-map_err-requires c = search rules
+map_err-requires c = grind (arith, common_steps)
 
 pub take_each-requires : goal.take_each-requires
 take_each-requires c = ([], text-nil)

@@ -1,4 +1,5 @@
-use Rattle.std.proofs.Common.{refl, sym, subst, length, rules}
+use Rattle.std.proofs.Common.{refl, sym, subst, length, rules, arith}
+use Rattle.std.proofs.lemmas.Grind.{common_steps}
 use Rattle.wsn_text.specs.Utf8.{IsText}
 use Rattle.wsn_text.proofs.Taking.{Shifted, answers_after, takes_text}
 use Rattle.wsn_text.proofs.utf8_check.Utf8.take_rest.Goals as goal
@@ -13,7 +14,7 @@ pub take_each-requires-2 : goal.take_each-requires-2
 take_each-requires-2 c = search rules
 
 pub map_err-requires : goal.map_err-requires
-map_err-requires c = search rules
+map_err-requires c = grind (arith, common_steps)
 
 pub returns : goal.returns
 returns c = record {
