@@ -15,3 +15,9 @@ returns-in-None g c role limits came shown small has =
     shows_rest role limits c.feed_unrefused-read.new.scan c.feed_unrefused-read.new.parts c.add-in-None.new.self c.args.context.now c.args.output.now c.feed_unrefused-read.new.output came c.args.chunk.now (take (length there - read) (drop read there)) read shown
     c.add-in-None.ensures left c.feed_unrefused-read.ensures.all c.feed_unrefused-read.ensures.within small
     (c.feed_unrefused-read.ensures.shows role limits came shown (frames_of c.args.context.now.style role limits c.args.scan.now c.args.parts.now came shown (sym c.refusal.ensures ∙ c.in-None.is) has))
+
+pub feed_unrefused-read-requires-clause-begun : goal.feed_unrefused-read-requires-clause-begun
+feed_unrefused-read-requires-clause-begun g c = c.requires.begun (sym c.refusal.ensures ∙ c.in-None.is)
+
+pub feed_unrefused-read-requires-clause-fits : goal.feed_unrefused-read-requires-clause-fits
+feed_unrefused-read-requires-clause-fits g c = c.requires.fits (sym c.refusal.ensures ∙ c.in-None.is)

@@ -89,3 +89,58 @@ returns-in-Some-clause-shows g c role limits came shown frames =
     let wrong = goes_wrong role limits old new chunk after n part came shown c.args.parts.now c.refuse.new.self context c.args.output.now c.refuse.new.output frames refusal is call in
     refused_step role limits old new chunk after n part came shown c.args.parts.now c.refuse.new.self context c.args.output.now c.refuse.new.output frames refusal is call c.refuse.ensures.first
     (c.refuse.ensures.printed role limits frames.done frames.at frames.rest (lawful_done role limits old came frames.done frames.at frames.rest frames.followed) few wrong frames.keeps)
+
+pub returns-in-More-clause-within : goal.returns-in-More-clause-within
+returns-in-More-clause-within g c = (c.follow-count.ensures.call c.follow-count.ensures.in_bytes).within
+
+pub returns-in-More-clause-room : goal.returns-in-More-clause-room
+returns-in-More-clause-room g c = (c.follow-count.ensures.call c.follow-count.ensures.in_bytes).room
+
+pub returns-in-More-clause-kept : goal.returns-in-More-clause-kept
+returns-in-More-clause-kept g c = c.follow-count.ensures.kept
+
+pub returns-in-Closed-clause-within : goal.returns-in-Closed-clause-within
+returns-in-Closed-clause-within g c = (c.follow-count.ensures.call c.follow-count.ensures.in_bytes).within
+
+pub returns-in-Closed-clause-room : goal.returns-in-Closed-clause-room
+returns-in-Closed-clause-room g c = (c.follow-count.ensures.call c.follow-count.ensures.in_bytes).room
+
+pub returns-in-Closed-clause-kept : goal.returns-in-Closed-clause-kept
+returns-in-Closed-clause-kept g c = c.follow-count.ensures.kept
+
+pub returns-in-Part-clause-within : goal.returns-in-Part-clause-within
+returns-in-Part-clause-within g c = (c.follow-count.ensures.call c.follow-count.ensures.in_bytes).within
+
+pub returns-in-Part-clause-room : goal.returns-in-Part-clause-room
+returns-in-Part-clause-room g c = (c.follow-count.ensures.call c.follow-count.ensures.in_bytes).room
+
+pub returns-in-Part-clause-kept : goal.returns-in-Part-clause-kept
+returns-in-Part-clause-kept g c = c.follow-count.ensures.kept
+
+pub returns-in-Some-clause-within : goal.returns-in-Some-clause-within
+returns-in-Some-clause-within g c = (c.follow-count.ensures.call c.follow-count.ensures.in_bytes).within
+
+pub returns-in-Some-clause-room : goal.returns-in-Some-clause-room
+returns-in-Some-clause-room g c = (c.follow-count.ensures.call c.follow-count.ensures.in_bytes).room
+
+pub returns-in-Some-clause-kept : goal.returns-in-Some-clause-kept
+returns-in-Some-clause-kept g c = c.follow-count.ensures.kept
+
+pub returns-in_default-clause-within : goal.returns-in_default-clause-within
+returns-in_default-clause-within g c = (c.follow-count.ensures.call c.follow-count.ensures.in_bytes).within
+
+pub returns-in_default-clause-room : goal.returns-in_default-clause-room
+returns-in_default-clause-room g c = (c.follow-count.ensures.call c.follow-count.ensures.in_bytes).room
+
+pub returns-in_default-clause-kept : goal.returns-in_default-clause-kept
+returns-in_default-clause-kept g c = c.follow-count.ensures.kept
+
+pub returns-in-Some-clause-progress : goal.returns-in-Some-clause-progress
+returns-in-Some-clause-progress g c showing none =
+    consumes_some showing.role showing.limits c.args.scan.now c.follow-count.new.self c.args.chunk.now c.follow-count.new.chunk c.follow-count.result.0 c.follow-count.result.1 c.follow-count.new.part showing.came showing.frames.done showing.frames.at showing.frames.rest
+    showing.frames.followed (c.follow-count.ensures.call c.follow-count.ensures.in_bytes) c.requires.some none
+
+pub returns-in_default-clause-progress : goal.returns-in_default-clause-progress
+returns-in_default-clause-progress g c showing none =
+    consumes_some showing.role showing.limits c.args.scan.now c.follow-count.new.self c.args.chunk.now c.follow-count.new.chunk c.follow-count.result.0 c.follow-count.result.1 c.follow-count.new.part showing.came showing.frames.done showing.frames.at showing.frames.rest
+    showing.frames.followed (c.follow-count.ensures.call c.follow-count.ensures.in_bytes) c.requires.some none

@@ -101,3 +101,18 @@ returns-clause-printed g c limits style first came has =
     let all : c.loop-taken.taken ≡ length c.args.chunk.now = omega (arith, c.loop-taken.invariant.within, c.loop-taken-test.false) in
     subst (λ (bs : List ℕ). HasPrinted limits style first c.loop-taken.view c.loop-taken.lines c.loop-taken.output (came ++ bs))
     (ap (λ (k : ℕ). take k c.args.chunk.now) all ∙ take_all (length c.args.chunk.now) c.args.chunk.now (omega arith)) (c.loop-taken.invariant.printed limits style first came has)
+
+pub returns-clause-few : goal.returns-clause-few
+returns-clause-few g c = c.loop-taken.invariant.few
+
+pub returns-clause-short : goal.returns-clause-short
+returns-clause-short g c = c.loop-taken.invariant.short
+
+pub returns-clause-writable : goal.returns-clause-writable
+returns-clause-writable g c = c.loop-taken.invariant.writable
+
+pub show_line-requires-clause-few : goal.show_line-requires-clause-few
+show_line-requires-clause-few g c = c.loop-taken.invariant.few
+
+pub show_line-requires-clause-writable : goal.show_line-requires-clause-writable
+show_line-requires-clause-writable g c = c.loop-taken.invariant.writable

@@ -1,4 +1,5 @@
 use Rattle.std.proofs.Common.{◌≡◌, ◌++◌, Result, Ok, Err, [], take, refl, sym, ap, ◌∙◌, subst, arith, length-append, length-take-le, rules}
+use Rattle.std.proofs.lemmas.Result.{err_from_is_err_and}
 use Rattle.wsn_io.specs.declared.stop.Stop.{Stop}
 use Rattle.wsn_rules.specs.declared.verdict.Verdict.{Verdict}
 use Rattle.wsn_rules.specs.Verdict.{IsVerdict}
@@ -22,12 +23,13 @@ pub slice_bounds-next-end : goal.slice_bounds-next-end
 slice_bounds-next-end g c = search rules
 
 pub next-requires : goal.next-requires
-next-requires g c = search rules
+next-requires g c = omega (arith, c.loop-len.invariant.size)
 
 pub returns-in_err-len : goal.returns-in_err-len
 returns-in_err-len g c =
     let read = c.loop-len.invariant.read in
-    let is : c.from_residual.result ≡ Err c.in_err-len.field-0.0 = search rules in
+    let out = err_from_is_err_and c.from_residual.result c.from_residual.ensures.1 in
+    let is : c.from_residual.result ≡ Err c.in_err-len.field-0.0 = out.1 ∙ ap Err out.2 in
     subst (λ (r : Result Verdict Stop). IsStreamShown c.args.role c.args.limits c.args.style c.args.input.now c.next.new.input c.args.output.now c.loop-len.output r) (sym is)
     (stopped c.args.role c.args.limits c.args.style c.args.input.now c.loop-len.input c.loop-len.chunks c.args.output.now c.loop-len.output c.loop-len.stream read.0 read.1
     c.next.new.input c.in_err-len.field-0.0 (c.in_err-len.ensures.next c.args.limits c.args.input.now read.0 read.1.come))
@@ -62,10 +64,10 @@ returns-then-failed g c =
     let viewed = c.take.ensures.viewed c.args.role c.args.limits c.args.style read.0 read.1.viewed in
     let shows = c.take.ensures.printed c.args.role c.args.limits c.args.style read.0 read.1.viewed in
     write_failed c.args.role c.args.limits c.args.style c.args.input.now c.loop-len.input c.loop-len.chunks c.args.output.now c.loop-len.output c.loop-len.stream read.0 read.1
-    c.next.new.input c.next.new.self (take c.in-Some.len c.next.new.buffer) got.come (short_chunk got (c.next.auto.buffer ∙ c.loop-len.invariant.size)) c.take.new.self c.take.new.output viewed shows (search rules)
+    c.next.new.input c.next.new.self (take c.in-Some.len c.next.new.buffer) got.come (short_chunk got (c.next.auto.buffer ∙ c.loop-len.invariant.size)) c.take.new.self c.take.new.output viewed shows (sym c.failed.ensures ∙ c.if-failed.true)
 
 pub put_answer-requires : goal.put_answer-requires
-put_answer-requires g c = search rules
+put_answer-requires g c = sym c.failed.ensures ∙ c.if-failed.false
 
 pub returns-in-Refused : goal.returns-in-Refused
 returns-in-Refused g c =
@@ -79,7 +81,7 @@ returns-in-Refused g c =
     let put = subst (λ (v : Verdict). IsEnded c.args.style.format c.take.new.output c.put_answer.new.output v c.put_answer.result) c.in-Refused.is
     (subst (λ (s : Style). IsEnded s.format c.take.new.output c.put_answer.new.output c.verdict-verdict.result c.put_answer.result) own_style c.put_answer.ensures) in
     refuses c.args.role c.args.limits c.args.style c.args.input.now c.loop-len.input c.loop-len.chunks c.args.output.now c.loop-len.output c.loop-len.stream read.0 read.1
-    c.next.new.input c.next.new.self (take c.in-Some.len c.next.new.buffer) got.come (short_chunk got (c.next.auto.buffer ∙ c.loop-len.invariant.size)) c.take.new.self c.take.new.output viewed shows (search rules)
+    c.next.new.input c.next.new.self (take c.in-Some.len c.next.new.buffer) got.come (short_chunk got (c.next.auto.buffer ∙ c.loop-len.invariant.size)) c.take.new.self c.take.new.output viewed shows (sym c.failed.ensures ∙ c.if-failed.false)
     is.0 c.in-Refused.field-0 refused c.put_answer.new.output c.put_answer.result put
 
 pub loop-len-smaller : goal.loop-len-smaller
@@ -96,7 +98,7 @@ loop-len-preserved g c =
       read = (
         read.0 ++ take c.in-Some.len c.next.new.buffer,
         goes_on c.args.role c.args.limits c.args.style c.args.input.now c.loop-len.input c.loop-len.chunks c.args.output.now c.loop-len.output c.loop-len.stream read.0 read.1
-            c.next.new.input c.next.new.self (take c.in-Some.len c.next.new.buffer) got.come (short_chunk got (c.next.auto.buffer ∙ c.loop-len.invariant.size)) c.take.new.self c.take.new.output viewed shows (search rules)
+            c.next.new.input c.next.new.self (take c.in-Some.len c.next.new.buffer) got.come (short_chunk got (c.next.auto.buffer ∙ c.loop-len.invariant.size)) c.take.new.self c.take.new.output viewed shows (sym c.failed.ensures ∙ c.if-failed.false)
             is.0 c.verdict-verdict.result is.1 c.in_default-verdict.not-Refused,
       );
       size = same_size c.in-Some.len c.next.new.buffer c.take.new.bytes got.in_buffer c.take.auto.bytes ∙ c.next.auto.buffer ∙ c.loop-len.invariant.size;

@@ -31,7 +31,7 @@ pub returns-in_err-entry-clause-count : goal.returns-in_err-entry-clause-count
 returns-in_err-entry-clause-count g c = search rules
 
 pub show_nothing-requires-clause-writable : goal.show_nothing-requires-clause-writable
-show_nothing-requires-clause-writable g c = search rules
+show_nothing-requires-clause-writable g c = c.requires.writable
 
 pub show_nothing-requires-clause-nothing : goal.show_nothing-requires-clause-nothing
 show_nothing-requires-clause-nothing g c =
@@ -50,7 +50,7 @@ slice_bounds-show_bytes-end g c =
     search rules
 
 pub show_bytes-requires-clause-writable : goal.show_bytes-requires-clause-writable
-show_bytes-requires-clause-writable g c = search rules
+show_bytes-requires-clause-writable g c = c.requires.writable
 
 pub show_bytes-requires-clause-can_show : goal.show_bytes-requires-clause-can_show
 show_bytes-requires-clause-can_show g c =
