@@ -13,7 +13,6 @@ impl Scan {
     ghost use Rattle.wsn_rules.specs.Verdict.{IsVerdict};
 
     /// The verdict on the bytes consumed so far, as if the input ended here (RFC 6455 sections 5 and 7).
-    #[tactic(auto, using(crate::proofs::HeadsSoFar::heads_reported))]
     pub fn finish(&self) -> Verdict
         ensures verdict { (role : _) (limits : _) (bytes rest : List ℕ) (fs : List Frame) (at : Position) →
             HasScanned role limits self.now bytes fs rest at → IsVerdict role limits bytes fs result }

@@ -1,4 +1,5 @@
 use Rattle.std.proofs.Common.{refl, sym, ◌∙◌, arith}
+use Rattle.std.proofs.lemmas.Grind.{common_steps}
 use Rattle.wsn_scan.specs.declared.part.Taken.TheVariants as taken
 use Rattle.wsn_scan.specs.EventFrames.{whole_part}
 use Rattle.wsn_scan.proofs.EventParts.{op_by_first}
@@ -31,3 +32,6 @@ returns-clause-taken c role limits came fs at h =
             whole = λ _ _. e.whole;
           });
     }
+
+pub event_in-requires-clause-fits : goal.event_in-requires-clause-fits
+event_in-requires-clause-fits c = grind (arith, common_steps)

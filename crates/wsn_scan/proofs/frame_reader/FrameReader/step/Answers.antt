@@ -1,4 +1,5 @@
 use Rattle.std.proofs.Common.{◌≡◌, ◌+◌, refl, arith, rules}
+use Rattle.std.proofs.lemmas.Grind.{elements}
 use Rattle.wsn_scan.specs.declared.part.Taken.TheVariants as taken
 use Rattle.wsn_scan.proofs.ReaderBuffers.{within_limit}
 use Rattle.wsn_scan.proofs.ReaderSteps.{steps}
@@ -23,3 +24,6 @@ part_in-taken-requires-clause-fits c =
 
 pub returns-then-self-clause-taken : goal.returns-then-self-clause-taken
 returns-then-self-clause-taken c = search rules
+
+pub returns-clause-falls : goal.returns-clause-falls
+returns-clause-falls c = grind (arith, elements)

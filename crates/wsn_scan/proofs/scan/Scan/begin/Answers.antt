@@ -1,5 +1,6 @@
 use Rattle.std.proofs.Common.{◌≡◌, ◌+◌, ◌-◌, ◌≤◌, ℕ, nat_eq, true, inl, Ok, Option, List, [], ◌++◌, length, take, drop, refl, sym, ap, ◌∙◌, subst, arith, append_assoc, rules}
 use Rattle.std.proofs.lemmas.Grind.{common_steps}
+use Rattle.std.proofs.lemmas.Bool.{eq-eqb}
 use Rattle.std.proofs.lemmas.List.{length-take-le}
 use borrow.Rule.Slice.PartMut.{mid_of, mid_len, put_mid}
 use Rattle.wsn_wire.specs.declared.refusal.Reason.{Reason}
@@ -60,13 +61,13 @@ returns-clause-taken c role limits bytes rest fs in_chunk has_consumed none some
     let checked = c.new-check.ensures group is_open (goes_on role limits group head (rest ++ take start chunk) is_head) (begins role limits group head (rest ++ take start chunk) is_head) in
     let fed_is = payload_after head.key start end chunk c.unmask.new.bytes (omega arith) within c.unmask.ensures in
     let fed_size = ap (λ (bs : List ℕ). length bs) fed_is ∙ length-unmasked_by head.key 0 wire ∙ size in
-    let yes : c.takes.result ≡ true = search rules in
+    let yes : c.takes.result ≡ true = c.if-not-takes.false in
     let fed : IsChecked group first head.len [] (unmasked_by head.key 0 wire) (Ok c.takes.new.check) =
     subst (λ (bs : List ℕ). IsChecked group first head.len [] bs (Ok c.takes.new.check)) fed_is
     (c.takes.ensures.taken yes group first head.len [] checked (first_byte_fields head.first.fin head.first.op).fin_is (total_is count head.len _ fed_size) (omega (arith, fed_size, c.min-count.ensures))) in
     let quiet : head.len ≡ 0 → (reason : Reason) → EvidentByPayload group reason first 0 [] → ⊥ = λ empty.
     let no_more : count ≡ head.len = omega (arith, c.min-count.ensures, empty) in
-    let last : nat_eq count head.len ≡ true = search (rules, no_more) in
+    let last : nat_eq count head.len ≡ true = eq-eqb count head.len no_more in
     c.takes.ensures.whole yes last (omega (arith, fed_size, c.min-count.ensures, empty)) group first checked (first_byte_fields head.first.fin head.first.op).fin_is in
     let whole : rest ++ came ≡ (rest ++ take start chunk) ++ wire = ap (λ (bs : List ℕ). rest ++ bs) parts ∙ sym (append_assoc rest (take start chunk) wire) in
     let holds = holds_begun role limits group head c.new-check.result c.takes.new.check (rest ++ take start chunk) wire (rest ++ came) whole in_wire is_head checked (omega (arith, size, c.min-count.ensures)) fed quiet in
@@ -114,10 +115,10 @@ pub slice_bounds-takes-start : goal.slice_bounds-takes-start
 slice_bounds-takes-start c = search rules
 
 pub slice_bounds-takes-end : goal.slice_bounds-takes-end
-slice_bounds-takes-end c = search rules
+slice_bounds-takes-end c = grind (arith, common_steps)
 
 pub slice_bounds-unmask-count-then-not-takes : goal.slice_bounds-unmask-count-then-not-takes
-slice_bounds-unmask-count-then-not-takes c = search rules
+slice_bounds-unmask-count-then-not-takes c = grind (arith, common_steps)
 
 pub slice_bounds-unmask-start-then-not-takes : goal.slice_bounds-unmask-start-then-not-takes
 slice_bounds-unmask-start-then-not-takes c = search rules
@@ -132,13 +133,13 @@ pub shape_of-chunk-then-not-takes : goal.shape_of-chunk-then-not-takes
 shape_of-chunk-then-not-takes c = search rules
 
 pub add_part-requires-clause-fits : goal.add_part-requires-clause-fits
-add_part-requires-clause-fits c = search rules
+add_part-requires-clause-fits c = grind (arith, common_steps)
 
 pub add_part-requires-clause-open : goal.add_part-requires-clause-open
 add_part-requires-clause-open c = search rules
 
 pub shape_of-chunk : goal.shape_of-chunk
-shape_of-chunk c = search rules
+shape_of-chunk c = grind (arith, common_steps)
 
 pub returns-clause-start : goal.returns-clause-start
 returns-clause-start c = search rules
@@ -147,5 +148,8 @@ pub returns-clause-part : goal.returns-clause-part
 returns-clause-part c =
     let start = c.args.start in
     let end = start + c.min-count.result in
-    let kept = kept_after_frame c.args.head.now.key start end c.args.chunk.now c.unmask.new.bytes (omega arith) (omega (arith, c.requires.within, c.min-count.ensures)) c.unmask.ensures in
-    ((search rules, kept, search rules), (search rules, grind (arith, common_steps), search rules), search rules)
+    let kept = kept_after_frame c.args.head.now.key start end c.args.chunk.now c.unmask.new.bytes (omega arith) (omega (arith, c.requires.within, c.min-count.ensures)) c.unmask.ensures in (
+      (grind (arith, common_steps), kept, grind (arith, common_steps)),
+      (grind (arith, common_steps), grind (arith, common_steps), grind (arith, common_steps)),
+      grind (arith, common_steps),
+    )

@@ -5,6 +5,7 @@ use Rattle.wsn_wire.proofs.FrameLemmas.{IsBytes-right}
 use Rattle.wsn_rules.specs.Group.{unfinished}
 use Rattle.wsn_rules.specs.Verdict.{IsRefused}
 use Rattle.wsn_scan.specs.Scans.{IsAt}
+use Rattle.wsn_scan.proofs.HeadsSoFar.{heads_reported}
 use Rattle.wsn_scan.proofs.ScanVerdicts.{cut_verdict, between_verdict, some_payload}
 use Rattle.wsn_scan.proofs.WithinFrames.{head_within, payload_within}
 use Rattle.wsn_scan.proofs.scan.Scan.finish.Goals as goal
@@ -32,3 +33,18 @@ returns-in-Payload-clause-verdict c role limits bytes rest fs pos has_scanned =
     let inside = c.in-Payload.field-0 in
     let in_bytes = IsBytes-right (stream fs) rest (subst IsBytes has_scanned.has_consumed.whole has_scanned.has_consumed.in_bytes) in
     rw c.cut-in-Payload.ensures (cut_verdict role limits c.args.self.now bytes rest fs pos c.args.self.now.stage has_scanned at.0 at.1.1.holds.has_no_evidence (payload_within role limits (unfinished fs) inside rest at.1.0 in_bytes at.1.1) (inl (some_payload role limits (unfinished fs) inside rest at.1.0 at.1.1)))
+
+pub returns-in-Refused-clause-heads : goal.returns-in-Refused-clause-heads
+returns-in-Refused-clause-heads c role limits bytes rest fs at has_scanned = heads_reported role limits c.args.self.now bytes rest fs at has_scanned
+
+pub returns-in-Closed-clause-heads : goal.returns-in-Closed-clause-heads
+returns-in-Closed-clause-heads c role limits bytes rest fs at has_scanned = heads_reported role limits c.args.self.now bytes rest fs at has_scanned
+
+pub returns-in-Between-clause-heads : goal.returns-in-Between-clause-heads
+returns-in-Between-clause-heads c role limits bytes rest fs at has_scanned = heads_reported role limits c.args.self.now bytes rest fs at has_scanned
+
+pub returns-in-Head-clause-heads : goal.returns-in-Head-clause-heads
+returns-in-Head-clause-heads c role limits bytes rest fs at has_scanned = heads_reported role limits c.args.self.now bytes rest fs at has_scanned
+
+pub returns-in-Payload-clause-heads : goal.returns-in-Payload-clause-heads
+returns-in-Payload-clause-heads c role limits bytes rest fs at has_scanned = heads_reported role limits c.args.self.now bytes rest fs at has_scanned

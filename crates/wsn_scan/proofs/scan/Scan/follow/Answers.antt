@@ -1,4 +1,5 @@
-use Rattle.std.proofs.Common.{rules}
+use Rattle.std.proofs.Common.{arith, rules}
+use Rattle.std.proofs.lemmas.Grind.{elements}
 use Rattle.wsn_scan.proofs.scan.Scan.follow.Goals as goal
 
 pub next-requires : goal.next-requires
@@ -29,3 +30,6 @@ returns-clause-head c = search rules
 
 pub returns-clause-again : goal.returns-clause-again
 returns-clause-again c = search rules
+
+pub returns-clause-in_bytes : goal.returns-clause-in_bytes
+returns-clause-in_bytes c = grind (arith, elements)

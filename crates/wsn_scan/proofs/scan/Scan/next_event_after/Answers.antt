@@ -1,4 +1,5 @@
 use Rattle.std.proofs.Common.{ℕ, ◌-◌, [], ◌∷◌, true, refl, sym, ap, ◌∙◌, subst, arith, rules}
+use Rattle.std.proofs.lemmas.Grind.{common_steps}
 use Rattle.wsn_wire.specs.Frame.{first_byte}
 use Rattle.wsn_wire.specs.declared.opcode.Op.{Op}
 use Rattle.wsn_scan.specs.declared.part.Taken.TheVariants as taken
@@ -60,7 +61,7 @@ returns-clause-first c = (
 )
 
 pub returns-clause-whole : goal.returns-clause-whole
-returns-clause-whole c = search rules
+returns-clause-whole c = grind (arith, common_steps)
 
 pub returns-clause-reported : goal.returns-clause-reported
 returns-clause-reported c = search rules
@@ -78,16 +79,16 @@ pub returns-then-not-is_idle-clause-reported : goal.returns-then-not-is_idle-cla
 returns-then-not-is_idle-clause-reported c = search rules
 
 pub returns-in_err-frame-clause-part : goal.returns-in_err-frame-clause-part
-returns-in_err-frame-clause-part c = search rules
+returns-in_err-frame-clause-part c = grind (arith, common_steps)
 
 pub returns-in_err-frame-clause-first : goal.returns-in_err-frame-clause-first
-returns-in_err-frame-clause-first c = search rules
+returns-in_err-frame-clause-first c = grind (arith, common_steps)
 
 pub returns-in_err-frame-clause-whole : goal.returns-in_err-frame-clause-whole
-returns-in_err-frame-clause-whole c = search rules
+returns-in_err-frame-clause-whole c = grind (arith, common_steps)
 
 pub returns-in_err-frame-clause-reported : goal.returns-in_err-frame-clause-reported
-returns-in_err-frame-clause-reported c = search rules
+returns-in_err-frame-clause-reported c = grind (arith, common_steps)
 
 pub returns-then-not-is_idle-clause-taken : goal.returns-then-not-is_idle-clause-taken
 returns-then-not-is_idle-clause-taken c = search rules
@@ -108,31 +109,31 @@ pub take_event_after-requires-clause-none_open : goal.take_event_after-requires-
 take_event_after-requires-clause-none_open c = search rules
 
 pub returns-in_err-frame-clause-taken : goal.returns-in_err-frame-clause-taken
-returns-in_err-frame-clause-taken c = search rules
+returns-in_err-frame-clause-taken c = grind (arith, common_steps)
 
 pub returns-in_err-frame-clause-within : goal.returns-in_err-frame-clause-within
 returns-in_err-frame-clause-within c = search rules
 
 pub returns-in_err-frame-clause-kept : goal.returns-in_err-frame-clause-kept
-returns-in_err-frame-clause-kept c = search rules
+returns-in_err-frame-clause-kept c = grind (arith, common_steps)
 
 pub returns-in_err-frame-clause-room : goal.returns-in_err-frame-clause-room
-returns-in_err-frame-clause-room c = search rules
+returns-in_err-frame-clause-room c = grind (arith, common_steps)
 
 pub returns-in_err-frame-clause-none : goal.returns-in_err-frame-clause-none
-returns-in_err-frame-clause-none c = search rules
+returns-in_err-frame-clause-none c = grind (arith, common_steps)
 
 pub overflow_sub-self : goal.overflow_sub-self
-overflow_sub-self c = search rules
+overflow_sub-self c = grind (arith, common_steps)
 
 pub returns-clause-within : goal.returns-clause-within
-returns-clause-within c = search rules
+returns-clause-within c = grind (arith, common_steps)
 
 pub returns-clause-kept : goal.returns-clause-kept
 returns-clause-kept c = search rules
 
 pub returns-clause-room : goal.returns-clause-room
-returns-clause-room c = search rules
+returns-clause-room c = grind (arith, common_steps)
 
 pub take_event_after-requires-clause-first : goal.take_event_after-requires-clause-first
 take_event_after-requires-clause-first c = c.requires.first

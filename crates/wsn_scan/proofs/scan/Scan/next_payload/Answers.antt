@@ -105,37 +105,37 @@ returns-in-Err-clause-taken c role limits bytes rest fs at in_bytes has_scanned 
     rw (c.refuse.ensures.reported.0, c.refuse.ensures.reported.1, c.refuse.ensures.after) (record { frames = fs; since = rest ++ last; position = at; has_scanned = there; found = (refl, refl) }, tt)
 
 pub returns-then-count-eq0-clause-taken : goal.returns-then-count-eq0-clause-taken
-returns-then-count-eq0-clause-taken c = search rules
+returns-then-count-eq0-clause-taken c = grind (arith, common_steps)
 
 pub returns-then-count-eq0-clause-untouched : goal.returns-then-count-eq0-clause-untouched
 returns-then-count-eq0-clause-untouched c = search rules
 
 pub slice_bounds-unmask-end : goal.slice_bounds-unmask-end
-slice_bounds-unmask-end c = search rules
+slice_bounds-unmask-end c = grind (arith, common_steps)
 
 pub slice_bounds-unmask-end-2 : goal.slice_bounds-unmask-end-2
-slice_bounds-unmask-end-2 c = search rules
+slice_bounds-unmask-end-2 c = grind (arith, common_steps)
 
 pub unmask-requires : goal.unmask-requires
-unmask-requires c = search rules
+unmask-requires c = grind (arith, common_steps)
 
 pub slice_bounds-feed-end : goal.slice_bounds-feed-end
-slice_bounds-feed-end c = search rules
+slice_bounds-feed-end c = grind (arith, common_steps)
 
 pub slice_bounds-feed-end-2 : goal.slice_bounds-feed-end-2
-slice_bounds-feed-end-2 c = search rules
+slice_bounds-feed-end-2 c = grind (arith, common_steps)
 
 pub feed-requires : goal.feed-requires
 feed-requires c = search rules
 
 pub overflow_add-done : goal.overflow_add-done
-overflow_add-done c = search rules
+overflow_add-done c = omega arith
 
 pub add_part-requires-clause-fits : goal.add_part-requires-clause-fits
-add_part-requires-clause-fits c = search rules
+add_part-requires-clause-fits c = grind (arith, common_steps)
 
 pub add_part-requires-clause-open : goal.add_part-requires-clause-open
-add_part-requires-clause-open c = search rules
+add_part-requires-clause-open c = grind (arith, common_steps)
 
 pub overflow_add-done-in-Err : goal.overflow_add-done-in-Err
 overflow_add-done-in-Err c = search rules
@@ -144,22 +144,22 @@ pub slice_bounds-unmask-count : goal.slice_bounds-unmask-count
 slice_bounds-unmask-count c = search rules
 
 pub slice_bounds-unmask-start : goal.slice_bounds-unmask-start
-slice_bounds-unmask-start c = search rules
+slice_bounds-unmask-start c = grind (arith, common_steps)
 
 pub slice_bounds-unmask-end-in-Err : goal.slice_bounds-unmask-end-in-Err
-slice_bounds-unmask-end-in-Err c = search rules
+slice_bounds-unmask-end-in-Err c = omega arith
 
 pub unmask-requires-in-Err : goal.unmask-requires-in-Err
 unmask-requires-in-Err c = search rules
 
 pub refuse-requires : goal.refuse-requires
-refuse-requires c = search rules
+refuse-requires c = grind (arith, common_steps)
 
 pub returns-in-Ok-clause-untouched : goal.returns-in-Ok-clause-untouched
 returns-in-Ok-clause-untouched c = search rules
 
 pub returns-in-Err-clause-untouched : goal.returns-in-Err-clause-untouched
-returns-in-Err-clause-untouched c = search rules
+returns-in-Err-clause-untouched c = grind (arith, common_steps)
 
 pub returns-in-Err-clause-refused : goal.returns-in-Err-clause-refused
 returns-in-Err-clause-refused c is role limits bytes rest fs at has_scanned =
@@ -177,7 +177,7 @@ pub returns-then-count-eq0-clause-refused : goal.returns-then-count-eq0-clause-r
 returns-then-count-eq0-clause-refused c = search rules
 
 pub returns-in-Ok-clause-refused : goal.returns-in-Ok-clause-refused
-returns-in-Ok-clause-refused c = search rules
+returns-in-Ok-clause-refused c = grind (arith, common_steps)
 
 pub returns-in-Err-clause-found : goal.returns-in-Err-clause-found
 returns-in-Err-clause-found c = (

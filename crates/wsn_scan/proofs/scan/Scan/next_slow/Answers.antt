@@ -73,7 +73,7 @@ pub returns-in-Closed-clause-taken : goal.returns-in-Closed-clause-taken
 returns-in-Closed-clause-taken c = grind (arith, common_steps)
 
 pub returns-in-Closed-clause-untouched : goal.returns-in-Closed-clause-untouched
-returns-in-Closed-clause-untouched c = search rules
+returns-in-Closed-clause-untouched c = grind (arith, common_steps)
 
 pub returns-in-Refused-clause-taken : goal.returns-in-Refused-clause-taken
 returns-in-Refused-clause-taken c = search rules
@@ -82,13 +82,13 @@ pub returns-in-Refused-clause-untouched : goal.returns-in-Refused-clause-untouch
 returns-in-Refused-clause-untouched c = search rules
 
 pub returns-in-Between-2-clause-again : goal.returns-in-Between-2-clause-again
-returns-in-Between-2-clause-again c = search rules
+returns-in-Between-2-clause-again c = grind (arith, common_steps)
 
 pub returns-in-Head-clause-again : goal.returns-in-Head-clause-again
-returns-in-Head-clause-again c = search rules
+returns-in-Head-clause-again c = grind (arith, common_steps)
 
 pub returns-in-Payload-clause-again : goal.returns-in-Payload-clause-again
-returns-in-Payload-clause-again c = search rules
+returns-in-Payload-clause-again c = grind (arith, common_steps)
 
 pub returns-in-Closed-clause-again : goal.returns-in-Closed-clause-again
 returns-in-Closed-clause-again c = search rules

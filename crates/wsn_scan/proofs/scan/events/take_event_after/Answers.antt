@@ -1,4 +1,5 @@
 use Rattle.std.proofs.Common.{◌≡◌, ◌+◌, ◌-◌, ◌<◌, ◌≤◌, ℕ, List, Option, Ok, true, [], ◌∷◌, ◌++◌, length, take, drop, take-append-drop, ap, refl, sym, ◌∙◌, subst, arith, rules}
+use Rattle.std.proofs.lemmas.Grind.{common_steps}
 use Rattle.std.proofs.lemmas.List.{length-take-le}
 use borrow.Rule.Slice.PartMut.{mid_of, mid_len, put_mid}
 use Rattle.wsn_wire.specs.Frame.{IsBytes, first_byte}
@@ -116,10 +117,10 @@ returns-then-head-eq0-clause-first c =
     (first_of c.args.context.now.role c.args.context.now.limits head c.args.chunk.now start c.in_ok-start.ensures.0 is_head e.plain.0)
 
 pub returns-in_err-frame-clause-first : goal.returns-in_err-frame-clause-first
-returns-in_err-frame-clause-first c = search rules
+returns-in_err-frame-clause-first c = grind (arith, common_steps)
 
 pub returns-in_err-start-clause-first : goal.returns-in_err-start-clause-first
-returns-in_err-start-clause-first c = search rules
+returns-in_err-start-clause-first c = grind (arith, common_steps)
 
 pub returns-then-head-eq0-clause-within : goal.returns-then-head-eq0-clause-within
 returns-then-head-eq0-clause-within c =
@@ -148,19 +149,19 @@ returns-in_err-frame-clause-none c =
     search rules
 
 pub returns-in_err-frame-clause-taken : goal.returns-in_err-frame-clause-taken
-returns-in_err-frame-clause-taken c = search rules
+returns-in_err-frame-clause-taken c = grind (arith, common_steps)
 
 pub returns-in_err-frame-clause-within : goal.returns-in_err-frame-clause-within
-returns-in_err-frame-clause-within c = search rules
+returns-in_err-frame-clause-within c = grind (arith, common_steps)
 
 pub returns-in_err-frame-clause-kept : goal.returns-in_err-frame-clause-kept
-returns-in_err-frame-clause-kept c = search rules
+returns-in_err-frame-clause-kept c = grind (arith, common_steps)
 
 pub slice_bounds-take_empty-end : goal.slice_bounds-take_empty-end
 slice_bounds-take_empty-end c = search rules
 
 pub slice_bounds-take_empty-end-then-head-eq0 : goal.slice_bounds-take_empty-end-then-head-eq0
-slice_bounds-take_empty-end-then-head-eq0 c = search rules
+slice_bounds-take_empty-end-then-head-eq0 c = grind (arith, common_steps)
 
 pub returns-in_err-start-clause-taken : goal.returns-in_err-start-clause-taken
 returns-in_err-start-clause-taken c = search rules
@@ -169,10 +170,10 @@ pub returns-in_err-start-clause-within : goal.returns-in_err-start-clause-within
 returns-in_err-start-clause-within c = search rules
 
 pub returns-in_err-start-clause-kept : goal.returns-in_err-start-clause-kept
-returns-in_err-start-clause-kept c = search rules
+returns-in_err-start-clause-kept c = grind (arith, common_steps)
 
 pub returns-in_err-start-clause-none : goal.returns-in_err-start-clause-none
-returns-in_err-start-clause-none c = search rules
+returns-in_err-start-clause-none c = grind (arith, common_steps)
 
 pub overflow_sub-room : goal.overflow_sub-room
 overflow_sub-room c = search rules
@@ -193,25 +194,25 @@ pub slice_bounds-unmask-end : goal.slice_bounds-unmask-end
 slice_bounds-unmask-end c = search rules
 
 pub unmask-requires : goal.unmask-requires
-unmask-requires c = search rules
+unmask-requires c = omega arith
 
 pub slice_bounds-is_valid-count : goal.slice_bounds-is_valid-count
-slice_bounds-is_valid-count c = search rules
+slice_bounds-is_valid-count c = grind (arith, common_steps)
 
 pub slice_bounds-is_valid-start : goal.slice_bounds-is_valid-start
-slice_bounds-is_valid-start c = search rules
+slice_bounds-is_valid-start c = grind (arith, common_steps)
 
 pub slice_bounds-is_valid-end : goal.slice_bounds-is_valid-end
-slice_bounds-is_valid-end c = search rules
+slice_bounds-is_valid-end c = grind (arith, common_steps)
 
 pub is_valid-requires : goal.is_valid-requires
 is_valid-requires c = record { some = search rules; no_close = (c.is_plain.ensures c.if-not-is_plain.false).1 }
 
 pub slice_bounds-clear_key-end : goal.slice_bounds-clear_key-end
-slice_bounds-clear_key-end c = search rules
+slice_bounds-clear_key-end c = grind (arith, common_steps)
 
 pub slice_bounds-clear_key-end-2 : goal.slice_bounds-clear_key-end-2
-slice_bounds-clear_key-end-2 c = search rules
+slice_bounds-clear_key-end-2 c = grind (arith, common_steps)
 
 pub slice_bounds-unmask-count-then-not-is_valid : goal.slice_bounds-unmask-count-then-not-is_valid
 slice_bounds-unmask-count-then-not-is_valid c = search rules
@@ -229,10 +230,10 @@ pub shape_of-chunk : goal.shape_of-chunk
 shape_of-chunk c = search rules
 
 pub returns-clause-within : goal.returns-clause-within
-returns-clause-within c = search rules
+returns-clause-within c = grind (arith, common_steps)
 
 pub shape_of-chunk-then-not-is_valid : goal.shape_of-chunk-then-not-is_valid
-shape_of-chunk-then-not-is_valid c = search rules
+shape_of-chunk-then-not-is_valid c = grind (arith, common_steps)
 
 pub whole_head_after-requires : goal.whole_head_after-requires
 whole_head_after-requires c = c.requires.first
