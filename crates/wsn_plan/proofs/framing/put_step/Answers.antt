@@ -75,3 +75,13 @@ returns-in-Control g c = record {
       rw (c.in-Control.is, may.3) (c.put_control.ensures.put may.0 may.1 (rw (← c.index-events-walk-in-Control.is) there));
   same = map-set_same kept_meant c.args.events.now c.args.walk.now.event c.put_control.new.event c.index-events-walk-in-Control.result c.put_control.ensures.same;
 }
+
+pub bounds-events-walk-in-Last : goal.bounds-events-walk-in-Last
+bounds-events-walk-in-Last g c =
+    let may = subst (IsApplicable c.args.walk.now (map kept_meant c.args.events.now)) c.in-Last.is c.requires.may in
+    is_within c.args.events.now c.args.walk.now.event _ _ may.3
+
+pub bounds-events-walk-in-Control : goal.bounds-events-walk-in-Control
+bounds-events-walk-in-Control g c =
+    let may = subst (IsApplicable c.args.walk.now (map kept_meant c.args.events.now)) c.in-Control.is c.requires.may in
+    is_within c.args.events.now c.args.walk.now.event _ _ may.3
