@@ -9,7 +9,7 @@ use wsn_cli::terminals::Colors;
 use wsn_cli::{Hint, How, Job, PlannedRecut, Unread, plan_hint_of};
 use wsn_io::{FirstBytes, Input};
 use wsn_job::SidedJob;
-use wsn_plan::{PlanFileFault, read_plan_file};
+use wsn_plan_text::{PlanFileFault, read_plan_file};
 
 /// Recuts the stream in a file by the plan in another and returns the exit status. Both are opened before either is
 /// read, the plan first, and the plan is read whole before the stream; its fault is reported in one line on standard

@@ -4,7 +4,7 @@ ghost use Rattle.wsn_command.specs.Jobs.{MayRecut, key_by_size};
 ghost use Rattle.wsn_command.specs.declared.job.How.TheVariants.{BySize};
 
 use std::alloc::{Allocator, Global};
-use wsn_plan::Plan;
+use wsn_plan_text::Plan;
 use wsn_print::{Format, Style};
 use wsn_rules::Limits;
 use wsn_wire::Role;
