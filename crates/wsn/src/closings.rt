@@ -5,10 +5,10 @@ use std::str;
 use wsn_cli::canvas::Canvas;
 use wsn_cli::named_input::{hold_standard_input, open_named};
 use wsn_cli::pipe::Pipe;
-use wsn_cli::stdio::{FAULT, diagnose_stop};
+use wsn_cli::stdio::{FAULT, OneLine, diagnose_stop};
 use wsn_cli::{Escaped, Format, Layout};
-use wsn_io::{BlockWriter, Stop, TiedWriter};
-use wsn_job::{NamedClosing, OneLine, run_closing_in_blocks};
+use wsn_io::{BlockReader, BlockWriter, Input, Output, Stop, TiedWriter};
+use wsn_job::{NamedClosing, run_named_closing};
 use wsn_rules::Limits;
 
 /// Judges the captures in these files, prints a line or an object for each, and returns the exit status: the greatest of
@@ -79,16 +79,25 @@ fn print_one<R: Runtime, S: Read + Drop, W: Write + Drop>(
     writer: W,
 ) -> Option<u8> {
     let mut diagnosed = OneLine::new();
-    let status = run_closing_in_blocks(closing, input, writer, &mut diagnosed)?;
+    let mut printed = Output::new(writer);
+    let status = run_named_closing(
+        closing,
+        &mut Input::new(BlockReader::new(input)),
+        &mut printed,
+        &mut Output::new(&mut diagnosed),
+    );
+    if printed.failed() {
+        return None;
+    }
     if !diagnosed.is_empty() {
-        report(rt, closing.name, diagnosed.as_slice());
+        report(rt, closing.name, &diagnosed);
     }
     Some(status)
 }
 
 /// Prints what is said of a file on standard error, after its name.
-fn report<R: Eprint>(rt: &R, name: &str, diagnosed: &[u8]) {
-    if let Ok(line) = str::from_utf8(diagnosed) {
+fn report<R: Eprint>(rt: &R, name: &str, diagnosed: &OneLine) {
+    if let Ok(line) = str::from_utf8(diagnosed.as_slice()) {
         let name = Escaped::new(name);
         let _ = eprint!(rt; "{name}: {line}");
     }

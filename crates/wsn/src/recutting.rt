@@ -1,6 +1,6 @@
 ghost use Rattle.std.specs.Prelude.{◌≡◌, IfSome};
 
-use crate::performing::perform_on;
+use crate::performing::{SidedJob, perform_on};
 use std::rt::Runtime;
 use wsn_cli::named_input::{diagnose_unread, hold_standard_input, name_of, open};
 use wsn_cli::printed_hints::give_hint;
@@ -8,7 +8,6 @@ use wsn_cli::stdio::{FAULT, diagnose};
 use wsn_cli::terminals::Colors;
 use wsn_cli::{Hint, How, Job, PlannedRecut, Unread, plan_hint_of};
 use wsn_io::{FirstBytes, Input};
-use wsn_job::SidedJob;
 use wsn_plan_text::{PlanFileFault, read_plan_file};
 
 /// Recuts the stream in a file by the plan in another and returns the exit status. Both are opened before either is

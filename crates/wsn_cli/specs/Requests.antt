@@ -4,7 +4,7 @@ use Rattle.wsn_wire.specs.declared.endpoint.Role.{Role}
 use Rattle.wsn_rules.specs.Limits.{Limits, InRange}
 use Rattle.wsn_print.specs.declared.format.Format.{Format}
 use Rattle.wsn_print.specs.declared.style.Style.{Style}
-use Rattle.wsn_command.specs.Jobs.{IsOwnSide, MayRun}
+use Rattle.wsn_command.specs.Jobs.{MayRun, job_role}
 use Rattle.wsn_command.specs.declared.job.How.{How}
 use Rattle.wsn_command.specs.declared.job.Job.{Job, TheVariants.{Judge, Frames, Normal, Redact, Plan, Recut, Payload, ShowStream, Closing, Show, RedactCapture}}
 use Rattle.wsn_cli.specs.Inputs.{AreApart, dashes}
@@ -67,6 +67,10 @@ job_name (ShowStream role limits style) = codes "show"
 job_name (Closing limits format) = codes "closing"
 job_name (Show limits style) = codes "show"
 job_name (RedactCapture limits) = codes "redact"
+
+-- The side of a capture that is read, if one is, is the stream that the job reads.
+abbrev pub IsOwnSide : {A : Type 0} → Job A → Option Role → Type 0
+IsOwnSide job side = IfSome side (λ role. job_role job ≡ Some role)
 
 -- The request can be carried out: its job may be run, its limits are as above, the side that is read is that of the
 -- endpoint whose stream it is, and at most one input is standard input. Help reads no stream.

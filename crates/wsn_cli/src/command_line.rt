@@ -1,9 +1,9 @@
 ghost use Rattle.std.specs.Prelude.{◌≡◌, ℕ, List, IfOk, codes};
 ghost use Rattle.clap.specs.Words.{found_of};
-ghost use Rattle.wsn_command.specs.Jobs.{IsOwnSide, MayRun, job_role};
+ghost use Rattle.wsn_command.specs.Jobs.{MayRun, job_role};
 ghost use Rattle.wsn_cli.specs.Colors.{IsReadColor, IsReadLayout};
 ghost use Rattle.wsn_cli.specs.Options.{AreInDigits};
-ghost use Rattle.wsn_cli.specs.Requests.{AreAskedLimits, CanBeDone, job_limits};
+ghost use Rattle.wsn_cli.specs.Requests.{AreAskedLimits, CanBeDone, IsOwnSide, job_limits};
 ghost use Rattle.wsn_cli.specs.ReadRequests.{AreReadLimits, IsRead, IsReadJob, IsReadSideOf, IsReadStyle};
 
 use crate::closings::{closings_of, has_several};

@@ -1,6 +1,7 @@
 ghost use Rattle.std.specs.Prelude.{◌≡◌, ◌⊎◌};
 
 use crate::mistake::Mistake;
+use arrayvec::ArrayVec;
 use std::io::{self, ErrorKind, Write};
 use std::rt::Runtime;
 use std::str;
@@ -9,6 +10,9 @@ use wsn_io::Stop;
 
 /// The exit status for a fault.
 pub const FAULT: u8 = 2;
+
+/// A line to be printed later, on standard error: a verdict or a fault.
+pub type OneLine = ArrayVec<u8, 128>;
 
 /// Prints a text on standard error and returns the exit status for a fault. What can't be written is dropped.
 pub fn diagnose<R: Eprint>(rt: &R, text: &str) -> u8
@@ -62,8 +66,8 @@ fn paint<W: Write + Drop>(output: W, text: &str, layout: Layout) -> io::Result<(
 }
 
 /// Prints on standard error what was kept until standard output was written.
-pub fn finish<R: Eprint>(rt: &R, diagnosed: &[u8]) {
-    if let Ok(line) = str::from_utf8(diagnosed) {
+pub fn finish<R: Eprint>(rt: &R, diagnosed: &OneLine) {
+    if let Ok(line) = str::from_utf8(diagnosed.as_slice()) {
         let _ = rt.eprint(line);
     }
 }

@@ -1,5 +1,5 @@
 -- What a command may be asked to do.
-use Rattle.std.specs.Prelude.{◌≡◌, ◌↔◌, ◌≤◌, ℕ, Option, None, Some, IfSome, IsSome, replicate, List}
+use Rattle.std.specs.Prelude.{◌≡◌, ◌↔◌, ◌≤◌, ℕ, Option, None, Some, IsSome, replicate, List}
 use Rattle.wsn_wire.specs.declared.endpoint.Role.{Role, TheVariants.{Client, Server}}
 use Rattle.wsn_command.specs.declared.job.How.{How, TheVariants.{ByPlan, BySize}}
 use Rattle.wsn_command.specs.declared.job.Job.{Job, TheVariants.{Judge, Frames, Normal, Redact, Plan, Recut, Payload, ShowStream, Closing, Show, RedactCapture}}
@@ -33,7 +33,3 @@ job_role (ShowStream role limits style) = Some role
 job_role (Closing limits format) = None
 job_role (Show limits style) = None
 job_role (RedactCapture limits) = None
-
--- The side of a capture that is read, if one is, is the stream that the job reads.
-abbrev pub IsOwnSide : {A : Type 0} → Job A → Option Role → Type 0
-IsOwnSide job side = IfSome side (λ role. job_role job ≡ Some role)

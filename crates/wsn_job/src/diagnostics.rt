@@ -4,15 +4,11 @@ ghost use Rattle.wsn_job.specs.Diagnostics.{IsDiagnosed, IsStopDiagnosed};
 ghost use Rattle.wsn_print.specs.FaultText.{stop_line, line_fault_line};
 ghost use Rattle.wsn_capture.specs.LineFaults.{fault_word};
 
-use arrayvec::ArrayVec;
 use std::io::Write;
 use wsn_capture::LineFault;
 use wsn_io::{Output, Stop};
 use wsn_print::{line_of_line_fault, line_of_stop, put_verdict};
 use wsn_rules::Verdict;
-
-/// A line to be written later, to standard error: a verdict or a fault.
-pub type OneLine = ArrayVec<u8, 128>;
 
 /// Writes a line to `errors`. What can't be written is dropped, and after a failed write nothing more is written.
 #[tactic(none)]

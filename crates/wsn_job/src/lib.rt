@@ -3,19 +3,15 @@
 //!
 //! [`run`] does a [`Job`], the work of a command that reads one input; [`run_same`] compares two inputs.
 //! [`run_on_side`] and [`run_same_on_sides`] do the same over one endpoint's side of a capture, and report a line that
-//! isn't accepted; [`run_named_closing`] judges one of several captures. [`run_in_blocks`], [`compare_in_blocks`] and
-//! [`run_closing_in_blocks`] do these over plain readers and writers, with buffers of their own. `specs/Work.antt` defines
-//! what a run does, from the definitions of the single commands beside it, and `specs/Sides.antt` what a run over a side
-//! does.
+//! isn't accepted; [`run_named_closing`] judges one of several captures. `specs/Work.antt` defines what a run does, from
+//! the definitions of the single commands beside it, and `specs/Sides.antt` what a run over a side does.
 //! [`status_examples`] has exit statuses that are computed from them.
 #![tactic(auto)]
 
 mod answers;
 mod comparisons;
-mod comparisons_in_blocks;
 mod diagnostics;
 mod done;
-mod jobs_in_blocks;
 pub mod laws;
 mod payloads;
 mod plans;
@@ -30,10 +26,7 @@ mod streams;
 mod verdicts;
 
 pub use comparisons::run_same;
-pub use comparisons_in_blocks::{ComparisonRun, SidedComparison, compare_in_blocks};
-pub use diagnostics::OneLine;
-pub use jobs_in_blocks::{SidedJob, run_in_blocks};
-pub use printed_closings::{NamedClosing, run_closing_in_blocks, run_named_closing};
+pub use printed_closings::{NamedClosing, run_named_closing};
 pub use running::run;
 pub use sides::{run_on_side, run_same_on_sides};
 pub use streams::ComparedStreams;

@@ -1,13 +1,13 @@
-ghost use Rattle.std.specs.Prelude.{◌≡◌, ◌⊎◌, IfSome, false, true};
+ghost use Rattle.std.specs.Prelude.{◌≡◌, ◌⊎◌, false, true};
 ghost use Rattle.std.specs.Str.{IsUtf8};
 ghost use Rattle.wsn_job.specs.Channels.{channels};
 ghost use Rattle.wsn_job.specs.Closings.{IsReportPrinted, IsNamedReportPrinted, IsNamedClosingRun, IsClosingDiagnosed, closing_status, closing_stop_line};
 ghost use Rattle.wsn_job.specs.Diagnostics.{IsDiagnosed};
 
-use crate::diagnostics::{OneLine, diagnose_line_fault, diagnose_stop};
+use crate::diagnostics::{diagnose_line_fault, diagnose_stop};
 use std::io::{Read, Write};
 use wsn_capture::{CaptureReport, CaptureStop, read_capture};
-use wsn_io::{BlockReader, Input, Output, Stop};
+use wsn_io::{Input, Output, Stop};
 use wsn_print::{Format, put_named_report, put_report_as, status_of_outcome};
 use wsn_scan::Limits;
 use wsn_show::ShowStop;
@@ -48,26 +48,6 @@ pub fn run_named_closing<R: Read, W: Write, E: Write>(
     let done = print_named_report(closing, input, output);
     diagnose_closing(done, errors);
     status(done)
-}
-
-/// Judges one of several captures as [`run_named_closing`] does, over a reader, which is read in blocks, and a writer, and
-/// puts what is to be said on standard error into the given line; `None` if a write failed.
-pub fn run_closing_in_blocks<R: Read + Drop, W: Write + Drop>(
-    closing: &NamedClosing<'_>,
-    input: R,
-    output: W,
-    diagnosed: &mut OneLine,
-) -> Option<u8>
-    ensures { IfSome result (λ status. (status ≡ 0) ⊎ (status ≡ 1) ⊎ (status ≡ 2)) }
-{
-    let mut printed = Output::new(output);
-    let status = run_named_closing(
-        closing,
-        &mut Input::new(BlockReader::new(input)),
-        &mut printed,
-        &mut Output::new(diagnosed),
-    );
-    (!printed.failed()).then_some(status)
 }
 
 /// Prints the report of the capture on the input, in one line with the name of its file.
