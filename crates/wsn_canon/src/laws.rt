@@ -11,7 +11,7 @@
 pub use wsn_events::laws::{
     law_normalising_twice, law_one_comparison, law_one_difference, law_one_normal_form,
 };
-pub use wsn_list::laws::law_one_listing;
+pub use wsn_parts::laws::law_one_listing;
 pub use wsn_plan::laws::{
     law_one_line_fault, law_one_plan, law_one_plan_of, law_one_recut, law_restored,
     law_same_meaning,

@@ -13,7 +13,7 @@
 //! [`judge_capture`] reports on both sides of a capture, and [`put_report`] writes the report; [`Capture`] does so with
 //! bytes as they come, and a [`SideReader`] reads one side of a capture as a stream. [`laws`] has the main laws.
 //!
-//! Everything here is re-exported from `wsn_scan`, `wsn_list`, `wsn_events`, `wsn_plan`, `wsn_capture` and the crates
+//! Everything here is re-exported from `wsn_scan`, `wsn_parts`, `wsn_events`, `wsn_plan`, `wsn_capture` and the crates
 //! below them.
 #![tactic(auto)]
 
@@ -26,7 +26,7 @@ pub use wsn_events::{
     Compared, Event, Next, Small, Source, control_of, is_lawful, normalise, put_event, same,
 };
 pub use wsn_io::{Input, Output};
-pub use wsn_list::{Format, list, list_as, put_verdict};
+pub use wsn_parts::{Format, list, list_as, put_verdict};
 pub use wsn_plan::{
     LineWhy, Plan, PlanAnswer, PlanFault, PlanFileFault, RecutAnswer, Step, UniformFrames, Why,
     plan_of, read_plan, read_plan_file, recut, recut_uniform, uniform, write_plan,

@@ -3,3 +3,4 @@ pub mod Runs
 pub mod SideRuns
 pub mod AnswerTexts
 pub mod LentRuns
+pub mod ComparedRuns

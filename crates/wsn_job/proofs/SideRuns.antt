@@ -12,7 +12,7 @@ use Rattle.wsn_print.specs.FaultText.{line_fault_line, stop_line}
 use Rattle.wsn_capture.specs.declared.line_fault.LineFault.{LineFault}
 use Rattle.wsn_capture.specs.LineFaults.{fault_word}
 use Rattle.wsn_scan.specs.Judging.{IsReached, IsJudged}
-use Rattle.wsn_list.specs.Listing.{IsListedAs}
+use Rattle.wsn_parts.specs.Listing.{IsListedAs}
 use Rattle.wsn_events.specs.Normalised.{IsNormalised}
 use Rattle.wsn_redact.specs.Redacting.{IsRedactedInput}
 use Rattle.wsn_print.specs.declared.style.Style.{Style}
@@ -35,9 +35,9 @@ use Rattle.wsn_job.specs.Answers.{ran_with, verdict_answer, plan_answer, recut_a
 use Rattle.wsn_job.specs.Diagnostics.{IsDiagnosed, IsStopDiagnosed, IsVerdictDiagnosed}
 use Rattle.wsn_job.specs.Redactions.{redact_status}
 use Rattle.wsn_job.specs.Plans.{IsPlanPrinted, IsPlanDiagnosed, plan_status}
-use Rattle.wsn_payload.specs.declared.answer.Payload.TheVariants.{Unfinished, Inside, Head, Nothing}
-use Rattle.wsn_payload.specs.declared.answer.Payload.{Payload as Taken}
-use Rattle.wsn_payload.specs.Payloads.{IsPayloadTaken}
+use Rattle.wsn_parts.specs.declared.answer.Payload.TheVariants.{Unfinished, Inside, Head, Nothing}
+use Rattle.wsn_parts.specs.declared.answer.Payload.{Payload as Taken}
+use Rattle.wsn_parts.specs.Payloads.{IsPayloadTaken}
 use Rattle.wsn_job.specs.Payloads.{IsPayloadDiagnosed, payload_status}
 use Rattle.wsn_job.specs.Recuts.{IsRecutDiagnosed, planned_by, recut_status}
 use Rattle.wsn_job.specs.Sides.{MayRunOnSide, IsFaultySide, IsRunOnSide}

@@ -5,7 +5,7 @@ use Rattle.wsn_io.specs.declared.stop.Stop.{Stop}
 use Rattle.wsn_print.specs.FaultText.{stop_line}
 use Rattle.wsn_print.specs.VerdictText.{verdict_line}
 use Rattle.wsn_print.specs.PayloadText.{inside_line, begun_head_line, nothing_line}
-use Rattle.wsn_payload.specs.declared.answer.Payload.{Payload, TheVariants.{Whole, Unfinished, Inside, Head, Nothing}}
+use Rattle.wsn_parts.specs.declared.answer.Payload.{Payload, TheVariants.{Whole, Unfinished, Inside, Head, Nothing}}
 use Rattle.wsn_job.specs.Diagnostics.{IsDiagnosed}
 
 -- the exit status: 0 if the event is complete, 1 if it isn't, 2 if none begins at the offset, and for a stop

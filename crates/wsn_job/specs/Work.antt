@@ -5,7 +5,7 @@ use Rattle.wsn_io.specs.declared.stop.Stop.TheVariants as stop
 use Rattle.wsn_print.specs.declared.style.Style.{Style}
 use Rattle.wsn_print.specs.FaultText.{stop_line}
 use Rattle.wsn_print.specs.Statuses.{verdict_status}
-use Rattle.wsn_list.specs.Listing.{IsListedAs}
+use Rattle.wsn_parts.specs.Listing.{IsListedAs}
 use Rattle.wsn_events.specs.Normalised.{IsNormalised}
 use Rattle.wsn_redact.specs.Redacting.{IsRedactedInput}
 use Rattle.wsn_redact.specs.RedactingCaptures.{IsRedactedCaptureInput}
@@ -22,7 +22,7 @@ use Rattle.wsn_job.specs.Redactions.{redact_status, IsRedactDiagnosed}
 use Rattle.wsn_job.specs.Plans.{IsPlanPrinted, IsPlanDiagnosed, plan_status}
 use Rattle.wsn_plan.specs.Recutting.{IsRecut}
 use Rattle.wsn_job.specs.Recuts.{IsRecutDiagnosed, planned_by, recut_status}
-use Rattle.wsn_payload.specs.Payloads.{IsPayloadTaken}
+use Rattle.wsn_parts.specs.Payloads.{IsPayloadTaken}
 use Rattle.wsn_job.specs.Payloads.{IsPayloadDiagnosed, payload_status}
 use Rattle.wsn_show.specs.Showing.{IsShown}
 use Rattle.wsn_show.specs.StreamShows.{IsStreamShown}

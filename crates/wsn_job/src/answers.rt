@@ -8,7 +8,7 @@ use wsn_capture::{CaptureReport, CaptureStop};
 use wsn_command::Answer;
 use wsn_events::Compared;
 use wsn_io::Stop;
-use wsn_payload::Payload;
+use wsn_parts::Payload;
 use wsn_plan::{PlanAnswer, RecutAnswer};
 use wsn_redact::RedactStop;
 use wsn_rules::Verdict;

@@ -6,7 +6,7 @@ use std::io::Write;
 use wsn_capture::CaptureReport;
 use wsn_command::{Answer, Ran};
 use wsn_io::{Output, Stop};
-use wsn_payload::Payload;
+use wsn_parts::Payload;
 use wsn_plan::{PlanAnswer, RecutAnswer};
 use wsn_print::status_of_verdict;
 use wsn_redact::RedactStop;

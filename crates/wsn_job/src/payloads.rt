@@ -4,7 +4,7 @@ ghost use Rattle.wsn_job.specs.Payloads.{IsPayloadDiagnosed, payload_status};
 use crate::diagnostics::{diagnose, diagnose_stop, diagnose_verdict};
 use std::io::Write;
 use wsn_io::{Output, Stop};
-use wsn_payload::Payload;
+use wsn_parts::Payload;
 use wsn_print::{line_of_begun_head, line_of_inside, line_of_nothing};
 
 /// Writes to `errors` what isn't in the payload: the verdict at which the event isn't complete, that nothing begins at

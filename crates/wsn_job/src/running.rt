@@ -14,8 +14,7 @@ use std::io::{Read, Write};
 use wsn_command::{Job, Ran};
 use wsn_events::normalise;
 use wsn_io::{Input, Output};
-use wsn_list::list_as;
-use wsn_payload::payload;
+use wsn_parts::{list_as, payload};
 use wsn_redact::{redact, redact_capture};
 
 /// Does a command's work and returns the program's exit status and the answer.

@@ -1,6 +1,5 @@
 -- What a line with one entry shows.
-use Rattle.std.proofs.Common.{◌≡◌, ℕ, ◌+◌, ◌≤◌, ◌<◌, ◌==◌, false, Option, Some, List, [], ◌∷◌, ◌++◌, length, flat_map, inl, inr, refl, sym, ap, ◌∙◌, subst, append-nil, arith}
-use Rattle.std.proofs.lemmas.Bool.{false≢true}
+use Rattle.std.proofs.Common.{◌≡◌, ℕ, ◌+◌, ◌≤◌, ◌<◌, Option, Some, List, [], ◌∷◌, ◌++◌, length, flat_map, inl, inr, refl, sym, ap, ◌∙◌, subst, append-nil, arith}
 use Rattle.std.proofs.lemmas.List.Concat.{flat_map-append}
 use Rattle.wsn_wire.specs.declared.endpoint.Role.{Role}
 use Rattle.wsn_wire.specs.declared.endpoint.Role.TheVariants.{Client, Server}
@@ -26,11 +25,6 @@ use Rattle.wsn_show.specs.declared.capture_view.CaptureView.{CaptureView}
 use Rattle.wsn_show.specs.declared.stream_view.StreamView.{StreamView}
 use Rattle.wsn_show.specs.ShownSoFar.{HasViewed}
 use Rattle.wsn_show.specs.CaptureViews.{AreViewed, IsAcceptedText, CanShow, line_position, ShowsText, ShowsMark}
-
--- ---- empty texts
-
-pub some_text : (bs : List ℕ) → (length bs == 0) ≡ false → bs ≡ [] → ⊥
-some_text bs some is = false≢true (sym (subst (λ (xs : List ℕ). (length xs == 0) ≡ false) is some))
 
 -- ---- what a stream's view does
 

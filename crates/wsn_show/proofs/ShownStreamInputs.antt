@@ -25,7 +25,7 @@ use Rattle.wsn_print.specs.ShownParts.EntryPosition.{InStream}
 use Rattle.wsn_scan.specs.declared.chunk_reader.ChunkReader.{ChunkReader}
 use Rattle.wsn_scan.specs.ChunkReaders.{HasCome, IsEndOf, IsHaltOf}
 use Rattle.wsn_scan.specs.Judging.{chunk_size, IsReached}
-use Rattle.wsn_list.specs.Listing.{IsEnded, IsListAnswer, IsReadUpToRefusal}
+use Rattle.wsn_parts.specs.Listing.{IsEnded, IsListAnswer, IsReadUpToRefusal}
 use Rattle.wsn_scan.proofs.ChunksSoFar.{received, within_limit}
 use Rattle.wsn_scan.proofs.JudgedInputs.{stopped_unrefused}
 use Rattle.wsn_scan.proofs.Unrefused.{place_after}

@@ -21,7 +21,7 @@ use Rattle.wsn_print.specs.ShownParts.{EntryPosition}
 use Rattle.wsn_print.specs.ShownParts.EntryPosition.{InLine}
 use Rattle.wsn_show.specs.ShownSoFar.{HasViewed}
 use Rattle.wsn_show.specs.declared.capture_view.CaptureView.{CaptureView}
-use Rattle.wsn_list.specs.Listing.{PrintsMore}
+use Rattle.wsn_parts.specs.Listing.{PrintsMore}
 
 -- ---- lines that were shown
 

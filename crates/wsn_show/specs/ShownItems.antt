@@ -14,7 +14,7 @@ use Rattle.wsn_shown_text.specs.declared.items.ShownItem.{ShownItem}
 use Rattle.wsn_shown_text.specs.declared.items.ShownItem.TheVariants as shown
 use Rattle.wsn_show.specs.Styles.{styled_items}
 use Rattle.wsn_show.specs.declared.entry_context.EntryContext.{EntryContext}
-use Rattle.wsn_list.specs.Listing.{PrintsMore}
+use Rattle.wsn_parts.specs.Listing.{PrintsMore}
 
 -- Where each entry is.
 abbrev pub position_in : EntryContext → EntryPosition

@@ -11,7 +11,7 @@ use Rattle.wsn_rules.specs.Verdict.{IsVerdict}
 use Rattle.wsn_rules.specs.ShownStream.{Item, Shown, IsShownStream, IsLeftOver}
 use Rattle.wsn_print.specs.ShownParts.EntryPosition.{InStream}
 use Rattle.wsn_scan.specs.Judging.{chunk_size}
-use Rattle.wsn_list.specs.Listing.{IsListAnswer}
+use Rattle.wsn_parts.specs.Listing.{IsListAnswer}
 use Rattle.wsn_print.specs.declared.style.Style.{Style}
 use Rattle.wsn_show.specs.Styles.{styled_items, styled_verdict}
 use Rattle.wsn_show.specs.ShownSoFar.{items_in}

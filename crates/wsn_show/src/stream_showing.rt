@@ -3,7 +3,7 @@ ghost use Rattle.wsn_io.specs.Transfer.{Outgoing, IsWritten};
 ghost use Rattle.wsn_wire.specs.declared.endpoint.Role.{Role};
 ghost use Rattle.wsn_rules.specs.Limits.{Limits};
 ghost use Rattle.wsn_rules.specs.Verdict.{IsUnrefused};
-ghost use Rattle.wsn_list.specs.Listing.{IsEnded};
+ghost use Rattle.wsn_parts.specs.Listing.{IsEnded};
 ghost use Rattle.wsn_show.specs.ShownSoFar.{HasViewed};
 ghost use Rattle.wsn_print.specs.declared.style.Style.{Style};
 ghost use Rattle.wsn_show.specs.StreamShows.{IsItemText, IsStreamShown, EndsStream};

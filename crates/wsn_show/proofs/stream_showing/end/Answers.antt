@@ -1,6 +1,6 @@
 use Rattle.std.proofs.Common.{◌∙◌, [], inl, subst, rules}
 use Rattle.std.proofs.KnownBytes.{Appends-nil}
-use Rattle.wsn_list.specs.Listing.{IsEnded}
+use Rattle.wsn_parts.specs.Listing.{IsEnded}
 use Rattle.wsn_print.specs.declared.style.Style.{Style}
 use Rattle.wsn_show.proofs.ShownStreamInputs.{left_unwritten, ends}
 use Rattle.wsn_show.proofs.stream_showing.end.Goals as goal

@@ -4,7 +4,7 @@ use Rattle.wsn_io.specs.declared.stop.Stop.{Stop}
 use Rattle.wsn_rules.specs.declared.verdict.Verdict.{Verdict}
 use Rattle.wsn_rules.specs.Verdict.{IsVerdict}
 use Rattle.wsn_print.specs.declared.style.Style.{Style}
-use Rattle.wsn_list.specs.Listing.{IsEnded}
+use Rattle.wsn_parts.specs.Listing.{IsEnded}
 use Rattle.wsn_scan.proofs.ChunksSoFar.{next_chunk, next_end, same_size, short_chunk}
 use Rattle.wsn_show.specs.StreamShows.{IsStreamShown}
 use Rattle.wsn_show.proofs.ShownStreamInputs.{begins, stopped, ended, write_failed, refuses, goes_on}

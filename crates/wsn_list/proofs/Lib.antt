@@ -1,4 +1,0 @@
-pub mod ListedInputs
-pub mod ListedParts
-pub mod OneListing
-pub mod Printing

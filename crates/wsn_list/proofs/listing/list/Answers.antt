@@ -1,5 +1,0 @@
-use Rattle.std.proofs.Common.{rules}
-use Rattle.wsn_list.proofs.listing.list.Goals as goal
-
-pub returns-clause-listed : goal.returns-clause-listed
-returns-clause-listed g c = search rules

@@ -1,5 +1,0 @@
-use Rattle.std.proofs.Common.{refl, arith}
-use Rattle.wsn_payload.proofs.event_at.EventAt.new.Goals as goal
-
-pub returns : goal.returns
-returns c = record { sought = refl; frame = (λ some. absurd (some refl), refl); next = refl; begun = (omega arith, refl) }

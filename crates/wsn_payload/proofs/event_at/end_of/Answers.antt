@@ -1,5 +1,0 @@
-use Rattle.std.proofs.Common.{rules}
-use Rattle.wsn_payload.proofs.event_at.end_of.Goals as goal
-
-pub returns : goal.returns
-returns c = search rules
